@@ -1,0 +1,60 @@
+-- The number that document 01, "Numbers of refusal", gives each refusal.
+use Prim.Native.Nat.{ℕ, _-_}
+use mathlib.Core.List.{List, [], _∷_}
+use lib.ListN.{getD}
+use mathlib.Core.Path.{_≡_, refl, sym, _∙_, ap}
+use Rattle.fields.specs.declared.Refusal.{Refusal}
+use Rattle.fields.specs.declared.Refusal.the-variants.{TableLength, GlyphCount, Version, Outside, BadLookup, BadCluster, BadMachine, BadActions, UnequalLengths, LongLine, PointSize, Advances, UnknownGlyph, EndlessWalk, StageTotal, ShortRoom, NotSheet}
+
+abbrev pub numberOf : Refusal → ℕ
+numberOf TableLength = 1
+numberOf GlyphCount = 2
+numberOf Version = 3
+numberOf Outside = 4
+numberOf BadLookup = 5
+numberOf BadCluster = 6
+numberOf BadMachine = 7
+numberOf BadActions = 8
+numberOf UnequalLengths = 9
+numberOf LongLine = 10
+numberOf PointSize = 11
+numberOf Advances = 12
+numberOf UnknownGlyph = 13
+numberOf EndlessWalk = 14
+numberOf StageTotal = 15
+numberOf ShortRoom = 16
+numberOf NotSheet = 17
+
+-- the refusals in the order of their numbers
+inOrder : List Refusal
+inOrder =
+    TableLength ∷ GlyphCount ∷ Version ∷ Outside ∷ BadLookup ∷ BadCluster ∷ BadMachine ∷ BadActions ∷ UnequalLengths ∷ LongLine
+    ∷ PointSize ∷ Advances ∷ UnknownGlyph ∷ EndlessWalk ∷ StageTotal ∷ ShortRoom ∷ NotSheet ∷ []
+
+withNumber : ℕ → Refusal
+unfolding inOrder
+withNumber n = getD inOrder (n - 1) NotSheet
+
+withNumber-of : (r : Refusal) → withNumber (numberOf r) ≡ r
+unfolding inOrder withNumber
+withNumber-of TableLength = refl
+withNumber-of GlyphCount = refl
+withNumber-of Version = refl
+withNumber-of Outside = refl
+withNumber-of BadLookup = refl
+withNumber-of BadCluster = refl
+withNumber-of BadMachine = refl
+withNumber-of BadActions = refl
+withNumber-of UnequalLengths = refl
+withNumber-of LongLine = refl
+withNumber-of PointSize = refl
+withNumber-of Advances = refl
+withNumber-of UnknownGlyph = refl
+withNumber-of EndlessWalk = refl
+withNumber-of StageTotal = refl
+withNumber-of ShortRoom = refl
+withNumber-of NotSheet = refl
+
+-- no two refusals have one number
+pub one-number : (r s : Refusal) → numberOf r ≡ numberOf s → r ≡ s
+one-number r s e = sym (withNumber-of r) ∙ ap withNumber e ∙ withNumber-of s

@@ -1,0 +1,3 @@
+pub mod Laws
+pub mod Rounding
+pub mod FlagLaws
