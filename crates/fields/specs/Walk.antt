@@ -47,3 +47,14 @@ walk-within one size next m in-m (suc n) at least e h =
     let here : at + size ≤ m = in-m at least (then-first _ _ e) in
     let rest : at + size + size * n ≤ m + size = walk-within one size next m in-m n (at + size) (next at) (then-second _ _ e) (omega arith) in
     omega arith
+
+-- each thing of a clear walk is clear; the i-th of things of `size` bytes stands at at + size × i
+pub walk-each : (one : ℕ → ℕ → Fault) (size : ℕ) (next : ℕ → ℕ) (n at least : ℕ) → walk one (λ p. p + size) next n at least ≡ Clear
+    → (i : ℕ) → i < n → (l : ℕ) × (one (at + size * i) l ≡ Clear)
+unfolding walk
+walk-each one size next zero at least e i h = absurd (omega arith)
+walk-each one size next (suc n) at least e zero h = let p : at + size * 0 ≡ at = omega arith in (least, rw p (then-first _ _ e))
+walk-each one size next (suc n) at least e (suc i) h =
+    let r = walk-each one size next n (at + size) (next at) (then-second _ _ e) i (omega arith) in
+    let p : at + size * suc i ≡ at + size + size * i = omega arith in
+    (r .0, rw p (r .1))

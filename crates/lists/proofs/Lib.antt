@@ -1,0 +1,9 @@
+pub mod ListLaws
+pub mod RunsLaws
+pub mod DistinctLaws
+pub mod CodeLaws
+pub mod ReadLaws
+pub mod SectionLaws
+pub mod NumberedLaws
+pub mod PoolReadLaws
+pub mod UptoLaws

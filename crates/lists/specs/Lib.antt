@@ -1,0 +1,5 @@
+pub mod Runs
+pub mod Distinct
+pub mod Codes
+pub mod Sections
+pub mod Upto
