@@ -10,7 +10,7 @@ use Rattle.fields.specs.Field.{be16, be32, u16At, u32At, Bytes}
 use Rattle.fields.specs.Laws.{u16At-fits}
 use Rattle.lists.specs.Codes.{All, many, counted, PrefixFree}
 
-pub be16-free : PrefixFree be16 (λ n. n < 65536)
+pub be16-free : PrefixFree be16 (λ n. n < 2 ^ 16)
 be16-free a b s t ha hb e =
     let h1 : a / 256 % 256 ≡ b / 256 % 256 = head-eq-of-cons-eq e in
     let e1 = tail-eq-of-cons-eq e in

@@ -1,4 +1,4 @@
--- `distinct` and `numbers` against `elements`, `InOrder` and `Once`.
+-- `distinct` and `numbers` are undone by `elements`; what they give for some list is exactly what is `Once` and `InOrder`.
 use Prim.Native.Nat.{ℕ, zero, suc, _+_, _≤_, _<_, min}
 use mathlib.Core.Path.{_≡_, refl, sym, ap, ap₂, _∙_, subst}
 use mathlib.Core.Logic.{ite, if-pos, if-neg}

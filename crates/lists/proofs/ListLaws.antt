@@ -1,8 +1,9 @@
 -- Laws of lists by their elements: what holds of each element, and lists that have the same elements.
 use Prim.Native.Nat.{ℕ, zero, suc, _≤_, _<_}
-use mathlib.Core.Path.{_≡_, refl, ap₂}
+use mathlib.Core.Path.{_≡_, refl, sym, ap₂, _∙_}
 use mathlib.Core.Option.{none, Option·some-injective, Option·none-ne-some, Option·some-ne-none}
 use mathlib.Core.List.{List, [], _∷_, _++_}
+use native.Mathlib.Decide.{decLt}
 use native.Mathlib.Omega.{arith}
 use lib.ListN.{length, getD, drop, replicate, getElem?}
 use Rattle.lists.specs.Codes.{All}
@@ -51,3 +52,12 @@ elem-ext [] (y ∷ ys) h = absurd (Option·none-ne-some y (h 0))
 elem-ext (x ∷ xs) [] h = absurd (Option·some-ne-none x (h 0))
 elem-ext (x ∷ xs) (y ∷ ys) h =
     ap₂ (λ (a : _) (l : List _). a ∷ l) (Option·some-injective x y (h 0)) (elem-ext xs ys (λ k. h (suc k)))
+
+-- and so are lists of at most b elements with the same elements below b
+pub elem-ext-below : {A : Type 0} (b : ℕ) (xs ys : List A) → length xs ≤ b → length ys ≤ b
+    → ((k : ℕ) → k < b → getElem? xs k ≡ getElem? ys k) → xs ≡ ys
+elem-ext-below b xs ys hx hy h = elem-ext xs ys (λ k. go k (decLt k b))
+  where
+    go : (k : ℕ) → Dec (k < b) → getElem? xs k ≡ getElem? ys k
+    go k (yes l) = h k l
+    go k (no l) = elem-none xs k (omega (arith, l)) ∙ sym (elem-none ys k (omega (arith, l)))

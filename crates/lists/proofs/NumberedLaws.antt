@@ -1,4 +1,4 @@
--- A numbered is read as two codes: its distinct elements, and its numbers.
+-- A list written as `numbered` is read as two sections: its distinct elements, and a number for each place in order of first use.
 use Prim.Native.Nat.{ℕ, suc, _≤_}
 use mathlib.Core.Path.{_≡_, sym, ap, ap₂, _∙_, subst}
 use mathlib.Core.Logic.{ite}
@@ -13,7 +13,7 @@ use Rattle.lists.proofs.DistinctLaws.{in-order-lt, canonical→, elemen
 use Rattle.lists.proofs.SectionLaws.{all-distinct, numbers-length}
 
 module _ {A : Type 0} (eq : Discrete A) (code : A → List ℕ) (P : A → Type 0) (z : A) (total limit : ℕ) where
-  -- the distinct elements and the numbers of a numbered of so many elements, each of which is P, and at most limit distinct ones
+  -- the distinct elements and the numbers of a list of so many elements, each of which is P, and at most limit distinct ones
   abbrev pub OkDistinct : List A → Type 0
   OkDistinct ds = Once eq ds × All P ds × (length ds ≤ limit)
 

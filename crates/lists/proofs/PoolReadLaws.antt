@@ -1,4 +1,5 @@
--- A pool is read as two codes: its distinct elements, and runs of numbers. The order of first use is judged on the runs' values.
+-- A list written as `pool` is read as two sections: its distinct elements, and runs of their numbers. The order of first use is judged on the
+-- runs' values.
 use Prim.Native.Nat.{ℕ, zero, suc, _-_, _≤_, _<_}
 use mathlib.Core.Path.{_≡_, sym, ap, ap₂, _∙_, subst}
 use mathlib.Core.Logic.{ite, if-neg}

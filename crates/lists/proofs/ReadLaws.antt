@@ -1,4 +1,5 @@
--- Reading: a counted section of items of one size; one code after another.
+-- What a reader of sections needs: items of one size that stand one after the other, a counted section of them that is found or absent, and
+-- one code after another. Whatever is refused is absent because codes are prefix free.
 use Prim.Native.Nat.{ℕ, zero, suc, _+_, _*_, _≤_, _<_, _^_}
 use mathlib.Core.Path.{_≡_, refl, sym, ap, ap₂, _∙_, subst}
 use mathlib.Core.List.{List, [], _∷_, _++_, append-assoc}

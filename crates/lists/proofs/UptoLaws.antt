@@ -4,7 +4,7 @@ use mathlib.Core.Path.{_≡_, refl, ap, sym, _∙_, subst}
 use mathlib.Core.Option.{Option, none, some}
 use mathlib.Core.List.{List, [], _∷_}
 use native.Mathlib.Omega.{arith}
-use lib.ListN.{length, getD, getElem?, replicate}
+use lib.ListN.{length, getD, getElem?}
 use Rattle.lists.specs.Codes.{All}
 use Rattle.lists.specs.Upto.{from, upto}
 
@@ -48,7 +48,3 @@ module _ {A : Type 0} (f : ℕ → A) where
 
   pub all-upto : (P : A → Type 0) (n : ℕ) → ((k : ℕ) → k < n → P (f k)) → All P (upto f n)
   all-upto P n h = all-from P n 0 (λ k a b. h k (omega arith))
-
-pub all-replicate : {A : Type 0} (P : A → Type 0) (n : ℕ) (x : A) → P x → All P (replicate n x)
-all-replicate P zero x h = tt
-all-replicate P (suc n) x h = (h, all-replicate P n x h)

@@ -15,10 +15,10 @@ byte x = x ∷ []
 
 -- a run: first, last and value, 16 bits each; and the same with the value less one
 abbrev pub runCode : Run ℕ → List ℕ
-runCode r = be16 (r .first) ++ (be16 (r .last) ++ be16 (r .value))
+runCode r = be16 (r .first) ++ be16 (r .last) ++ be16 (r .value)
 
 abbrev pub runLessCode : Run ℕ → List ℕ
-runLessCode r = be16 (r .first) ++ (be16 (r .last) ++ be16 (r .value - 1))
+runLessCode r = be16 (r .first) ++ be16 (r .last) ++ be16 (r .value - 1)
 
 -- the section of the maximal runs of a value other than skip
 abbrev pub runSection : ℕ → List ℕ → List ℕ
