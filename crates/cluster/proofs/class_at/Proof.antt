@@ -1,0 +1,20 @@
+use Rattle.cluster.specs.Faults.{classAt}
+use Prim.Native.Nat.{ℕ, _%_}
+use mathlib.Core.Path.{ap}
+use native.Mathlib.Omega.{arith}
+use borrow.Author.Needs.{needs}
+use Rattle.cluster.proofs.class_at.Statement.{statement}
+use Rattle.cluster.proofs.class_at.Tie as tie
+
+u32-at-requires : tie.Need-u32-at-requires
+u32-at-requires c κs = search needs
+
+cast-result : tie.Need-cast-result
+cast-result c = search needs
+
+returns : tie.Need-returns
+unfolding classAt
+returns c = (ap (λ (x : ℕ). x % 128) (c .u32-at .ensures .0), omega arith)
+
+pub class-at-spec : {M : Type 1} → statement M
+class-at-spec = tie.close (tie.spec u32-at-requires cast-result returns)

@@ -1,0 +1,213 @@
+// A width cluster (document 01, "The table"): a 32-bit count, 1 to 128, then pairs of 24 bytes: class, before grow,
+// before shrink, after grow, after shrink, grow flags, shrink flags. Here: its first fault, and what is read from it.
+ghost use mathlib.Core.Path.{_≡_};
+ghost use Prim.Native.Nat.{ℕ, _+_, _*_, _<_, _^_};
+ghost use Rattle.fields.specs.Field.{u16At, u32At};
+ghost use Rattle.units.specs.Fixed.{fixedSize};
+ghost use Rattle.units.specs.Flags.{keptFlags};
+ghost use Rattle.meaning.specs.Ask.{recordOf};
+ghost use Rattle.cluster.specs.Faults.{classAt, classFault, growFault, shrinkFault, flagsFault, pairFault, pairsFault, clusterFault};
+ghost use Rattle.cluster.specs.Pairs.{pairAt, pairsAt, clusterAt, soughtPair};
+use fields::Fault;
+use fields::Refusal;
+use parts::Flags;
+use parts::Limits;
+use parts::Pair;
+
+// The width record of a class, or nothing.
+pub enum Sought {
+    Record(Pair),
+    Nothing,
+}
+
+// A pair's class: the low 7 bits of its field.
+fn class_at(table: &[u8], at: usize) -> u32
+    ensures { λ r. ⌜ (r ≡ classAt (now (table .entry)) at) × (r < 128) ⌝ }
+{
+    (fields::u32_at(table, at) % 128) as u32
+}
+
+// A Fixed as its field has it.
+fn fixed_at(table: &[u8], at: usize) -> u32
+    ensures { λ r. ⌜ r ≡ u32At (now (table .entry)) at ⌝ }
+{
+    fields::u32_at(table, at) as u32
+}
+
+// A Fixed without its sign.
+fn size_at(table: &[u8], at: usize) -> u32
+    ensures { λ r. ⌜ r ≡ fixedSize (u32At (now (table .entry)) at) ⌝ }
+{
+    units::fixed_size(fixed_at(table, at))
+}
+
+// Grow or shrink flags as their field has them.
+fn flags_at(table: &[u8], at: usize) -> u16
+    ensures { λ r. ⌜ r ≡ u16At (now (table .entry)) at ⌝ }
+{
+    fields::u16_at(table, at) as u16
+}
+
+// The same with the ignored bits zero.
+fn kept_at(table: &[u8], at: usize) -> u16
+    ensures { λ r. ⌜ r ≡ keptFlags (u16At (now (table .entry)) at) ⌝ }
+{
+    units::kept_flags(flags_at(table, at))
+}
+
+fn class_fault(table: &[u8], at: usize, least: u32) -> Fault
+    ensures { λ r. ⌜ r ≡ classFault (now (table .entry)) at least ⌝ }
+{
+    let inside = fields::in_table(table, at, 4);
+    let class = class_at(table, at);
+    fields::then(
+        inside,
+        fields::ruled(least <= class, Refusal::BadCluster, at),
+    )
+}
+
+fn grow_fault(table: &[u8], at: usize) -> Fault
+    ensures { λ r. ⌜ r ≡ growFault (now (table .entry)) at ⌝ }
+{
+    let inside = fields::in_table(table, at, 4);
+    let limit = fixed_at(table, at);
+    fields::then(
+        inside,
+        fields::ruled(limit <= 1048576, Refusal::BadCluster, at),
+    )
+}
+
+fn shrink_fault(table: &[u8], at: usize) -> Fault
+    ensures { λ r. ⌜ r ≡ shrinkFault (now (table .entry)) at ⌝ }
+{
+    let inside = fields::in_table(table, at, 4);
+    let limit = size_at(table, at);
+    fields::then(
+        inside,
+        fields::ruled(limit <= 1048576, Refusal::BadCluster, at),
+    )
+}
+
+fn flags_fault(table: &[u8], at: usize) -> Fault
+    ensures { λ r. ⌜ r ≡ flagsFault (now (table .entry)) at ⌝ }
+{
+    let inside = fields::in_table(table, at, 2);
+    let priority = units::priority(flags_at(table, at));
+    fields::then(
+        inside,
+        fields::ruled(priority <= 3, Refusal::BadCluster, at),
+    )
+}
+
+// The first fault of the pair at `at`, whose class must be `least` or more.
+fn pair_fault(table: &[u8], at: usize, least: u32) -> Fault
+    ensures { λ r. ⌜ r ≡ pairFault (now (table .entry)) at least ⌝ }
+{
+    if table.len() < at {
+        return Fault::Bad {
+            refusal: Refusal::Outside,
+            at,
+        };
+    }
+    let class = class_fault(table, at, least);
+    let before_grow = grow_fault(table, at + 4);
+    let before_shrink = shrink_fault(table, at + 8);
+    let after_grow = grow_fault(table, at + 12);
+    let after_shrink = shrink_fault(table, at + 16);
+    let grow_flags = flags_fault(table, at + 20);
+    let shrink_flags = flags_fault(table, at + 22);
+    let flags = fields::then(grow_flags, shrink_flags);
+    let after = fields::then(after_grow, fields::then(after_shrink, flags));
+    let before = fields::then(before_grow, fields::then(before_shrink, after));
+    fields::then(class, before)
+}
+
+// The first fault of `count` pairs from `first` on.
+fn pairs_fault(table: &[u8], first: usize, count: usize) -> Fault
+    ensures { λ r. ⌜ r ≡ pairsFault (now (table .entry)) count first 0 ⌝ }
+{
+    let mut at = first;
+    let mut least: u32 = 0;
+    let mut left = count;
+    while 0 < left {
+        let fault = pair_fault(table, at, least);
+        if let Fault::Bad { refusal: _, at: _ } = fault {
+            return fault;
+        }
+        least = class_at(table, at) + 1;
+        at += 24;
+        left -= 1;
+    }
+    Fault::Clear
+}
+
+// The first fault of the cluster at `at`.
+pub fn cluster_fault(table: &[u8], at: usize) -> Fault
+    ensures { λ r. ⌜ r ≡ clusterFault (now (table .entry)) at ⌝ }
+{
+    let inside = fields::in_table(table, at, 4);
+    if let Fault::Bad { refusal: _, at: _ } = inside {
+        return inside;
+    }
+    let count = fields::u32_at(table, at);
+    if count < 1 {
+        return Fault::Bad {
+            refusal: Refusal::BadCluster,
+            at,
+        };
+    }
+    if 128 < count {
+        return Fault::Bad {
+            refusal: Refusal::BadCluster,
+            at,
+        };
+    }
+    pairs_fault(table, at + 4, count)
+}
+
+// The pair at a position.
+pub fn pair_at(table: &[u8], at: usize) -> Pair
+    requires { ⌜ at < 2 ^ 62 ⌝ }
+    ensures { λ r. ⌜ r ≡ pairAt (now (table .entry)) at ⌝ }
+{
+    Pair {
+        class: class_at(table, at),
+        before: Limits {
+            grow: fixed_at(table, at + 4),
+            shrink: size_at(table, at + 8),
+        },
+        after: Limits {
+            grow: fixed_at(table, at + 12),
+            shrink: size_at(table, at + 16),
+        },
+        flags: Flags {
+            grow: kept_at(table, at + 20),
+            shrink: kept_at(table, at + 22),
+        },
+    }
+}
+
+// The first of `count` pairs from `first` on that has the class.
+fn record_from(table: &[u8], first: usize, count: usize, class: u8) -> Sought
+    requires { ⌜ first + 24 * count < 2 ^ 62 ⌝ }
+    ensures { λ r. ⌜ soughtPair r ≡ recordOf class (pairsAt (now (table .entry)) count first) ⌝ }
+{
+    let mut at = first;
+    let mut left = count;
+    while 0 < left {
+        if class_at(table, at) == class as u32 {
+            return Sought::Record(pair_at(table, at));
+        }
+        at += 24;
+        left -= 1;
+    }
+    Sought::Nothing
+}
+
+// The record of a class in the cluster at `at`.
+pub fn record_of(table: &[u8], at: usize, class: u8) -> Sought
+    requires { ⌜ at < 2 ^ 40 ⌝ }
+    ensures { λ r. ⌜ soughtPair r ≡ recordOf class (clusterAt (now (table .entry)) at) ⌝ }
+{
+    record_from(table, at + 4, fields::u32_at(table, at), class)
+}

@@ -1,0 +1,142 @@
+-- One step of the loops over a row's cells and over the rows, and what is known of what is clear.
+use Prim.Native.Nat.{ℕ, zero, suc, _+_, _-_, _*_, _≤_, _<_, _^_, max}
+use mathlib.Core.Path.{_≡_, refl, _∙_, ap, ap₂}
+use mathlib.Core.List.{List}
+use native.Mathlib.Omega.{arith}
+use native.Mathlib.Nat.{mul-le-mul}
+use lib.ListN.{length, getD}
+use borrow.Author.Tests.{leb-true, le-leb, lt-leb, lt-ltb, le-ltb}
+use Rattle.fields.specs.declared.Refusal.{Refusal}
+use Rattle.fields.specs.declared.Refusal.the-variants.{BadMachine}
+use Rattle.fields.specs.declared.Fault.{Fault}
+use Rattle.fields.specs.declared.Fault.the-variants.{Clear, Bad}
+use Rattle.fields.specs.Field.{u16At}
+use Rattle.fields.specs.Faults.{_then_}
+use Rattle.fields.specs.Laws.{then-first, then-second, then-go, inside-holds, rule-holds}
+use Rattle.fields.specs.Walk.{walk, walk-stop, walk-next, walk-none}
+use Rattle.machine.specs.declared.Scan.the-variants.{Broken, Count}
+use Rattle.machine.specs.Cells.{classCount, classTable, classAt, cellAt}
+use Rattle.machine.specs.Rows.{entryFault, cellFault, cellsFault, rowFault, raised, raisedBy, faultFrom, countFrom, unless, faultOf, countOf}
+use Rattle.machine.specs.Machine.{classFault}
+
+-- ---- a fault, or else a number
+
+pub unless-bad : {f : Fault} (k : ℕ) {r : Refusal} {p : ℕ} → f ≡ Bad r p → unless f k ≡ Broken f
+unfolding unless
+unless-bad {f} k e = cc
+
+pub unless-clear : {f : Fault} (k : ℕ) → f ≡ Clear → unless f k ≡ Count k
+unfolding unless
+unless-clear {f} k e = cc
+
+pub unless-fault : (f : Fault) (k : ℕ) → faultOf (unless f k) ≡ f
+unfolding unless
+unless-fault Clear k = refl
+unless-fault (Bad r p) k = refl
+
+-- what a number, or a fault, says of the fault before it
+unless-count : (f : Fault) (k : ℕ) {j : ℕ} → unless f k ≡ Count j → (f ≡ Clear) × (k ≡ j)
+unfolding unless
+unless-count Clear k e = (refl, cc)
+unless-count (Bad r p) k e = let z : _≡_ {A = ℕ} 0 1 = cc in absurd (omega arith)
+
+unless-broken : (f g : Fault) (k j : ℕ) {h : Fault} → unless f k ≡ Broken h → unless (f then g) j ≡ unless f k
+unfolding _then_ unless
+unless-broken Clear g k j e = let z : _≡_ {A = ℕ} 0 1 = cc in absurd (omega arith)
+unless-broken (Bad r p) g k j e = refl
+
+-- ---- the cells of a row
+
+down : (n : ℕ) → suc n - 1 ≡ n
+down n = omega arith
+
+pub cell-few : (t : List ℕ) (here row class : ℕ) → cellFault t here row class ≡ Clear → cellAt t here row class .row ≤ 255
+unfolding cellFault entryFault cellAt
+cell-few t here row class e = leb-true _ _ (rule-holds _ BadMachine _ (then-first _ _ (then-second _ _ (then-second _ _ (then-second _ _ (then-second _ _ e))))))
+
+module _ (t : List ℕ) (here row : ℕ) where
+  -- `k` is the row count as the code has it
+  raised-next : (n class s k : ℕ) → 0 < n → k ≡ max s (cellAt t here row class .row + 1)
+      → raised t here row n class s ≡ raised t here row (n - 1) (class + 1) k
+  unfolding raised
+  raised-next zero class s k h q = absurd (omega arith)
+  raised-next (suc n) class s k h q = simp (down n, q)
+
+  raised-none : (n class s : ℕ) → n ≤ 0 → raised t here row n class s ≡ s
+  unfolding raised
+  raised-none zero class s h = refl
+  raised-none (suc n) class s h = absurd (omega arith)
+
+  pub cells-stop : (n class s : ℕ) {r : Refusal} {p : ℕ} → 0 < n → cellFault t here row class ≡ Bad r p
+      → unless (cellsFault t here row n class) (raised t here row n class s) ≡ Broken (cellFault t here row class)
+  cells-stop n class s h e =
+      let q : cellsFault t here row n class ≡ cellFault t here row class = walk-stop _ _ _ n class 0 h e in
+      unless-bad _ (q ∙ e) ∙ ap Broken q
+
+  pub cells-next : (n class s k : ℕ) → 0 < n → cellFault t here row class ≡ Clear → k ≡ max s (cellAt t here row class .row + 1)
+      → unless (cellsFault t here row n class) (raised t here row n class s)
+      ≡ unless (cellsFault t here row (n - 1) (class + 1)) (raised t here row (n - 1) (class + 1) k)
+  cells-next n class s k h e q = ap₂ unless (walk-next _ _ _ n class 0 (class + 1) 0 h e refl refl) (raised-next n class s k h q)
+
+  pub cells-none : (n class s : ℕ) → n ≤ 0 → unless (cellsFault t here row n class) (raised t here row n class s) ≡ Count s
+  cells-none n class s h = unless-clear _ (walk-none _ _ _ n class 0 h) ∙ ap Count (raised-none n class s h)
+
+  pub raised-within : (n class s : ℕ) → s ≤ 256 → cellsFault t here row n class ≡ Clear → raised t here row n class s ≤ 256
+  unfolding raised walk
+  raised-within zero class s h e = h
+  raised-within (suc n) class s h e =
+      let few : cellAt t here row class .row ≤ 255 = cell-few t here row class (then-first _ _ e) in
+      raised-within n (class + 1) (max s (cellAt t here row class .row + 1)) (omega arith) (then-second _ _ e)
+
+-- ---- the rows
+
+module _ (t : List ℕ) (here : ℕ) where
+  pub rows-stop : (n row s : ℕ) {f : Fault} → 0 < n → row < s → unless (rowFault t here row) (raisedBy t here row s) ≡ Broken f
+      → unless (faultFrom t here n row s) (countFrom t here n row s) ≡ unless (rowFault t here row) (raisedBy t here row s)
+  unfolding faultFrom countFrom
+  rows-stop zero row s h l e = absurd (omega arith)
+  rows-stop (suc n) row s h l e = rw (lt-ltb row s l) (unless-broken _ _ _ _ e)
+
+  -- `k` and `m` are the row count and the rows left as the code has them
+  pub rows-next : (n row s k j m : ℕ) → row < s → unless (rowFault t here row) (raisedBy t here row s) ≡ Count j → k ≡ countOf (Count j) → n ≡ suc m
+      → unless (faultFrom t here n row s) (countFrom t here n row s) ≡ unless (faultFrom t here m (row + 1) k) (countFrom t here m (row + 1) k)
+  unfolding faultFrom countFrom
+  rows-next n row s k j m l e q r =
+      let u = unless-count (rowFault t here row) (raisedBy t here row s) e in
+      rw (r, lt-ltb row s l, u .1, q) (ap (λ (f : Fault). unless f (countFrom t here m (row + 1) j)) (then-go _ (u .0)))
+
+  pub rows-none : (n row s : ℕ) → s ≤ row → unless (faultFrom t here n row s) (countFrom t here n row s) ≡ Count s
+  unfolding faultFrom countFrom unless
+  rows-none zero row s h = refl
+  rows-none (suc n) row s h = simp (le-ltb row s h)
+
+  pub rows-within : (row s j : ℕ) → s ≤ 256 → unless (rowFault t here row) (raisedBy t here row s) ≡ Count j → j ≤ 256
+  unfolding rowFault raisedBy
+  rows-within row s j h e =
+      let u = unless-count (rowFault t here row) (raisedBy t here row s) e in
+      omega (arith, u .1, raised-within t here row (classCount t here) 0 s h (u .0))
+
+-- ---- class bytes, and places
+
+pub class-inside : (t : List ℕ) (here at : ℕ) → classFault t here at ≡ Clear → at + 1 ≤ length t
+unfolding classFault
+class-inside t here at e = inside-holds t at 1 (then-first _ _ e)
+
+-- a glyph before the class table's first, after its last, and among them
+module _ (t : List ℕ) (here glyph : ℕ) where
+  pub class-before : glyph < u16At t (classTable t here) → classAt t here glyph ≡ 1
+  unfolding classAt
+  class-before h = simp (lt-leb _ _ h)
+
+  pub class-after : u16At t (classTable t here) ≤ glyph → u16At t (classTable t here) + u16At t (classTable t here + 2) ≤ glyph → classAt t here glyph ≡ 1
+  unfolding classAt
+  class-after g h = simp (le-leb _ _ g, le-ltb _ _ h)
+
+  pub class-among : u16At t (classTable t here) ≤ glyph → glyph < u16At t (classTable t here) + u16At t (classTable t here + 2)
+      → classAt t here glyph ≡ getD t (classTable t here + 4 + (glyph - u16At t (classTable t here))) 0
+  unfolding classAt
+  class-among g h = simp (le-leb _ _ g, lt-ltb _ _ h)
+
+-- a row's place fits
+pub place-fits : (row classes : ℕ) → row < 2 ^ 16 → classes < 2 ^ 16 → row * classes ≤ 65535 * 65535
+place-fits row classes h l = mul-le-mul {n₁ = row} {m₁ = classes} {n₂ = 65535} {m₂ = 65535} (omega arith) (omega arith)

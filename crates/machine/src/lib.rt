@@ -1,0 +1,260 @@
+// The class machine of a table (document 01, "The table", Machine): its first fault (refusals 4 and 7), its row
+// count S, a glyph's class, and what a cell holds. `here` is the place after the machine's 8-byte header, from
+// which the machine's offsets count.
+ghost use mathlib.Core.Path.{_≡_};
+ghost use Prim.Native.Nat.{_-_, _<_, _^_, max, min};
+ghost use Rattle.machine.specs.Cells.{classCount, classAt, entryAt, cellAt};
+ghost use Rattle.machine.specs.Rows.{cellPlace, entryPlace, entryFault, cellFault, rowFault, raisedBy, unless, faultOf, countOf, rowsOf, rowCount};
+ghost use Rattle.machine.specs.Machine.{headFault, classFault, classesFault, covered, classTableFault, machineFault};
+use fields::Fault;
+use fields::Refusal;
+use parts::Entry;
+
+// The first fault of a machine's rows, or their count.
+pub enum Scan {
+    Broken(Fault),
+    Count(usize),
+}
+
+// `a` less `b`, 0 where `b` is larger.
+fn less(a: usize, b: usize) -> usize
+    ensures { λ r. ⌜ r ≡ a - b ⌝ }
+{
+    if b < a { a - b } else { 0 }
+}
+
+fn larger(a: usize, b: usize) -> usize
+    ensures { λ r. ⌜ r ≡ max a b ⌝ }
+{
+    if a < b { b } else { a }
+}
+
+fn smaller(a: usize, b: usize) -> usize
+    ensures { λ r. ⌜ r ≡ min a b ⌝ }
+{
+    if a < b { a } else { b }
+}
+
+// Where a cell's byte stands.
+fn cell_place(table: &[u8], here: usize, row: usize, class: usize) -> usize
+    requires { ⌜ (here < 2 ^ 32) × ((row < 2 ^ 16) × (class < 2 ^ 16)) ⌝ }
+    ensures { λ r. ⌜ (r ≡ cellPlace (now (table .entry)) here row class) × (r < 2 ^ 34) ⌝ }
+{
+    let classes = fields::u16_at(table, here);
+    here + fields::u16_at(table, here + 4) + row * classes + class
+}
+
+// Where the entry with a stored number stands.
+fn entry_place(table: &[u8], here: usize, number: usize) -> usize
+    requires { ⌜ (here < 2 ^ 32) × (number < 2 ^ 8) ⌝ }
+    ensures { λ r. ⌜ (r ≡ entryPlace (now (table .entry)) here number) × (r < 2 ^ 33) ⌝ }
+{
+    here + fields::u16_at(table, here + 6) + 4 * number
+}
+
+// The entry with a stored number.
+fn entry_at(table: &[u8], here: usize, number: usize) -> Entry
+    requires { ⌜ (here < 2 ^ 32) × ((number < 2 ^ 8) × (0 < classCount (now table) here)) ⌝ }
+    ensures { λ r. ⌜ r ≡ entryAt (now (table .entry)) here number ⌝ }
+{
+    let at = entry_place(table, here, number);
+    let past = less(fields::u16_at(table, at), fields::u16_at(table, here + 4));
+    let row = past / fields::u16_at(table, here);
+    Entry {
+        row: row as u16,
+        flags: fields::u16_at(table, at + 2) as u16,
+    }
+}
+
+// What the cell of a row and a class holds.
+pub fn cell(table: &[u8], here: usize, row: usize, class: usize) -> Entry
+    requires { ⌜ (here < 2 ^ 32) × ((row < 2 ^ 16) × ((class < 2 ^ 16) × (0 < classCount (now table) here))) ⌝ }
+    ensures { λ r. ⌜ r ≡ cellAt (now (table .entry)) here row class ⌝ }
+{
+    let at = cell_place(table, here, row, class);
+    entry_at(table, here, fields::u8_at(table, at))
+}
+
+// A glyph's class by the class table; that a deleted glyph is class 2 is the walk's to say.
+pub fn class_of(table: &[u8], here: usize, glyph: u16) -> u8
+    requires { ⌜ here < 2 ^ 32 ⌝ }
+    ensures { λ r. ⌜ r ≡ classAt (now (table .entry)) here glyph ⌝ }
+{
+    let at = here + fields::u16_at(table, here + 2);
+    let first = fields::u16_at(table, at);
+    let count = fields::u16_at(table, at + 2);
+    let asked = glyph as usize;
+    if asked < first {
+        return 1;
+    }
+    if first + count <= asked {
+        return 1;
+    }
+    fields::u8_at(table, at + 4 + (asked - first)) as u8
+}
+
+// The class count and the three offsets.
+fn head_fault(table: &[u8], here: usize) -> Fault
+    requires { ⌜ here < 2 ^ 32 ⌝ }
+    ensures { λ r. ⌜ r ≡ headFault (now (table .entry)) here ⌝ }
+{
+    let count_in = fields::in_table(table, here, 2);
+    let count = fields::u16_at(table, here);
+    let enough = fields::ruled(4 <= count, Refusal::BadMachine, here);
+    let few = fields::ruled(count <= 255, Refusal::BadMachine, here);
+    let classes_in = fields::in_table(table, here + 2, 2);
+    let states_in = fields::in_table(table, here + 4, 2);
+    let entries_in = fields::in_table(table, here + 6, 2);
+    let offsets = fields::then(classes_in, fields::then(states_in, entries_in));
+    fields::then(count_in, fields::then(enough, fields::then(few, offsets)))
+}
+
+// The class byte at a position.
+fn class_fault(table: &[u8], here: usize, at: usize) -> Fault
+    ensures { λ r. ⌜ r ≡ classFault (now (table .entry)) here at ⌝ }
+{
+    let inside = fields::in_table(table, at, 1);
+    let low = fields::u8_at(table, at) < fields::u16_at(table, here);
+    fields::then(inside, fields::ruled(low, Refusal::BadMachine, at))
+}
+
+// `count` class bytes.
+fn classes_fault(table: &[u8], here: usize, first: usize, count: usize) -> Fault
+    ensures { λ r. ⌜ r ≡ classesFault (now (table .entry)) here count first ⌝ }
+{
+    let mut at = first;
+    let mut left = count;
+    while 0 < left {
+        let fault = class_fault(table, here, at);
+        if let Fault::Bad { refusal: _, at: _ } = fault {
+            return fault;
+        }
+        at += 1;
+        left -= 1;
+    }
+    Fault::Clear
+}
+
+// The class table, for the glyphs below `glyphs`.
+fn class_table_fault(table: &[u8], glyphs: usize, here: usize) -> Fault
+    requires { ⌜ here < 2 ^ 32 ⌝ }
+    ensures { λ r. ⌜ r ≡ classTableFault (now (table .entry)) glyphs here ⌝ }
+{
+    let at = here + fields::u16_at(table, here + 2);
+    let first_in = fields::in_table(table, at, 2);
+    let count_in = fields::in_table(table, at + 2, 2);
+    let below = less(glyphs, fields::u16_at(table, at));
+    let count = smaller(fields::u16_at(table, at + 2), below);
+    let classes = classes_fault(table, here, at + 4, count);
+    fields::then(first_in, fields::then(count_in, classes))
+}
+
+// An entry: its new row, then its flags.
+fn entry_fault(table: &[u8], here: usize, number: usize) -> Fault
+    requires { ⌜ (here < 2 ^ 32) × ((number < 2 ^ 8) × (0 < classCount (now table) here)) ⌝ }
+    ensures { λ r. ⌜ r ≡ entryFault (now (table .entry)) here number ⌝ }
+{
+    let at = entry_place(table, here, number);
+    let to = fields::u16_at(table, at);
+    let array = fields::u16_at(table, here + 4);
+    let classes = fields::u16_at(table, here);
+    let next = entry_at(table, here, number);
+    let row_in = fields::in_table(table, at, 2);
+    let past = fields::ruled(array <= to, Refusal::BadMachine, at);
+    let whole = fields::ruled(less(to, array) % classes == 0, Refusal::BadMachine, at);
+    let few = fields::ruled(next.row <= 255, Refusal::BadMachine, at);
+    let flags_in = fields::in_table(table, at + 2, 2);
+    let tail = fields::then(whole, fields::then(few, flags_in));
+    fields::then(row_in, fields::then(past, tail))
+}
+
+// A cell: its byte, then its entry.
+fn cell_fault(table: &[u8], here: usize, row: usize, class: usize) -> Fault
+    requires { ⌜ (here < 2 ^ 32) × ((row < 2 ^ 16) × ((class < 2 ^ 16) × (0 < classCount (now table) here))) ⌝ }
+    ensures { λ r. ⌜ r ≡ cellFault (now (table .entry)) here row class ⌝ }
+{
+    let at = cell_place(table, here, row, class);
+    let inside = fields::in_table(table, at, 1);
+    fields::then(inside, entry_fault(table, here, fields::u8_at(table, at)))
+}
+
+// The first fault of a row, or the row count `s` as far as the row raises it.
+fn row_cells(table: &[u8], here: usize, row: usize, s: usize) -> Scan
+    requires { ⌜ (here < 2 ^ 32) × (row < 2 ^ 16) ⌝ }
+    ensures { λ r. ⌜ r ≡ unless (rowFault (now (table .entry)) here row) (raisedBy (now (table .entry)) here row s) ⌝ }
+{
+    let mut class: usize = 0;
+    let mut left = fields::u16_at(table, here);
+    let mut rows = s;
+    while 0 < left {
+        let fault = cell_fault(table, here, row, class);
+        if let Fault::Bad { refusal: _, at: _ } = fault {
+            return Scan::Broken(fault);
+        }
+        let next = cell(table, here, row, class);
+        rows = larger(rows, next.row as usize + 1);
+        class += 1;
+        left -= 1;
+    }
+    Scan::Count(rows)
+}
+
+fn fault_of(scan: Scan) -> Fault
+    ensures { λ r. ⌜ r ≡ faultOf scan ⌝ }
+{
+    match scan {
+        Scan::Broken(fault) => fault,
+        Scan::Count(_) => Fault::Clear,
+    }
+}
+
+fn count_of(scan: Scan) -> usize
+    ensures { λ r. ⌜ r ≡ countOf scan ⌝ }
+{
+    match scan {
+        Scan::Broken(_) => 0,
+        Scan::Count(s) => s,
+    }
+}
+
+// The first fault of the rows, or the row count.
+fn rows_of(table: &[u8], here: usize) -> Scan
+    requires { ⌜ here < 2 ^ 32 ⌝ }
+    ensures { λ r. ⌜ r ≡ rowsOf (now (table .entry)) here ⌝ }
+{
+    let mut row: usize = 0;
+    let mut s: usize = 2;
+    while row < s {
+        let scan = row_cells(table, here, row, s);
+        if let Scan::Broken(_) = scan {
+            return scan;
+        }
+        s = count_of(scan);
+        row += 1;
+    }
+    Scan::Count(s)
+}
+
+// The first fault of the machine, for a font of `glyphs` glyphs.
+pub fn machine_fault(table: &[u8], glyphs: usize, here: usize) -> Fault
+    requires { ⌜ here < 2 ^ 32 ⌝ }
+    ensures { λ r. ⌜ r ≡ machineFault (now (table .entry)) glyphs here ⌝ }
+{
+    let head = head_fault(table, here);
+    if let Fault::Bad { refusal: _, at: _ } = head {
+        return head;
+    }
+    let classes = class_table_fault(table, glyphs, here);
+    if let Fault::Bad { refusal: _, at: _ } = classes {
+        return classes;
+    }
+    fault_of(rows_of(table, here))
+}
+
+// The row count S; 0 where the rows are at fault.
+pub fn row_count(table: &[u8], here: usize) -> usize
+    requires { ⌜ here < 2 ^ 32 ⌝ }
+    ensures { λ r. ⌜ r ≡ rowCount (now (table .entry)) here ⌝ }
+{
+    count_of(rows_of(table, here))
+}
