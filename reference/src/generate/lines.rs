@@ -1,0 +1,320 @@
+//! Lines: a table, a line on it, and the lent lengths; some with a fault.
+
+use super::parts::Style;
+use super::rng::Rng;
+use super::tables;
+use crate::actions;
+use crate::line::{classes_of, justify, rooms_of, Justified, Line, LineInput, MOST_SIZE, MOST_WIDTH};
+use crate::meaning::{Direction, DELETED};
+use crate::share::totals;
+use crate::table::read_table;
+
+/// All that a line's call is given.
+#[derive(Clone, Debug)]
+pub struct LineCase {
+    pub table: Vec<u8>,
+    pub n: u32,
+    pub direction: Direction,
+    pub starts: bool,
+    pub ends: bool,
+    pub size: i64,
+    pub glyphs: Vec<u16>,
+    pub advances: Vec<i64>,
+    pub target: i64,
+    pub classes_len: usize,
+    pub before_len: usize,
+    pub after_len: usize,
+    pub room: usize,
+}
+
+impl LineCase {
+    pub fn line(&self) -> Line<'_> {
+        Line {
+            direction: self.direction,
+            starts: self.starts,
+            ends: self.ends,
+            size: self.size,
+            glyphs: &self.glyphs,
+            advances: &self.advances,
+            target: self.target,
+        }
+    }
+
+    pub fn input(&self) -> LineInput<'_> {
+        LineInput { table: &self.table, n: self.n, line: self.line() }
+    }
+
+    /// The answer to the call.
+    pub fn justify(&self) -> Result<Justified, u32> {
+        justify(&self.input(), self.classes_len, self.before_len, self.after_len, self.room)
+    }
+}
+
+/// What a draw aims at; what comes out is for the call to say.
+#[derive(Clone, Copy, PartialEq)]
+enum Aim {
+    Sound,
+    Table,
+    Lengths,
+    Places,
+    Size,
+    Width,
+    Glyph,
+    Stay,
+    Wide,
+    Room,
+}
+
+const AIMS: [(Aim, u64); 10] = [
+    (Aim::Sound, 42),
+    (Aim::Table, 8),
+    (Aim::Lengths, 6),
+    (Aim::Places, 3),
+    (Aim::Size, 5),
+    (Aim::Width, 7),
+    (Aim::Glyph, 5),
+    (Aim::Stay, 8),
+    (Aim::Wide, 8),
+    (Aim::Room, 7),
+];
+
+/// A line.
+pub fn draw(rng: &mut Rng) -> LineCase {
+    let aim = AIMS[rng.weighted(&AIMS.map(|(_, weight)| weight))].0;
+    let mut case = fitting(rng, aim);
+    if rng.chance(40) {
+        sharpen(rng, &mut case);
+    }
+    let fired = count_fired(&case);
+    case.room = match rng.below(4) {
+        0 => fired,
+        1 => fired + 1,
+        _ => fired + rng.below(20) as usize,
+    };
+    spoil(rng, &mut case, aim, fired);
+    if rng.chance(4) {
+        // A second fault, so that the order of refusals shows.
+        let other = AIMS[rng.below(AIMS.len() as u64) as usize].0;
+        spoil(rng, &mut case, other, fired);
+    }
+    case
+}
+
+/// A sound line. Where the verdict list is to be too short, some verdict
+/// should fire.
+fn fitting(rng: &mut Rng, aim: Aim) -> LineCase {
+    let mut tries = if aim == Aim::Room { 12 } else { 1 };
+    loop {
+        let mut case = plain(rng, aim);
+        choose_target(rng, &mut case, aim);
+        tries -= 1;
+        if tries == 0 || count_fired(&case) > 0 {
+            return case;
+        }
+    }
+}
+
+/// How many verdicts fire, whatever the room.
+fn count_fired(case: &LineCase) -> usize {
+    unbounded(case).map_or(0, |answer| answer.verdicts.len())
+}
+
+fn unbounded(case: &LineCase) -> Result<Justified, u32> {
+    justify(&case.input(), case.classes_len, case.before_len, case.after_len, usize::MAX)
+}
+
+fn plain(rng: &mut Rng, aim: Aim) -> LineCase {
+    let (table, n) = table_for(rng, aim);
+    let count = match aim {
+        Aim::Wide => rng.between(2, 7) as usize,
+        Aim::Places => rng.pick(&[1_023, 1_024, 1_025, 1_030]),
+        _ => match rng.weighted(&[8, 70, 19, 2, 1]) {
+            0 => 0,
+            1 => rng.between(1, 12) as usize,
+            2 => rng.between(13, 60) as usize,
+            3 => rng.between(61, 1_024) as usize,
+            _ => 1_024,
+        },
+    };
+    let glyphs: Vec<u16> = (0..count).map(|_| glyph(rng, n)).collect();
+    let advances = advances(rng, count);
+    LineCase {
+        table,
+        n,
+        direction: rng.pick(&Direction::BOTH),
+        starts: rng.chance(50),
+        ends: rng.chance(50),
+        size: size(rng, aim),
+        glyphs,
+        advances,
+        target: 0,
+        classes_len: count,
+        before_len: count,
+        after_len: count,
+        room: 0,
+    }
+}
+
+fn table_for(rng: &mut Rng, aim: Aim) -> (Vec<u8>, u32) {
+    if aim == Aim::Table {
+        return tables::draw(rng);
+    }
+    let n = match rng.weighted(&[80, 15, 5]) {
+        0 => rng.between(1, 12) as u32,
+        1 => rng.between(13, 300) as u32,
+        _ => tables::glyph_count(rng),
+    };
+    let style = match aim {
+        Aim::Stay => Style { stays: 50, ..Style::LINE },
+        Aim::Wide => Style { wide: true, stays: 2, ..Style::LINE },
+        _ => Style { stays: rng.pick(&[0, 4, 10]), ..Style::LINE },
+    };
+    (tables::sound(rng, n, style).bytes, n)
+}
+
+fn glyph(rng: &mut Rng, n: u32) -> u16 {
+    let n = n.clamp(1, 0xFFFF);
+    match rng.weighted(&[8, 5, 87]) {
+        0 => DELETED,
+        1 => (n - 1) as u16,
+        _ => rng.below(n as u64) as u16,
+    }
+}
+
+fn size(rng: &mut Rng, aim: Aim) -> i64 {
+    if aim == Aim::Wide {
+        return rng.pick(&[MOST_SIZE, MOST_SIZE, MOST_SIZE - 1, MOST_SIZE / 2]);
+    }
+    match rng.weighted(&[50, 10, 20, 5, 15]) {
+        0 => 786_432,
+        1 => rng.pick(&[1, 2, 65_535, 65_536, 65_536, 65_536, 65_537]),
+        2 => rng.between(1, 20) as i64 * 65_536,
+        3 => MOST_SIZE,
+        _ => rng.between(1, MOST_SIZE as u64) as i64,
+    }
+}
+
+fn advances(rng: &mut Rng, count: usize) -> Vec<i64> {
+    let most = match rng.weighted(&[20, 60, 20]) {
+        0 => 0,
+        1 => 1_000_000,
+        _ => MOST_WIDTH as u64 / count.max(1) as u64,
+    };
+    (0..count).map(|_| rng.below(most + 1) as i64).collect()
+}
+
+/// Chooses the target for a gap worth trying: none, small, at the totals of
+/// the stages or one beside them, far past them, or anything.
+fn choose_target(rng: &mut Rng, case: &mut LineCase, aim: Aim) {
+    let sum: i64 = case.advances.iter().sum();
+    let grow = rng.chance(50);
+    let none = if aim == Aim::Wide { 40 } else { 6 };
+    let gap = match rng.weighted(&[none, 12, 52, 20, 10]) {
+        0 => 0,
+        1 => rng.below(10) as i64,
+        2 => rng.pick(&landmarks(case, grow)) + rng.below(3) as i64 - 1,
+        3 => (rng.below(1 << 30) >> rng.below(26)) as i64,
+        _ if grow => MOST_WIDTH - sum,
+        _ => sum,
+    };
+    let gap = if grow { gap } else { -gap };
+    case.target = (sum + gap).clamp(0, MOST_WIDTH);
+    // A shrinking line needs advances to shrink; widen one where they fall short.
+    if sum + gap < 0 {
+        if let Some(last) = case.advances.last_mut() {
+            *last = (*last - (sum + gap)).min(MOST_WIDTH - (sum - *last));
+        }
+    }
+}
+
+/// The sums of the stages' totals so far, and small steps past them.
+fn landmarks(case: &LineCase, grow: bool) -> Vec<i64> {
+    let Ok(table) = read_table(&case.table, case.n) else { return vec![1] };
+    let Some((classes, _)) = classes_of(&table, &case.line()) else { return vec![1] };
+    let totals = totals(&rooms_of(&table, &case.line(), &classes, grow)).map(|total| total as i64);
+    let (first, second) = (totals[0], totals[0] + totals[1]);
+    let third = second + totals[2];
+    let past = third + third / 2 + 7;
+    [first, second, third, past, first / 2, (first + second) / 2].map(|gap| gap.min(1 << 40)).to_vec()
+}
+
+/// Moves one limit or threshold of an action right to the growth of its glyph,
+/// or beside it. Nothing but verdicts can change.
+fn sharpen(rng: &mut Rng, case: &mut LineCase) {
+    let Ok(answer) = unbounded(case) else { return };
+    let Ok(table) = read_table(&case.table, case.n) else { return };
+    let mut found = Vec::new();
+    for (place, &glyph) in case.glyphs.iter().enumerate().filter(|&(_, &glyph)| glyph != DELETED) {
+        let Some(list) = table.list_at(case.direction, glyph as u32) else { continue };
+        let own = actions::list(table.bytes(), list).filter(|a| a.class == answer.classes[place] as u16);
+        for action in own.filter(|a| a.kind == 0 || a.kind == 2) {
+            let growth = answer.before[place] + answer.after[place];
+            found.push((action.at as usize, action.kind, growth));
+        }
+    }
+    if found.is_empty() {
+        return;
+    }
+    let growing: Vec<_> = found.iter().copied().filter(|&(_, kind, growth)| kind == 2 && growth > 0).collect();
+    let (at, kind, growth) = rng.pick(if growing.is_empty() { &found } else { &growing });
+    let at = if kind == 0 && rng.chance(50) { at + 4 } else { at };
+    let ems = (growth as i128 * 65_536).div_euclid(case.size as i128) + rng.pick(&[0, 0, 0, 1, -1]);
+    if let Ok(ems) = i32::try_from(ems) {
+        case.table[at..at + 4].copy_from_slice(&ems.to_be_bytes());
+    }
+}
+
+/// Brings in the fault that is aimed at.
+fn spoil(rng: &mut Rng, case: &mut LineCase, aim: Aim, fired: usize) {
+    match aim {
+        Aim::Lengths => spoil_lengths(rng, case),
+        Aim::Size => case.size = rng.pick(&[0, 67_108_865, -1, i64::from(i32::MAX), i64::from(i32::MIN)]),
+        Aim::Width => spoil_width(rng, case),
+        Aim::Glyph => spoil_glyph(rng, case),
+        Aim::Room => case.room = fired.saturating_sub(rng.between(1, 2) as usize),
+        _ => {}
+    }
+}
+
+fn spoil_lengths(rng: &mut Rng, case: &mut LineCase) {
+    let off = |rng: &mut Rng, length: usize| if length > 0 && rng.chance(50) { length - 1 } else { length + 1 };
+    match rng.below(5) {
+        0 => case.classes_len = off(rng, case.classes_len),
+        1 => case.before_len = off(rng, case.before_len),
+        2 => case.after_len = off(rng, case.after_len),
+        3 => case.advances.push(0),
+        _ => case.glyphs.push(0),
+    }
+}
+
+fn spoil_width(rng: &mut Rng, case: &mut LineCase) {
+    let count = case.advances.len();
+    match rng.below(4) {
+        0 => case.target = rng.pick(&[-1, MOST_WIDTH + 1, i64::from(i32::MIN), MOST_WIDTH]),
+        1 if count > 0 => {
+            let place = rng.below(count as u64) as usize;
+            case.advances[place] = rng.pick(&[-1, MOST_WIDTH + 1, i64::from(i32::MIN), i64::from(i32::MAX)]);
+        }
+        2 if count > 1 => {
+            // One negative advance that the others make up for.
+            case.advances[0] = -5;
+            case.advances[1] = 5;
+        }
+        _ if count > 1 => {
+            // Each advance is within the limit; the sum is at it or one past.
+            case.advances.iter_mut().for_each(|advance| *advance = 0);
+            case.advances[0] = MOST_WIDTH - 10;
+            case.advances[count - 1] = rng.pick(&[10, 11]);
+        }
+        _ => case.target = -1,
+    }
+}
+
+fn spoil_glyph(rng: &mut Rng, case: &mut LineCase) {
+    let n = case.n;
+    let bad = rng.pick(&[n, n.saturating_add(1), 0xFFFE]);
+    if let (false, true) = (case.glyphs.is_empty(), bad < 0xFFFF) {
+        let place = rng.below(case.glyphs.len() as u64) as usize;
+        case.glyphs[place] = bad as u16;
+    }
+}

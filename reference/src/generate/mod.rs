@@ -1,0 +1,35 @@
+//! Seeded generators of tables, lines and sheets. Each draw depends on the
+//! seed and the index alone.
+
+pub mod draft;
+pub mod lines;
+pub mod parts;
+pub mod rng;
+pub mod sheets;
+pub mod tables;
+
+pub use lines::LineCase;
+use parts::Style;
+use rng::Rng;
+
+/// A table and its glyph count; about half of them are accepted.
+pub fn table(seed: u64, index: u64) -> (Vec<u8>, u32) {
+    tables::draw(&mut Rng::new(seed, index, 1))
+}
+
+/// A table that keeps every rule, and its glyph count.
+pub fn sound_table(seed: u64, index: u64) -> (Vec<u8>, u32) {
+    let mut rng = Rng::new(seed, index, 2);
+    let n = tables::glyph_count(&mut rng);
+    (tables::sound(&mut rng, n, Style::PLAIN).bytes, n)
+}
+
+/// A table with a line on it; about half of them are accepted.
+pub fn line(seed: u64, index: u64) -> LineCase {
+    lines::draw(&mut Rng::new(seed, index, 3))
+}
+
+/// Bytes that are a sheet about half of the time.
+pub fn sheet(seed: u64, index: u64) -> Vec<u8> {
+    sheets::draw(&mut Rng::new(seed, index, 4))
+}

@@ -1,0 +1,95 @@
+//! Byte building for tests: fields one after another.
+#![allow(dead_code)]
+
+use reference::{Line, LineInput};
+
+/// Big-endian fields put down in order.
+#[derive(Clone, Default)]
+pub struct Fields(pub Vec<u8>);
+
+impl Fields {
+    pub fn new() -> Fields {
+        Fields::default()
+    }
+
+    pub fn b(mut self, value: u8) -> Fields {
+        self.0.push(value);
+        self
+    }
+
+    pub fn w(mut self, value: u16) -> Fields {
+        self.0.extend(value.to_be_bytes());
+        self
+    }
+
+    pub fn l(mut self, value: u32) -> Fields {
+        self.0.extend(value.to_be_bytes());
+        self
+    }
+
+    pub fn ws(self, values: &[u16]) -> Fields {
+        values.iter().fold(self, |fields, &value| fields.w(value))
+    }
+
+    pub fn ls(self, values: &[u32]) -> Fields {
+        values.iter().fold(self, |fields, &value| fields.l(value))
+    }
+
+    pub fn bs(mut self, values: &[u8]) -> Fields {
+        self.0.extend(values);
+        self
+    }
+
+    /// Zero bytes up to a place.
+    pub fn to(mut self, place: usize) -> Fields {
+        assert!(self.0.len() <= place, "already past {place}");
+        self.0.resize(place, 0);
+        self
+    }
+
+    pub fn done(self) -> Vec<u8> {
+        self.0
+    }
+}
+
+/// The smallest table: both directions absent.
+pub fn empty_table() -> Vec<u8> {
+    Fields::new().l(0x0001_0000).ws(&[0, 0, 0]).done()
+}
+
+/// A table with a horizontal direction at 10 and nothing else in it but a
+/// width lookup of format 8 with no glyphs; `machine` follows at 22.
+pub fn table_with_machine(machine: &[u8]) -> Vec<u8> {
+    let head = Fields::new().l(0x0001_0000).ws(&[0, 10, 0]);
+    head.ws(&[22, 0, 0]).ws(&[8, 0, 0]).bs(machine).done()
+}
+
+/// A table whose horizontal glyphs 0, 1, .. each have a cluster of one pair
+/// for class 0: before grow, after grow, before shrink, after shrink, flags.
+pub fn table_with_records(records: &[([u32; 4], [u16; 2])]) -> Vec<u8> {
+    let count = records.len() as u16;
+    let clusters = 10 + 6 + 6 + 2 * count;
+    let mut fields = Fields::new().l(0x0001_0000).ws(&[0, 10, 0]);
+    fields = fields.ws(&[0, clusters, 0]).ws(&[8, 0, count]);
+    for index in 0..count {
+        fields = fields.w(28 * index);
+    }
+    for (limits, flags) in records {
+        let [before_grow, after_grow, before_shrink, after_shrink] = *limits;
+        fields = fields.l(1).l(0).ls(&[before_grow, before_shrink, after_grow, after_shrink]).ws(flags);
+    }
+    fields.done()
+}
+
+/// A plain horizontal line that starts and ends the text.
+pub fn line<'a>(glyphs: &'a [u16], advances: &'a [i64], target: i64, size: i64) -> Line<'a> {
+    Line { direction: reference::Direction::Horizontal, starts: true, ends: true, size, glyphs, advances, target }
+}
+
+/// Justifies with lent buffers of the right lengths.
+pub fn run(table: &[u8], n: u32, line: Line, room: usize) -> Result<reference::Justified, u32> {
+    let count = line.glyphs.len();
+    reference::justify(&LineInput { table, n, line }, count, count, count, room)
+}
+
+pub const TWELVE_POINTS: i64 = 12 * 65_536;

@@ -1,0 +1,155 @@
+//! The generators: the same draw for the same seed and index, about half of
+//! the draws accepted, and every refusal among 5,000.
+
+use reference::generate;
+use reference::line::{classes_of, rooms_of};
+use reference::*;
+
+const DRAWS: u64 = 5_000;
+const SEED: u64 = 7;
+
+fn about_half(accepted: usize) {
+    let share = accepted * 100 / DRAWS as usize;
+    assert!((40..=62).contains(&share), "{share} in a hundred");
+}
+
+#[test]
+fn draws_are_fixed() {
+    for index in 0..50 {
+        assert_eq!(generate::table(SEED, index), generate::table(SEED, index));
+        assert_eq!(generate::sheet(SEED, index), generate::sheet(SEED, index));
+        let (a, b) = (generate::line(SEED, index), generate::line(SEED, index));
+        assert_eq!(format!("{a:?}"), format!("{b:?}"));
+    }
+    assert_ne!(generate::table(SEED, 0), generate::table(SEED, 1));
+    assert_ne!(generate::table(SEED, 0), generate::table(SEED + 1, 0));
+}
+
+#[test]
+fn sound_tables_are_accepted() {
+    for index in 0..DRAWS {
+        let (table, n) = generate::sound_table(SEED, index);
+        assert_eq!(check_table(&table, n), Ok(()), "draw {index}");
+    }
+}
+
+#[test]
+fn sound_tables_reach_every_limit() {
+    let mut reached = [0usize; 12];
+    let mut formats = [0usize; 9];
+    for index in 0..DRAWS {
+        let (table, n) = generate::sound_table(SEED, index);
+        let read = read_table(&table, n).unwrap();
+        let mut note = |limit: usize, met: bool| reached[limit] += met as usize;
+        note(0, table.len() == 32_768);
+        note(1, n == 65_535);
+        note(2, n == 1);
+        for direction in Direction::BOTH {
+            let sizes = read.sizes(direction).unwrap_or(Sizes { rows: 0, classes: 0 });
+            note(3, sizes.rows == 256);
+            note(4, sizes.classes == 255);
+            note(5, sizes.classes == 4);
+            note(6, read.machine(direction).map_or(0, |machine| distinct(&machine.cells)) == 256);
+            let count = |at| read.bytes().known_u32(at);
+            note(7, read.cluster_runs(direction).any(|(_, at)| count(at) == 128));
+            note(8, read.list_runs(direction).any(|(_, at)| count(at) == 64));
+            note(9, read.list_runs(direction).any(|(_, at)| count(at) == 0));
+            let whole = |at| actions::list(read.bytes(), at).any(|found| found.components().length == 64);
+            note(10, read.list_runs(direction).any(|(_, at)| whole(at)));
+            let offset = table[6 + 2 * direction.index() + 1] as usize | (table[6 + 2 * direction.index()] as usize) << 8;
+            if offset != 0 {
+                formats[table[offset + 7] as usize] += 1;
+            }
+        }
+        note(11, sheet_length(&table, n).unwrap() > 65_536);
+    }
+    println!("length, N = 65,535, N = 1, rows, classes 255 and 4, entries, pairs, actions 64 and 0, components, long sheet: {reached:?}");
+    println!("width lookups of formats 0, 2, 4, 6, 8: {:?}", [0, 2, 4, 6, 8].map(|format| formats[format]));
+    assert!(reached.iter().all(|&count| count >= 10), "{reached:?}");
+    assert!([0, 2, 4, 6, 8].iter().all(|&format| formats[format] > 200), "{formats:?}");
+}
+
+fn distinct(cells: &[Cell]) -> usize {
+    cells.iter().collect::<std::collections::HashSet<_>>().len()
+}
+
+#[test]
+fn tables_meet_every_refusal() {
+    let mut counts = [0usize; 9];
+    let (mut greatest, mut small) = (0, 0);
+    for index in 0..DRAWS {
+        let (table, n) = generate::table(SEED, index);
+        counts[check_table(&table, n).map_or_else(|fault| fault.number as usize, |()| 0)] += 1;
+        greatest += (n == 65_535) as u32;
+        small += (n <= 12) as u32;
+    }
+    println!("tables accepted {}, refused 1 to 8: {:?}", counts[0], &counts[1..]);
+    about_half(counts[0]);
+    assert!(counts.iter().all(|&count| count >= 20), "{counts:?}");
+    assert!(greatest > 20 && small > 1_000);
+}
+
+#[test]
+fn lines_meet_every_refusal() {
+    let mut counts = [0usize; 17];
+    let mut kinds = [0usize; 9];
+    for index in 0..DRAWS {
+        let case = generate::line(SEED, index);
+        match case.justify() {
+            Ok(answer) => {
+                counts[0] += 1;
+                note_kinds(&case, &answer, &mut kinds);
+            }
+            Err(number) => counts[number as usize] += 1,
+        }
+    }
+    println!("lines accepted {}, refused 1 to 8: {:?}, 9 to 16: {:?}", counts[0], &counts[1..9], &counts[9..]);
+    println!("done in stage 0, 1, 2; unlimited; past all stages; remainder; marks; verdicts; substituting: {kinds:?}");
+    about_half(counts[0]);
+    assert!(counts[9..].iter().all(|&count| count >= 20), "{counts:?}");
+    assert!(kinds.iter().all(|&count| count >= 20), "{kinds:?}");
+}
+
+/// Which way through the sharing a line took, and what else turned up.
+fn note_kinds(case: &generate::LineCase, answer: &Justified, kinds: &mut [usize; 9]) {
+    let gap = case.target - case.advances.iter().sum::<i64>();
+    let table = read_table(&case.table, case.n).unwrap();
+    let (classes, _) = classes_of(&table, &case.line()).unwrap();
+    let rooms = rooms_of(&table, &case.line(), &classes, gap >= 0);
+    let sums = totals(&rooms);
+    let open = |stage: usize| rooms.iter().flatten().any(|room| room.stage as usize == stage && room.unlimited);
+    let mut left = gap.unsigned_abs();
+    let mut way = if sums.iter().any(|&sum| sum > 0) { 4 } else { 5 };
+    for (stage, &sum) in sums.iter().enumerate() {
+        if left <= sum {
+            way = stage;
+            break;
+        }
+        left -= sum;
+        if open(stage) {
+            way = 3;
+            break;
+        }
+    }
+    kinds[way] += (gap != 0) as usize;
+    kinds[6] += answer.classes.iter().any(|&class| class != 0) as usize;
+    kinds[7] += !answer.verdicts.is_empty() as usize;
+    kinds[8] += answer.verdicts.iter().any(|verdict| verdict.substituting) as usize;
+}
+
+#[test]
+fn sheets_meet_refusal_17() {
+    let mut accepted = 0;
+    let mut past_any_table = 0;
+    for index in 0..DRAWS {
+        let sheet = generate::sheet(SEED, index);
+        if let Some(meaning) = read_sheet(&sheet) {
+            accepted += 1;
+            let cells = |direction| meaning.sizes(direction).map_or(0, |sizes| sizes.rows * sizes.classes);
+            past_any_table += Direction::BOTH.iter().any(|&direction| cells(direction) > 32_768) as u32;
+        }
+    }
+    println!("sheets accepted {accepted}, refused 17: {}", DRAWS as usize - accepted);
+    about_half(accepted);
+    assert!(past_any_table > 5, "{past_any_table}");
+}

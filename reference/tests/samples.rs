@@ -1,0 +1,268 @@
+//! The sample lines of document 01, with the values it states.
+
+mod common;
+
+use common::*;
+use reference::*;
+
+fn side(stage: u8, before: u64, after: u64) -> Option<Room> {
+    Some(Room { stage, unlimited: false, before, after })
+}
+
+/// All shares in line order, before ahead of after.
+fn in_order(shares: &Shares) -> Vec<u64> {
+    shares.before.iter().zip(&shares.after).flat_map(|(&b, &a)| [b, a]).collect()
+}
+
+#[test]
+fn factor_of_two_and_a_half_ems() {
+    assert_eq!(factor(2 * 65_536 + 32_768, TWELVE_POINTS as u32), 1_966_080);
+    assert_eq!(1_966_080, 30 * 65_536);
+}
+
+#[test]
+fn three_equal_factors() {
+    // Three sides of 3: two of one glyph, and the before side of the next.
+    let rooms = [side(0, 3, 3), side(0, 3, 0)];
+    assert_eq!(in_order(&share(&rooms, 7)), [2, 2, 3, 0]);
+    assert_eq!(in_order(&share(&rooms, 9)), [3, 3, 3, 0]);
+    assert_eq!(in_order(&share(&rooms, 10)), [3, 3, 4, 0]);
+    for gap in [7, 9, 10] {
+        assert_eq!(share(&rooms, gap).remainder, 0);
+    }
+    // The same in each other stage, and with one side to a glyph.
+    for stage in 0..3 {
+        let rooms = [side(stage, 0, 3), side(stage, 0, 3), side(stage, 0, 3)];
+        assert_eq!(share(&rooms, 7).after, [2, 2, 3]);
+        assert_eq!(share(&rooms, 9).after, [3, 3, 3]);
+        assert_eq!(share(&rooms, 10).after, [3, 3, 4]);
+    }
+}
+
+#[test]
+fn three_equal_factors_on_a_line() {
+    // A limit of 3 units of an em at 1 pt is a factor of 3.
+    let table = table_with_records(&[([3, 3, 3, 3], [0, 0]), ([3, 0, 3, 0], [0, 0])]);
+    for (gap, shares) in [(7, [2, 2, 3]), (9, [3, 3, 3]), (10, [3, 3, 4])] {
+        let answer = run(&table, 2, line(&[0, 1], &[100, 50], 150 + gap, 65_536), 0).unwrap();
+        assert_eq!((answer.before[0], answer.after[0], answer.before[1]), (shares[0], shares[1], shares[2]));
+        assert_eq!((answer.after[1], answer.remainder), (0, 0));
+        let answer = run(&table, 2, line(&[0, 1], &[100, 50], 150 - gap, 65_536), 0).unwrap();
+        assert_eq!((answer.before[0], answer.after[0], answer.before[1]), (-shares[0], -shares[1], -shares[2]));
+        assert_eq!((answer.after[1], answer.remainder), (0, 0));
+    }
+}
+
+#[test]
+fn no_room_at_all() {
+    let rooms = [side(0, 0, 0), side(1, 0, 0), None];
+    assert_eq!(share(&rooms, 5), Shares { before: vec![0; 3], after: vec![0; 3], remainder: 5 });
+    let table = table_with_records(&[([0; 4], [0, 0])]);
+    let answer = run(&table, 1, line(&[0, 0], &[0, 10], 15, 65_536), 0).unwrap();
+    assert_eq!((answer.before, answer.after, answer.remainder), (vec![0, 0], vec![0, 0], 5));
+    let answer = run(&table, 1, line(&[0, 0], &[0, 10], 5, 65_536), 0).unwrap();
+    assert_eq!((answer.before, answer.after, answer.remainder), (vec![0, 0], vec![0, 0], -5));
+}
+
+#[test]
+fn two_unlimited_glyphs() {
+    let room = Some(Room { stage: 1, unlimited: true, before: 0, after: 0 });
+    assert_eq!(share(&[room, None, room], 5).after, [2, 0, 3]);
+    let table = table_with_records(&[([0; 4], [0x1001, 0])]);
+    let answer = run(&table, 2, line(&[0, 1, 0], &[0, 0, 0], 5, 65_536), 0).unwrap();
+    assert_eq!(answer.after, [2, 0, 3]);
+    assert_eq!((answer.before, answer.remainder), (vec![0; 3], 0));
+}
+
+#[test]
+fn ligature_breaks_past_half_an_em() {
+    let data = Fields::new().l(0).l(32_768).w(0).w(1).w(0).done();
+    let action = Action { class: 0, kind: 0, data };
+    assert_eq!(fires(&action, 393_216, TWELVE_POINTS), Fires::No);
+    assert_eq!(fires(&action, 393_217, TWELVE_POINTS), Fires::Plain);
+    assert_eq!(fires(&action, 0, TWELVE_POINTS), Fires::No);
+    assert_eq!(fires(&action, -1, TWELVE_POINTS), Fires::Plain);
+}
+
+#[test]
+fn other_types_fire() {
+    let action = |kind, data: Vec<u8>| Action { class: 0, kind, data };
+    let add = action(1, vec![0, 0]);
+    let repeat = action(5, vec![0; 4]);
+    let stretch = action(3, vec![]);
+    let ductile = action(4, vec![0; 16]);
+    for (growth, added, stretched) in
+        [(1, Fires::Plain, Fires::Plain), (0, Fires::No, Fires::No), (-1, Fires::No, Fires::Plain)]
+    {
+        assert_eq!(fires(&add, growth, 1), added);
+        assert_eq!(fires(&repeat, growth, 1), added);
+        assert_eq!(fires(&stretch, growth, 1), stretched);
+        assert_eq!(fires(&ductile, growth, 1), stretched);
+    }
+    // Threshold half an em at 12 pt: 393,216 units.
+    let conditional = action(2, Fields::new().l(32_768).ws(&[0xFFFF, 0]).done());
+    assert_eq!(fires(&conditional, 393_216, TWELVE_POINTS), Fires::Substituting);
+    assert_eq!(fires(&conditional, 393_215, TWELVE_POINTS), Fires::Plain);
+    assert_eq!(fires(&conditional, 0, TWELVE_POINTS), Fires::No);
+    // A negative threshold does not make a shrinking glyph fire.
+    let negative = action(2, Fields::new().l(u32::MAX).ws(&[0xFFFF, 0]).done());
+    assert_eq!(fires(&negative, -1, TWELVE_POINTS), Fires::No);
+    assert_eq!(fires(&negative, 1, TWELVE_POINTS), Fires::Substituting);
+}
+
+#[test]
+fn an_empty_line() {
+    let answer = run(&empty_table(), 1, line(&[], &[], 4, 65_536), 0).unwrap();
+    assert_eq!(answer.remainder, 4);
+    assert_eq!(answer.entries, 0);
+    assert!(answer.classes.is_empty() && answer.before.is_empty() && answer.after.is_empty());
+    assert!(answer.verdicts.is_empty());
+}
+
+/// A machine of four classes and two rows, all of whose cells use entry 0 but
+/// those listed; glyph 0 is class 1. Entries lead to rows given by number.
+fn machine(cells: &[(usize, usize, u8)], entries: &[(u16, u16)]) -> Vec<u8> {
+    let mut rows = vec![0u8; 8];
+    for &(row, class, number) in cells {
+        rows[4 * row + class] = number;
+    }
+    let fields = Fields::new().to(8).w(4).ws(&[8, 12, 20]).ws(&[0, 0]).bs(&rows);
+    entries.iter().fold(fields, |fields, &(row, flags)| fields.w(12 + 4 * row).w(flags)).done()
+}
+
+#[test]
+fn a_walk_that_never_ends() {
+    let table = table_with_machine(&machine(&[(1, 1, 1)], &[(0, 0), (1, 0x4000)]));
+    let mut one = line(&[0], &[0], 0, 65_536);
+    one.starts = false;
+    assert_eq!(run(&table, 1, one, 0), Err(14));
+    one.starts = true;
+    let answer = run(&table, 1, one, 0).unwrap();
+    assert_eq!(answer.entries, 2);
+    // In row 0 nothing stays, and the one entry leads to row 0.
+    assert_eq!(answer.classes, [0]);
+}
+
+#[test]
+fn an_empty_line_is_walked_at_its_end() {
+    // Row 0, class 0 (end of text) stays and leads to row 1, which does not.
+    let table = table_with_machine(&machine(&[(0, 0, 1)], &[(0, 0), (1, 0x4000)]));
+    let empty = line(&[], &[], 0, 65_536);
+    assert_eq!(run(&table, 1, empty, 0).unwrap().entries, 2);
+    let mut within = empty;
+    within.ends = false;
+    assert_eq!(run(&table, 1, within, 0).unwrap().entries, 1);
+    // Where the end position stays for good, the empty line is refused too.
+    let table = table_with_machine(&machine(&[(0, 0, 1)], &[(0, 0), (0, 0x4000)]));
+    assert_eq!(run(&table, 1, empty, 0), Err(14));
+}
+
+#[test]
+fn marks() {
+    // Entry 1 marks, gives the marked glyph class 5 and the current one 6.
+    // At the first glyph there is no mark yet: it gets 6, is marked, and then
+    // the second glyph's entry gives it 5. At the end only the mark class
+    // counts: the second glyph, marked by now, gets 5.
+    let flags = 0x8000 | 5 << 7 | 6;
+    let table = table_with_machine(&machine(&[], &[(0, flags)]));
+    let answer = run(&table, 1, line(&[0, 0], &[0, 0], 0, 65_536), 0).unwrap();
+    assert_eq!(answer.classes, [5, 5]);
+    assert_eq!(answer.entries, 3);
+    // Without the end position's entry the second glyph would keep its 6: the
+    // end class uses an entry that gives nothing.
+    let table = table_with_machine(&machine(&[(0, 0, 1)], &[(0, flags), (0, 0)]));
+    let answer = run(&table, 1, line(&[0, 0], &[0, 0], 0, 65_536), 0).unwrap();
+    assert_eq!(answer.classes, [5, 6]);
+    // A deleted glyph is class 2 and walked like any other.
+    let table = table_with_machine(&machine(&[(0, 2, 1)], &[(0, 0), (0, 9)]));
+    let answer = run(&table, 1, line(&[0xFFFF, 0], &[0, 0], 0, 65_536), 0).unwrap();
+    assert_eq!(answer.classes, [9, 0]);
+}
+
+#[test]
+fn point_sizes() {
+    let at = |size| run(&empty_table(), 1, line(&[], &[], 0, size), 0).map(|_| ());
+    assert_eq!(at(0), Err(11));
+    assert_eq!(at(1), Ok(()));
+    assert_eq!(at(67_108_864), Ok(()));
+    assert_eq!(at(67_108_865), Err(11));
+    assert_eq!(at(-1), Err(11));
+}
+
+#[test]
+fn glyph_counts() {
+    let of = |count: usize| {
+        let (glyphs, advances) = (vec![0u16; count], vec![0i64; count]);
+        run(&empty_table(), 1, line(&glyphs, &advances, 0, 65_536), 0).map(|_| ())
+    };
+    assert_eq!(of(1_024), Ok(()));
+    assert_eq!(of(1_025), Err(10));
+}
+
+#[test]
+fn line_refusals_in_order() {
+    let table = empty_table();
+    let wide = 1_073_741_823;
+    let check = |line: Line| run(&table, 1, line, 0).map(|_| ());
+    assert_eq!(check(line(&[0], &[wide], wide, 1)), Ok(()));
+    assert_eq!(check(line(&[0], &[wide + 1], 0, 1)), Err(12));
+    assert_eq!(check(line(&[0], &[0], wide + 1, 1)), Err(12));
+    assert_eq!(check(line(&[0], &[0], -1, 1)), Err(12));
+    assert_eq!(check(line(&[0, 0], &[5, -5], 0, 1)), Err(12));
+    assert_eq!(check(line(&[0, 0], &[wide, 1], 0, 1)), Err(12));
+    assert_eq!(check(line(&[1], &[0], 0, 1)), Err(13));
+    assert_eq!(check(line(&[0xFFFF], &[0], 0, 1)), Ok(()));
+    assert_eq!(check(line(&[1], &[-1], 0, 0)), Err(11));
+    assert_eq!(check(line(&[1], &[-1], 0, 1)), Err(12));
+    let input = LineInput { table: &table, n: 1, line: line(&[1], &[0], 0, 0) };
+    for (classes, before, after) in [(0, 1, 1), (1, 2, 1), (1, 1, 0), (2, 2, 2)] {
+        assert_eq!(justify(&input, classes, before, after, 0), Err(9));
+    }
+    assert_eq!(justify(&input, 1, 1, 1, 0), Err(11));
+    assert_eq!(run(&table[..9], 0, line(&[1], &[], 0, 0), 0), Err(1));
+    assert_eq!(run(&table, 0, line(&[1], &[], 0, 0), 0), Err(2));
+}
+
+#[test]
+fn stage_totals_at_their_limit() {
+    // 16 em at 1,024 pt is 2^30 a side: eight sides are the limit, 2^33.
+    let limit = 16 << 16;
+    let table = table_with_records(&[([limit, limit, 0, 0], [2, 2]), ([0, 1, 0, 0], [2, 2])]);
+    let size = 67_108_864;
+    let of = |glyphs: &[u16], target: i64| {
+        let mut advances = vec![0; glyphs.len()];
+        advances[0] = 10;
+        run(&table, 2, line(glyphs, &advances, target, size), 0).map(|answer| answer.remainder)
+    };
+    assert_eq!(of(&[0, 0, 0, 0], 10), Ok(0));
+    assert_eq!(of(&[0, 0, 0, 0, 1], 10), Err(15));
+    assert_eq!(of(&[0, 0, 0, 0, 1], 11), Err(15));
+    // Shrinking, the totals are 0, and nothing can move.
+    assert_eq!(of(&[0, 0, 0, 0, 1], 9), Ok(-1));
+}
+
+#[test]
+fn stages_in_turn() {
+    // Stage 0: 4 and 6; stage 2: 5 unlimited; priority 3 takes no part.
+    let table = table_with_records(&[
+        ([4, 6, 0, 0], [0, 3]),
+        ([0, 5, 0, 0], [0x1002, 3]),
+        ([9, 9, 0, 0], [0x1003, 3]),
+    ]);
+    let of = |gap: i64| run(&table, 3, line(&[2, 0, 1], &[0, 0, 0], gap, 65_536), 0).unwrap();
+    let sides = |gap: i64| (of(gap).before, of(gap).after, of(gap).remainder);
+    assert_eq!(sides(0), (vec![0, 0, 0], vec![0, 0, 0], 0));
+    assert_eq!(sides(5), (vec![0, 2, 0], vec![0, 3, 0], 0));
+    assert_eq!(sides(10), (vec![0, 4, 0], vec![0, 6, 0], 0));
+    assert_eq!(sides(11), (vec![0, 4, 0], vec![0, 6, 1], 0));
+    assert_eq!(sides(15), (vec![0, 4, 0], vec![0, 6, 5], 0));
+    assert_eq!(sides(100), (vec![0, 4, 0], vec![0, 6, 90], 0));
+}
+
+#[test]
+fn what_is_left_goes_to_the_first_stage_with_room() {
+    // Stage 1: 2 and 4; stage 2: 3. Gap 19: 6 and 3, then 10 over 2 and 4 is
+    // floor(20/6) = 3 and 10 - 3 = 7.
+    let rooms = [side(2, 0, 3), side(1, 2, 4)];
+    assert_eq!(share(&rooms, 19), Shares { before: vec![0, 5], after: vec![3, 11], remainder: 0 });
+}
