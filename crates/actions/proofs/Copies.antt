@@ -1,0 +1,109 @@
+-- Bytes of the table copied into an action that is handed out.
+use Prim.Native.Nat.{ℕ, zero, suc, _+_, _-_, _*_, _≤_, _<_}
+use mathlib.Core.Path.{_≡_, refl, ap, ap₂, sym, _∙_, subst}
+use mathlib.Core.Bool.{Bool, true, false, cond}
+use mathlib.Core.List.{List, [], _∷_, _++_}
+use native.Mathlib.Omega.{arith}
+use native.Mathlib.Decide.{ℕ-discrete}
+use native.Mathlib.Numerals.{add-one}
+use lib.ListN.{length, getD, take, set, replicate}
+use lib.Seq.{take-all, length-take-le}
+use lib.Dec.{eqb}
+use borrow.Author.Tests.{ne-eqb}
+use Rattle.fields.specs.Field.{u16At}
+use Rattle.actions.specs.Faults.{dataSize}
+use Rattle.actions.specs.Actions.{bytesAt, contentAt, padded}
+
+module _ (t : List ℕ) where
+  pub bytes-length : (at n : ℕ) → length (bytesAt t at n) ≡ n
+  unfolding bytesAt
+  bytes-length at zero = refl
+  bytes-length at (suc n) = ap suc (bytes-length (at + 1) n)
+
+  -- one byte more: `x` is the byte as it was read
+  fill-next : (i m first x : ℕ) → i < m → x ≡ getD t (first + i) 0
+      → set (bytesAt t first i ++ replicate (m - i) 0) i x ≡ bytesAt t first (suc i) ++ replicate (m - suc i) 0
+  unfolding bytesAt
+  fill-next i zero first x h e = absurd (omega arith)
+  fill-next zero (suc m) first x h e =
+      let p : first + 0 ≡ first = omega arith in
+      let z : suc m - 0 ≡ suc m = omega arith in
+      let q : suc m - 1 ≡ m = omega arith in
+      ap (λ (k : ℕ). set (replicate k 0) 0 x) z ∙ ap₂ (λ (b k : ℕ). b ∷ replicate k 0) (e ∙ ap (λ (k : ℕ). getD t k 0) p) (sym q)
+  fill-next (suc i) (suc m) first x h e =
+      let p : first + suc i ≡ first + 1 + i = omega arith in
+      let q : suc m - suc i ≡ m - i = omega arith in
+      let s : suc m - suc (suc i) ≡ m - suc i = omega arith in
+      ap (λ (k : ℕ). set (getD t first 0 ∷ bytesAt t (first + 1) i ++ replicate k 0) (suc i) x) q
+      ∙ ap (λ (l : List ℕ). getD t first 0 ∷ l) (fill-next i m (first + 1) x (omega arith) (e ∙ ap (λ (k : ℕ). getD t k 0) p))
+      ∙ ap (λ (k : ℕ). getD t first 0 ∷ getD t (first + 1) 0 ∷ bytesAt t (first + 1 + 1) i ++ replicate k 0) (sym s)
+
+  pub fill-again : (i first x : ℕ) (bs : List ℕ) → bs ≡ bytesAt t first i ++ replicate (76 - i) 0 → i < 76 → x ≡ getD t (first + i) 0
+      → set bs i x ≡ bytesAt t first (i + 1) ++ replicate (76 - (i + 1)) 0
+  fill-again i first x bs e h f =
+      ap (λ (l : List ℕ). set l i x) e ∙ fill-next i 76 first x h f ∙ ap (λ (k : ℕ). bytesAt t first k ++ replicate (76 - k) 0) (sym (add-one i))
+
+  pub fill-end : (first i n : ℕ) → i ≡ n → bytesAt t first i ++ replicate (76 - i) 0 ≡ padded (bytesAt t first n)
+  fill-end first i n e =
+      ap₂ (λ (k j : ℕ). bytesAt t first k ++ replicate (76 - j) 0) e (e ∙ sym (bytes-length first n))
+
+  -- ---- how long the data is, with a size `s` or a count `n` as they were read
+
+  short : (p n : ℕ) → n ≤ 76 → n ≡ length (take 76 (bytesAt t p n))
+  short p n h = sym (ap length (take-all 76 (bytesAt t p n) (omega (arith, bytes-length p n))) ∙ bytes-length p n)
+
+  module _ (at kind : ℕ) where
+    pub size-long : (n : ℕ) → kind ≡ 0 → n ≡ u16At t (at + 18) → 32 < n → 76 ≡ length (take 76 (contentAt t at kind))
+    unfolding contentAt
+    size-long n z e h =
+        let l : 76 ≤ length (bytesAt t (at + 8) (12 + 2 * u16At t (at + 18))) = omega (arith, bytes-length (at + 8) (12 + 2 * u16At t (at + 18))) in
+        simp z (sym (length-take-le 76 (bytesAt t (at + 8) (12 + 2 * u16At t (at + 18))) l))
+
+    pub size-some : (n : ℕ) → kind ≡ 0 → n ≡ u16At t (at + 18) → n ≤ 32 → 12 + 2 * n ≡ length (take 76 (contentAt t at kind))
+    unfolding contentAt
+    size-some n z e h = simp (z, ← e) (short (at + 8) (12 + 2 * n) (omega arith))
+
+    -- ---- the data, `bs` being its bytes as they stand in the table, `s` of them
+
+    take-bytes : (j p n : ℕ) → take j (bytesAt t p n) ≡ bytesAt t p (length (take j (bytesAt t p n)))
+    unfolding bytesAt
+    take-bytes zero p n = refl
+    take-bytes (suc j) p zero = refl
+    take-bytes (suc j) p (suc n) = ap (λ (l : List ℕ). getD t p 0 ∷ l) (take-bytes j (p + 1) n)
+
+    plain : (kind ≡ 5 → ⊥) → contentAt t at kind ≡ bytesAt t (at + 8) (cond (eqb kind 0) (12 + 2 * u16At t (at + 18)) (dataSize kind))
+    unfolding contentAt
+    plain z = simp (ne-eqb kind 5 z) (go (eqb kind 0))
+      where
+        go : (b : Bool) → cond b (bytesAt t (at + 8) (12 + 2 * u16At t (at + 18))) (bytesAt t (at + 8) (dataSize kind))
+            ≡ bytesAt t (at + 8) (cond b (12 + 2 * u16At t (at + 18)) (dataSize kind))
+        go true = refl
+        go false = refl
+
+    pub size-other : (s : ℕ) → (kind ≡ 0 → ⊥) → s ≡ dataSize kind → s ≤ 16 → s ≡ length (take 76 (contentAt t at kind))
+    unfolding contentAt bytesAt
+    size-other s z e h = go (ℕ-discrete kind 5)
+      where
+        go : Dec (kind ≡ 5) → s ≡ length (take 76 (contentAt t at kind))
+        go (yes p) = e ∙ ap dataSize p ∙ ap (λ (k : ℕ). length (take 76 (contentAt t at k))) (sym p)
+        go (no p) =
+            subst (λ (k : ℕ). s ≡ length (take 76 (bytesAt t (at + 8) k))) e (short (at + 8) s (omega arith))
+            ∙ ap (λ (b : Bool). length (take 76 (bytesAt t (at + 8) (cond b (12 + 2 * u16At t (at + 18)) (dataSize kind))))) (sym (ne-eqb kind 0 z))
+            ∙ ap (λ (l : List ℕ). length (take 76 l)) (sym (plain p))
+
+    pub content-plain : (s : ℕ) (bs : List ℕ) → (kind ≡ 5 → ⊥) → s ≡ length (take 76 (contentAt t at kind)) → bs ≡ padded (bytesAt t (at + 8) s)
+        → bs ≡ padded (take 76 (contentAt t at kind))
+    content-plain s bs z e f =
+        let n = cond (eqb kind 0) (12 + 2 * u16At t (at + 18)) (dataSize kind) in
+        let p : take 76 (contentAt t at kind) ≡ take 76 (bytesAt t (at + 8) n) = ap (take 76) (plain z) in
+        f ∙ ap (λ (k : ℕ). padded (bytesAt t (at + 8) k)) (e ∙ ap length p) ∙ ap padded (sym (take-bytes 76 (at + 8) n) ∙ sym p)
+
+    pub content-five : (s : ℕ) (bs : List ℕ) → kind ≡ 5 → s ≡ length (take 76 (contentAt t at kind)) → bs ≡ padded (bytesAt t (at + 8) s)
+        → set (set bs 0 0) 1 0 ≡ padded (take 76 (contentAt t at kind))
+    unfolding contentAt bytesAt
+    content-five s bs z e f =
+        let four : s ≡ 4 = e ∙ ap (λ (k : ℕ). length (take 76 (contentAt t at k))) z in
+        let q : at + 8 + 1 + 1 ≡ at + 10 = omega arith in
+        ap (λ (l : List ℕ). set (set l 0 0) 1 0) (f ∙ ap (λ (k : ℕ). padded (bytesAt t (at + 8) k)) four)
+        ∙ ap (λ (p : ℕ). 0 ∷ 0 ∷ getD t p 0 ∷ getD t (p + 1) 0 ∷ replicate 72 0) q
+        ∙ ap (λ (k : ℕ). padded (take 76 (contentAt t at k))) (sym z)

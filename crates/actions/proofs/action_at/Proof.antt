@@ -1,0 +1,73 @@
+use denote.Ref.{now}
+use lib.ListN.{length, take}
+use mathlib.Core.Path.{_∙_, ap}
+use Prim.Native.Nat.{ℕ}
+use Rattle.actions.specs.Actions.{contentAt, actionAt, padded}
+use borrow.Author.Needs.{needs}
+use Rattle.actions.proofs.action_at.Statement.{statement}
+use Rattle.actions.proofs.action_at.Tie as tie
+use Rattle.actions.proofs.action_at.Reads as reads
+use Rattle.actions.proofs.action_at.Lts as lts
+use Rattle.actions.proofs.content_at.Reads as content-at-reads
+use Rattle.actions.proofs.content_size.Reads as content-size-reads
+use Rattle.fields.proofs.u16_at.Reads as u16-at-reads
+
+-- src/lib.rt:299:9
+u16-at-requires : tie.Need-u16-at-requires
+u16-at-requires c κs = search needs
+
+-- src/lib.rt:300:38
+add-u16-at : tie.Need-add-u16-at
+add-u16-at c = search needs
+
+-- src/lib.rt:300:9
+u16-at-requires-2 : tie.Need-u16-at-requires-2
+u16-at-requires-2 c κs = search needs
+
+-- src/lib.rt:301:9
+content-size-requires : tie.Need-content-size-requires
+content-size-requires c κs = search needs
+
+-- src/lib.rt:302:9
+content-at-requires : tie.Need-content-at-requires
+content-at-requires c κs = search needs
+
+-- src/lib.rt:303:25
+cast-t8 : tie.Need-cast-t8
+cast-t8 c = search needs
+
+-- src/lib.rt:303:45
+cast-t9 : tie.Need-cast-t9
+cast-t9 c = search needs
+
+-- src/lib.rt:303:64
+cast-t10 : tie.Need-cast-t10
+cast-t10 c = search needs
+
+-- src/lib.rt:295:1
+returns : tie.Need-returns
+unfolding actionAt
+returns c =
+    let a = c .before .before .before .before .before .args in
+    let kind = c .before .before .u16-at2 .ensures .0 in
+    λ i.
+    record {
+      class = c .before .before .before .u16-at .ensures .0 i;
+      kind = kind i;
+      size = (c .before .content-size .ensures .0 ∙ ap (λ (k : ℕ). length (take 76 (contentAt (now (a .table)) (a .at) k))) kind) i;
+      bytes = (c .content-at .ensures ∙ ap (λ (k : ℕ). padded (take 76 (contentAt (now (a .table)) (a .at) k))) kind) i;
+    }
+
+pub action-at-spec : {M : Type 1} → statement M
+action-at-spec =
+    tie.close
+    (tie.spec
+    u16-at-requires
+    add-u16-at
+    u16-at-requires-2
+    content-size-requires
+    content-at-requires
+    cast-t8
+    cast-t9
+    cast-t10
+    returns)

@@ -1,0 +1,336 @@
+// An action list (document 01, "The table"): a 32-bit count, 0 to 64, then actions that say their own lengths: class,
+// type, length, data. Here: its first fault, where an action of it stands, and what is read from an action.
+ghost use mathlib.Core.Path.{_≡_};
+ghost use mathlib.Core.List.{List};
+ghost use Prim.Native.Nat.{ℕ, _+_, _*_, _≤_, _<_, _^_};
+ghost use lib.ListN.{length, take};
+ghost use Rattle.meaning.specs.Ask.{held};
+ghost use Rattle.actions.specs.Faults.{glyphFault, addedFault, countFault, glyphsFault, type0Fault, type2Fault, type4Fault, type5Fault, dataFault, dataSize, lengthFault, actionFault, actionsFault, listFault};
+ghost use Rattle.actions.specs.Actions.{bytesAt, contentAt, actionAt, placeAfter, placeOf, Below, componentsAt, padded, clipped};
+use fields::Fault;
+use fields::Refusal;
+use parts::HeldAction;
+
+// Where an action stands, or nowhere.
+pub enum Spot {
+    At(usize),
+    Nowhere,
+}
+
+// A part of the table, the bytes from `from` on and before `to`.
+pub struct Stretch {
+    pub from: usize,
+    pub to: usize,
+}
+
+fn glyph_fault(table: &[u8], glyphs: usize, at: usize) -> Fault
+    ensures { λ r. ⌜ r ≡ glyphFault (now (table .entry)) glyphs at ⌝ }
+{
+    let inside = fields::in_table(table, at, 2);
+    let glyph = fields::u16_at(table, at);
+    fields::then(
+        inside,
+        fields::ruled(glyph < glyphs, Refusal::BadActions, at),
+    )
+}
+
+fn added_fault(table: &[u8], glyphs: usize, at: usize) -> Fault
+    ensures { λ r. ⌜ r ≡ addedFault (now (table .entry)) glyphs at ⌝ }
+{
+    let inside = fields::in_table(table, at, 2);
+    let glyph = fields::u16_at(table, at);
+    if glyph == 65535 {
+        return inside;
+    }
+    fields::then(
+        inside,
+        fields::ruled(glyph < glyphs, Refusal::BadActions, at),
+    )
+}
+
+// The count of the type 0 action at `at`.
+fn count_fault(table: &[u8], at: usize) -> Fault
+    requires { ⌜ at ≤ length (now table) ⌝ }
+    ensures { λ r. ⌜ r ≡ countFault (now (table .entry)) at ⌝ }
+{
+    let inside = fields::in_table(table, at + 18, 2);
+    let count = fields::u16_at(table, at + 18);
+    let length = fields::u32_at(table, at + 4);
+    let some = fields::ruled(1 <= count, Refusal::BadActions, at + 18);
+    let few = fields::ruled(count <= 32, Refusal::BadActions, at + 18);
+    let fit = fields::ruled(20 + 2 * count <= length, Refusal::BadActions, at + 18);
+    fields::then(inside, fields::then(some, fields::then(few, fit)))
+}
+
+// The first fault of `count` glyphs from `first` on.
+fn glyphs_fault(table: &[u8], glyphs: usize, first: usize, count: usize) -> Fault
+    ensures { λ r. ⌜ r ≡ glyphsFault (now (table .entry)) glyphs count first ⌝ }
+{
+    let mut at = first;
+    let mut left = count;
+    while 0 < left {
+        let fault = glyph_fault(table, glyphs, at);
+        if let Fault::Bad { refusal: _, at: _ } = fault {
+            return fault;
+        }
+        at += 2;
+        left -= 1;
+    }
+    Fault::Clear
+}
+
+fn type0_fault(table: &[u8], glyphs: usize, at: usize) -> Fault
+    requires { ⌜ at ≤ length (now table) ⌝ }
+    ensures { λ r. ⌜ r ≡ type0Fault (now (table .entry)) glyphs at ⌝ }
+{
+    let lower = fields::in_table(table, at + 8, 4);
+    let upper = fields::in_table(table, at + 12, 4);
+    let order = fields::in_table(table, at + 16, 2);
+    let count = count_fault(table, at);
+    let listed = glyphs_fault(table, glyphs, at + 20, fields::u16_at(table, at + 18));
+    let counted = fields::then(order, fields::then(count, listed));
+    fields::then(lower, fields::then(upper, counted))
+}
+
+fn type2_fault(table: &[u8], glyphs: usize, at: usize) -> Fault
+    requires { ⌜ at ≤ length (now table) ⌝ }
+    ensures { λ r. ⌜ r ≡ type2Fault (now (table .entry)) glyphs at ⌝ }
+{
+    let threshold = fields::in_table(table, at + 8, 4);
+    let added = added_fault(table, glyphs, at + 12);
+    let substitute = glyph_fault(table, glyphs, at + 14);
+    fields::then(threshold, fields::then(added, substitute))
+}
+
+fn type4_fault(table: &[u8], at: usize) -> Fault
+    requires { ⌜ at ≤ length (now table) ⌝ }
+    ensures { λ r. ⌜ r ≡ type4Fault (now (table .entry)) at ⌝ }
+{
+    let axis = fields::in_table(table, at + 8, 4);
+    let least = fields::in_table(table, at + 12, 4);
+    let usual = fields::in_table(table, at + 16, 4);
+    let most = fields::in_table(table, at + 20, 4);
+    fields::then(axis, fields::then(least, fields::then(usual, most)))
+}
+
+fn type5_fault(table: &[u8], glyphs: usize, at: usize) -> Fault
+    requires { ⌜ at ≤ length (now table) ⌝ }
+    ensures { λ r. ⌜ r ≡ type5Fault (now (table .entry)) glyphs at ⌝ }
+{
+    let flags = fields::in_table(table, at + 8, 2);
+    fields::then(flags, glyph_fault(table, glyphs, at + 10))
+}
+
+// The first fault in the data of the action at `at`, whose type is `kind`, 0 to 5.
+fn data_fault(table: &[u8], glyphs: usize, at: usize, kind: usize) -> Fault
+    requires { ⌜ at ≤ length (now table) ⌝ }
+    ensures { λ r. ⌜ r ≡ dataFault (now (table .entry)) glyphs at kind ⌝ }
+{
+    if kind == 0 {
+        return type0_fault(table, glyphs, at);
+    }
+    if kind == 1 {
+        return glyph_fault(table, glyphs, at + 8);
+    }
+    if kind == 2 {
+        return type2_fault(table, glyphs, at);
+    }
+    if kind == 3 {
+        return Fault::Clear;
+    }
+    if kind == 4 {
+        return type4_fault(table, at);
+    }
+    type5_fault(table, glyphs, at)
+}
+
+// How many bytes of data a type has, type 0's glyphs left out.
+fn data_size(kind: usize) -> usize
+    ensures { λ r. ⌜ (r ≡ dataSize kind) × (r ≤ 16) ⌝ }
+{
+    if kind == 0 {
+        return 12;
+    }
+    if kind == 1 {
+        return 2;
+    }
+    if kind == 2 {
+        return 8;
+    }
+    if kind == 3 {
+        return 0;
+    }
+    if kind == 4 {
+        return 16;
+    }
+    4
+}
+
+fn length_fault(table: &[u8], at: usize) -> Fault
+    requires { ⌜ at ≤ length (now table) ⌝ }
+    ensures { λ r. ⌜ r ≡ lengthFault (now (table .entry)) at ⌝ }
+{
+    let inside = fields::in_table(table, at + 4, 4);
+    let length = fields::u32_at(table, at + 4);
+    let size = data_size(fields::u16_at(table, at + 2));
+    let whole = fields::ruled(length % 4 == 0, Refusal::BadActions, at + 4);
+    let enough = fields::ruled(8 + size <= length, Refusal::BadActions, at + 4);
+    fields::then(inside, fields::then(whole, enough))
+}
+
+// The first fault of the action at `at`.
+fn action_fault(table: &[u8], glyphs: usize, at: usize) -> Fault
+    ensures { λ r. ⌜ r ≡ actionFault (now (table .entry)) glyphs at ⌝ }
+{
+    if table.len() < at {
+        return Fault::Bad {
+            refusal: Refusal::Outside,
+            at,
+        };
+    }
+    let kind = fields::u16_at(table, at + 2);
+    let class_in = fields::in_table(table, at, 2);
+    let classed = fields::ruled(fields::u16_at(table, at) <= 127, Refusal::BadActions, at);
+    let kind_in = fields::in_table(table, at + 2, 2);
+    let typed = fields::ruled(kind <= 5, Refusal::BadActions, at + 2);
+    let measured = length_fault(table, at);
+    let filled = fields::then(measured, data_fault(table, glyphs, at, kind));
+    let tail = fields::then(kind_in, fields::then(typed, filled));
+    fields::then(class_in, fields::then(classed, tail))
+}
+
+// The first fault of `count` actions from `first` on.
+fn actions_fault(table: &[u8], glyphs: usize, first: usize, count: usize) -> Fault
+    ensures { λ r. ⌜ r ≡ actionsFault (now (table .entry)) glyphs count first ⌝ }
+{
+    let mut at = first;
+    let mut left = count;
+    while 0 < left {
+        let fault = action_fault(table, glyphs, at);
+        if let Fault::Bad { refusal: _, at: _ } = fault {
+            return fault;
+        }
+        at += fields::u32_at(table, at + 4);
+        left -= 1;
+    }
+    Fault::Clear
+}
+
+// The first fault of the list at `at`, in a table read with `glyphs` glyphs.
+pub fn list_fault(table: &[u8], glyphs: usize, at: usize) -> Fault
+    ensures { λ r. ⌜ r ≡ listFault (now (table .entry)) glyphs at ⌝ }
+{
+    let inside = fields::in_table(table, at, 4);
+    if let Fault::Bad { refusal: _, at: _ } = inside {
+        return inside;
+    }
+    let count = fields::u32_at(table, at);
+    if 64 < count {
+        return Fault::Bad {
+            refusal: Refusal::BadActions,
+            at,
+        };
+    }
+    actions_fault(table, glyphs, at + 4, count)
+}
+
+// Where the action stands that is `count` after the one at `first`.
+fn place_after(table: &[u8], first: usize, count: u16) -> usize
+    requires { ⌜ first < 2 ^ 48 ⌝ }
+    ensures { λ r. ⌜ (r ≡ placeAfter (now (table .entry)) count first) × (r < 2 ^ 50) ⌝ }
+{
+    let mut at = first;
+    let mut left = count;
+    while 0 < left {
+        at += fields::u32_at(table, at + 4);
+        left -= 1;
+    }
+    at
+}
+
+// Where the action with a number stands, of the list at `at`.
+pub fn place_of(table: &[u8], at: usize, number: u16) -> Spot
+    requires { ⌜ at < 2 ^ 40 ⌝ }
+    ensures { λ r. ⌜ (r ≡ placeOf (now (table .entry)) at number) × Below (2 ^ 50) r ⌝ }
+{
+    if fields::u32_at(table, at) <= number as usize {
+        return Spot::Nowhere;
+    }
+    Spot::At(place_after(table, at + 4, number))
+}
+
+// How many bytes of data the action at `at` has, of type `kind`; at most 76.
+fn content_size(table: &[u8], at: usize, kind: usize) -> usize
+    requires { ⌜ at < 2 ^ 62 ⌝ }
+    ensures { λ r. ⌜ (r ≡ length (take 76 (contentAt (now (table .entry)) at kind))) × (r ≤ 76) ⌝ }
+{
+    if kind != 0 {
+        return data_size(kind);
+    }
+    let count = fields::u16_at(table, at + 18);
+    if 32 < count {
+        return 76;
+    }
+    12 + 2 * count
+}
+
+// `size` bytes of the table from `first` on, then zeros.
+fn copied(table: &[u8], first: usize, size: usize) -> [u8; 76]
+    requires { ⌜ (first < 2 ^ 63) × (size ≤ 76) ⌝ }
+    ensures { λ r. ⌜ r ≡ padded (bytesAt (now (table .entry)) first size) ⌝ }
+{
+    let mut bytes = [0u8; 76];
+    let mut i: usize = 0;
+    while i < size {
+        bytes[i] = fields::u8_at(table, first + i) as u8;
+        i += 1;
+    }
+    bytes
+}
+
+// The data of the action at `at`, of type `kind`: at most 76 bytes, then zeros.
+fn content_at(table: &[u8], at: usize, kind: usize) -> [u8; 76]
+    requires { ⌜ at < 2 ^ 62 ⌝ }
+    ensures { λ r. ⌜ r ≡ padded (take 76 (contentAt (now (table .entry)) at kind)) ⌝ }
+{
+    let mut bytes = copied(table, at + 8, content_size(table, at, kind));
+    if kind != 5 {
+        return bytes;
+    }
+    // the ignored flags
+    bytes[0] = 0;
+    bytes[1] = 0;
+    bytes
+}
+
+// The action at `at`. Data of more than 76 bytes, which no action without fault has, is cut there.
+pub fn action_at(table: &[u8], at: usize) -> HeldAction
+    requires { ⌜ at < 2 ^ 62 ⌝ }
+    ensures { λ r. ⌜ r ≡ held (clipped (actionAt (now (table .entry)) at)) ⌝ }
+{
+    let class = fields::u16_at(table, at);
+    let kind = fields::u16_at(table, at + 2);
+    let size = content_size(table, at, kind);
+    let bytes = content_at(table, at, kind);
+    HeldAction {
+        class: class as u16,
+        kind: kind as u16,
+        size: size as u32,
+        bytes,
+    }
+}
+
+// Where the glyphs of the type 0 action at `at` stand; an empty stretch for another type.
+pub fn components_at(table: &[u8], at: usize) -> Stretch
+    requires { ⌜ at < 2 ^ 62 ⌝ }
+    ensures { λ r. ⌜ r ≡ componentsAt (now (table .entry)) at ⌝ }
+{
+    if fields::u16_at(table, at + 2) != 0 {
+        return Stretch { from: 0, to: 0 };
+    }
+    let count = fields::u16_at(table, at + 18);
+    Stretch {
+        from: at + 20,
+        to: at + 20 + 2 * count,
+    }
+}

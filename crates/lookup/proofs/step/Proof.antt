@@ -1,0 +1,16 @@
+use Rattle.lookup.proofs.Pass.{serves-next}
+use borrow.Author.Needs.{needs}
+use Rattle.lookup.proofs.step.Statement.{statement}
+use Rattle.lookup.proofs.step.Tie as tie
+
+advance-requires : tie.Need-advance-requires
+advance-requires c κs = search needs
+
+value-here-requires : tie.Need-value-here-requires
+value-here-requires c κs = search needs
+
+returns : tie.Need-returns
+returns c = (c .value-here .ensures, serves-next _ _ _ (c .before .advance .ensures .serves))
+
+pub step-spec : {M : Type 1} → statement M
+step-spec = tie.close (tie.spec advance-requires value-here-requires returns)

@@ -1,0 +1,4 @@
+pub mod Units
+pub mod Lookup
+pub mod Find
+pub mod Pass

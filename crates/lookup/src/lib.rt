@@ -1,0 +1,408 @@
+// A lookup from glyphs to 16-bit values, formats 0, 2, 4, 6 and 8 (document 01, "The table"): its first fault, the value at a glyph, and a pass over
+// glyphs upward that looks at each unit once.
+ghost use mathlib.Core.Path.{_≡_};
+ghost use Prim.Native.Nat.{ℕ, _+_, _-_, _*_, _≤_, _<_, _^_};
+ghost use Rattle.fields.specs.declared.Fault.the-variants.{Clear};
+ghost use Rattle.lookup.specs.Units.{unitSize, firstOf, rangeFault, singleFault, unitFault, unitsFault, arrayFault, valuesFault, arraysFault, below};
+ghost use Rattle.lookup.specs.Lookup.{countedFault, segmentsFault, trimmedFault, lookupFault};
+ghost use Rattle.lookup.specs.Find.{covers, unitValue, unitsValue, hasUnits, unitCount, trimmedValue, valueFrom, valueOf};
+ghost use Rattle.lookup.specs.Pass.{Serves, Reaches};
+use fields::Fault;
+use fields::Refusal;
+
+// A glyph's value.
+pub enum Found {
+    Value(u16),
+    Nothing,
+}
+
+// Where a pass over glyphs upward stands: the unit at hand, and how many counted units are left from it on.
+pub struct Cursor {
+    pub at: usize,
+    pub left: usize,
+}
+
+// A glyph's value, and the cursor for the next glyph.
+pub struct Looked {
+    pub found: Found,
+    pub cursor: Cursor,
+}
+
+// a - b, or 0
+fn less(a: usize, b: usize) -> usize
+    ensures { λ r. ⌜ r ≡ a - b ⌝ }
+{
+    if b < a { a - b } else { 0 }
+}
+
+// How many glyphs from `first` on, up to but not with `end`, are below `glyphs`.
+fn below_count(glyphs: usize, first: usize, end: usize) -> usize
+    ensures { λ r. ⌜ r ≡ below glyphs first end ⌝ }
+{
+    if end < glyphs {
+        return less(end, first);
+    }
+    less(glyphs, first)
+}
+
+// The bytes of a unit.
+fn unit_size(format: usize) -> usize
+    ensures { λ r. ⌜ (r ≡ unitSize format) × (r ≤ 6) ⌝ }
+{
+    if format == 6 { 4 } else { 6 }
+}
+
+// A unit's first glyph.
+fn first_of(table: &[u8], format: usize, p: usize) -> usize
+    requires { ⌜ p < 2 ^ 40 ⌝ }
+    ensures { λ r. ⌜ r ≡ firstOf (now (table .entry)) format p ⌝ }
+{
+    if format == 6 {
+        return fields::u16_at(table, p);
+    }
+    fields::u16_at(table, p + 2)
+}
+
+// A unit of formats 2 and 4, whose first glyph has to be `least` or more.
+fn range_fault(table: &[u8], p: usize, least: usize) -> Fault
+    requires { ⌜ p < 2 ^ 40 ⌝ }
+    ensures { λ r. ⌜ r ≡ rangeFault (now (table .entry)) p least ⌝ }
+{
+    let last = fields::u16_at(table, p);
+    let first = fields::u16_at(table, p + 2);
+    let last_in = fields::in_table(table, p, 2);
+    let first_in = fields::in_table(table, p + 2, 2);
+    let rises = fields::ruled(least <= first, Refusal::BadLookup, p + 2);
+    let ordered = fields::ruled(first <= last, Refusal::BadLookup, p + 2);
+    let word_in = fields::in_table(table, p + 4, 2);
+    let judged = fields::then(rises, fields::then(ordered, word_in));
+    fields::then(last_in, fields::then(first_in, judged))
+}
+
+// A unit of format 6.
+fn single_fault(table: &[u8], p: usize, least: usize) -> Fault
+    requires { ⌜ p < 2 ^ 40 ⌝ }
+    ensures { λ r. ⌜ r ≡ singleFault (now (table .entry)) p least ⌝ }
+{
+    let glyph = fields::u16_at(table, p);
+    let glyph_in = fields::in_table(table, p, 2);
+    let rises = fields::ruled(least <= glyph, Refusal::BadLookup, p);
+    let value_in = fields::in_table(table, p + 2, 2);
+    fields::then(glyph_in, fields::then(rises, value_in))
+}
+
+fn unit_fault(table: &[u8], format: usize, p: usize, least: usize) -> Fault
+    requires { ⌜ p < 2 ^ 40 ⌝ }
+    ensures { λ r. ⌜ r ≡ unitFault (now (table .entry)) format p least ⌝ }
+{
+    if format == 6 {
+        return single_fault(table, p, least);
+    }
+    range_fault(table, p, least)
+}
+
+// `count` units from `start` on, each past the last glyph of the one before.
+fn units_fault(table: &[u8], format: usize, count: usize, start: usize) -> Fault
+    requires { ⌜ start + 6 * count < 2 ^ 40 ⌝ }
+    ensures { λ r. ⌜ r ≡ unitsFault (now (table .entry)) format count start 0 ⌝ }
+{
+    let size = unit_size(format);
+    let mut p = start;
+    let mut least: usize = 0;
+    let mut left = count;
+    while 0 < left {
+        let fault = unit_fault(table, format, p, least);
+        if let Fault::Bad { refusal: _, at: _ } = fault {
+            return fault;
+        }
+        least = fields::u16_at(table, p) + 1;
+        p += size;
+        left -= 1;
+    }
+    Fault::Clear
+}
+
+// An array of values needs no walk: the first value that is not inside stands past as many as there is room for.
+fn array_fault(table: &[u8], count: usize, start: usize) -> Fault
+    requires { ⌜ start < 2 ^ 40 ⌝ }
+    ensures { λ r. ⌜ r ≡ arrayFault (now (table .entry)) count start ⌝ }
+{
+    let room = less(table.len(), start) / 2;
+    fields::ruled(count <= room, Refusal::Outside, start + 2 * room)
+}
+
+// The array of format 4's unit at `p`, in the lookup at `at`.
+fn values_fault(table: &[u8], glyphs: usize, at: usize, p: usize) -> Fault
+    requires { ⌜ (at < 2 ^ 32) × (p < 2 ^ 40) ⌝ }
+    ensures { λ r. ⌜ r ≡ valuesFault (now (table .entry)) glyphs at p ⌝ }
+{
+    let last = fields::u16_at(table, p);
+    let first = fields::u16_at(table, p + 2);
+    let offset = fields::u16_at(table, p + 4);
+    array_fault(table, below_count(glyphs, first, last + 1), at + offset)
+}
+
+// The arrays of `count` units of format 4 from `start` on.
+fn arrays_fault(table: &[u8], glyphs: usize, at: usize, count: usize, start: usize) -> Fault
+    requires { ⌜ (at < 2 ^ 32) × (start + 6 * count < 2 ^ 40) ⌝ }
+    ensures { λ r. ⌜ r ≡ arraysFault (now (table .entry)) glyphs at count start ⌝ }
+{
+    let mut p = start;
+    let mut left = count;
+    while 0 < left {
+        let fault = values_fault(table, glyphs, at, p);
+        if let Fault::Bad { refusal: _, at: _ } = fault {
+            return fault;
+        }
+        p += 6;
+        left -= 1;
+    }
+    Fault::Clear
+}
+
+// unitSize, nUnits and the counted units of formats 2, 4 and 6.
+fn counted_fault(table: &[u8], format: usize, at: usize) -> Fault
+    requires { ⌜ at < 2 ^ 32 ⌝ }
+    ensures { λ r. ⌜ r ≡ countedFault (now (table .entry)) format at ⌝ }
+{
+    let size_in = fields::in_table(table, at + 2, 2);
+    let sized = fields::ruled(
+        fields::u16_at(table, at + 2) == unit_size(format),
+        Refusal::BadLookup,
+        at + 2,
+    );
+    let count_in = fields::in_table(table, at + 4, 2);
+    let units = units_fault(table, format, fields::u16_at(table, at + 4), at + 12);
+    fields::then(size_in, fields::then(sized, fields::then(count_in, units)))
+}
+
+// Format 4.
+fn segments_fault(table: &[u8], glyphs: usize, at: usize) -> Fault
+    requires { ⌜ at < 2 ^ 32 ⌝ }
+    ensures { λ r. ⌜ r ≡ segmentsFault (now (table .entry)) glyphs at ⌝ }
+{
+    let units = counted_fault(table, 4, at);
+    if let Fault::Bad { refusal: _, at: _ } = units {
+        return units;
+    }
+    arrays_fault(table, glyphs, at, fields::u16_at(table, at + 4), at + 12)
+}
+
+// Format 8.
+fn trimmed_fault(table: &[u8], glyphs: usize, at: usize) -> Fault
+    requires { ⌜ at < 2 ^ 32 ⌝ }
+    ensures { λ r. ⌜ r ≡ trimmedFault (now (table .entry)) glyphs at ⌝ }
+{
+    let first_in = fields::in_table(table, at + 2, 2);
+    let count_in = fields::in_table(table, at + 4, 2);
+    let first = fields::u16_at(table, at + 2);
+    let count = fields::u16_at(table, at + 4);
+    let values = array_fault(table, below_count(glyphs, first, first + count), at + 6);
+    fields::then(first_in, fields::then(count_in, values))
+}
+
+// The first fault of the lookup at `at`, for a font of `glyphs` glyphs.
+pub fn lookup_fault(table: &[u8], glyphs: usize, at: usize) -> Fault
+    requires { ⌜ at < 2 ^ 32 ⌝ }
+    ensures { λ r. ⌜ r ≡ lookupFault (now (table .entry)) glyphs at ⌝ }
+{
+    let inside = fields::in_table(table, at, 2);
+    if let Fault::Bad { refusal: _, at: _ } = inside {
+        return inside;
+    }
+    let format = fields::u16_at(table, at);
+    if format == 0 {
+        return array_fault(table, glyphs, at + 2);
+    }
+    if format == 2 {
+        return counted_fault(table, 2, at);
+    }
+    if format == 4 {
+        return segments_fault(table, glyphs, at);
+    }
+    if format == 6 {
+        return counted_fault(table, 6, at);
+    }
+    if format == 8 {
+        return trimmed_fault(table, glyphs, at);
+    }
+    Fault::Bad {
+        refusal: Refusal::BadLookup,
+        at,
+    }
+}
+
+// Whether the unit at `p` covers a glyph.
+fn covers_glyph(table: &[u8], format: usize, glyph: usize, p: usize) -> bool
+    requires { ⌜ p < 2 ^ 40 ⌝ }
+    ensures { λ r. ⌜ r ≡ covers (now (table .entry)) format glyph p ⌝ }
+{
+    if glyph < first_of(table, format, p) {
+        return false;
+    }
+    glyph <= fields::u16_at(table, p)
+}
+
+// What the unit at `p`, in the lookup at `at`, gives a glyph that it covers.
+fn unit_value(table: &[u8], format: usize, at: usize, glyph: usize, p: usize) -> u16
+    requires { ⌜ (at < 2 ^ 32) × ((glyph < 2 ^ 16) × (p < 2 ^ 40)) ⌝ }
+    ensures { λ r. ⌜ r ≡ unitValue (now (table .entry)) format at glyph p ⌝ }
+{
+    if format == 2 {
+        return fields::u16_at(table, p + 4) as u16;
+    }
+    if format == 4 {
+        let offset = fields::u16_at(table, p + 4);
+        let index = less(glyph, fields::u16_at(table, p + 2));
+        return fields::u16_at(table, at + offset + 2 * index) as u16;
+    }
+    fields::u16_at(table, p + 2) as u16
+}
+
+// What the first of `count` units from `start` on that covers the glyph gives it.
+fn units_value(
+    table: &[u8],
+    format: usize,
+    at: usize,
+    glyph: usize,
+    count: usize,
+    start: usize,
+) -> Found
+    requires { ⌜ (at < 2 ^ 32) × ((glyph < 2 ^ 16) × (start + 6 * count < 2 ^ 40)) ⌝ }
+    ensures { λ r. ⌜ r ≡ unitsValue (now (table .entry)) format at glyph count start ⌝ }
+{
+    let size = unit_size(format);
+    let mut p = start;
+    let mut left = count;
+    while 0 < left {
+        if covers_glyph(table, format, glyph, p) {
+            return Found::Value(unit_value(table, format, at, glyph, p));
+        }
+        p += size;
+        left -= 1;
+    }
+    Found::Nothing
+}
+
+// Formats 2, 4 and 6 have units.
+fn has_units(format: usize) -> bool
+    ensures { λ r. ⌜ r ≡ hasUnits format ⌝ }
+{
+    if format == 2 {
+        return true;
+    }
+    if format == 4 {
+        return true;
+    }
+    format == 6
+}
+
+// How many units the lookup at `at` counts.
+fn unit_count(table: &[u8], at: usize) -> usize
+    requires { ⌜ at < 2 ^ 32 ⌝ }
+    ensures { λ r. ⌜ (r ≡ unitCount (now (table .entry)) at) × (r < 2 ^ 16) ⌝ }
+{
+    if has_units(fields::u16_at(table, at)) {
+        return fields::u16_at(table, at + 4);
+    }
+    0
+}
+
+// Format 8.
+fn trimmed_value(table: &[u8], at: usize, glyph: usize) -> Found
+    requires { ⌜ (at < 2 ^ 32) × (glyph < 2 ^ 16) ⌝ }
+    ensures { λ r. ⌜ r ≡ trimmedValue (now (table .entry)) at glyph ⌝ }
+{
+    let first = fields::u16_at(table, at + 2);
+    let count = fields::u16_at(table, at + 4);
+    if glyph < first {
+        return Found::Nothing;
+    }
+    if first + count <= glyph {
+        return Found::Nothing;
+    }
+    Found::Value(fields::u16_at(table, at + 6 + 2 * (glyph - first)) as u16)
+}
+
+// The value at a glyph where the units that are looked at are `count`, from `start` on.
+fn value_from(table: &[u8], at: usize, glyph: usize, count: usize, start: usize) -> Found
+    requires { ⌜ (at < 2 ^ 32) × ((glyph < 2 ^ 16) × (start + 6 * count < 2 ^ 40)) ⌝ }
+    ensures { λ r. ⌜ r ≡ valueFrom (now (table .entry)) at glyph count start ⌝ }
+{
+    let format = fields::u16_at(table, at);
+    if format == 0 {
+        return Found::Value(fields::u16_at(table, at + 2 + 2 * glyph) as u16);
+    }
+    if format == 8 {
+        return trimmed_value(table, at, glyph);
+    }
+    units_value(table, format, at, glyph, count, start)
+}
+
+// The value at a glyph in the lookup at `at`, for a font of `glyphs` glyphs.
+pub fn find(table: &[u8], glyphs: usize, at: usize, glyph: u16) -> Found
+    requires { ⌜ at < 2 ^ 32 ⌝ }
+    ensures { λ r. ⌜ r ≡ valueOf (now (table .entry)) glyphs at glyph ⌝ }
+{
+    let number = glyph as usize;
+    if glyphs <= number {
+        return Found::Nothing;
+    }
+    value_from(table, at, number, unit_count(table, at), at + 12)
+}
+
+// A pass over the lookup at `at` begins.
+pub fn begin(table: &[u8], at: usize) -> Cursor
+    requires { ⌜ at < 2 ^ 32 ⌝ }
+    ensures { λ r. ⌜ ((glyphs : ℕ) → lookupFault (now (table .entry)) glyphs at ≡ Clear → Serves (now (table .entry)) at 0 r) ⌝ }
+{
+    Cursor {
+        at: at + 12,
+        left: unit_count(table, at),
+    }
+}
+
+// Past the units that end below `glyph`.
+fn advance(table: &[u8], at: usize, cursor: Cursor, glyph: usize) -> Cursor
+    requires { ⌜ Serves (now table) at glyph cursor ⌝ }
+    ensures { λ r. ⌜ Reaches (now (table .entry)) at glyph r ⌝ }
+{
+    let size = unit_size(fields::u16_at(table, at));
+    let mut p = cursor.at;
+    let mut left = cursor.left;
+    while 0 < left {
+        if glyph <= fields::u16_at(table, p) {
+            return Cursor { at: p, left };
+        }
+        p += size;
+        left -= 1;
+    }
+    Cursor { at: p, left }
+}
+
+// The value at a glyph by the unit at hand alone.
+fn value_here(table: &[u8], glyphs: usize, at: usize, cursor: Cursor, glyph: usize) -> Found
+    requires { ⌜ (at < 2 ^ 32) × ((glyph < 2 ^ 16) × Reaches (now table) at glyph cursor) ⌝ }
+    ensures { λ r. ⌜ r ≡ valueOf (now (table .entry)) glyphs at glyph ⌝ }
+{
+    let start = cursor.at;
+    if glyphs <= glyph {
+        return Found::Nothing;
+    }
+    if cursor.left == 0 {
+        return value_from(table, at, glyph, 0, start);
+    }
+    value_from(table, at, glyph, 1, start)
+}
+
+// The value at a glyph of a pass that has come to it, and the cursor for the next glyph.
+pub fn step(table: &[u8], glyphs: usize, at: usize, cursor: Cursor, glyph: usize) -> Looked
+    requires { ⌜ (at < 2 ^ 32) × ((glyph < 2 ^ 16) × Serves (now table) at glyph cursor) ⌝ }
+    ensures { λ r. ⌜ (r .found ≡ valueOf (now (table .entry)) glyphs at glyph) × Serves (now (table .entry)) at (glyph + 1) (r .cursor) ⌝ }
+{
+    let next = advance(table, at, cursor, glyph);
+    Looked {
+        found: value_here(table, glyphs, at, next, glyph),
+        cursor: next,
+    }
+}
