@@ -1,0 +1,131 @@
+-- What the loop of the walk keeps, and what a turn makes of it: its locals are where the walk stands. Assumes nothing.
+use Prim.Native.Nat.{ℕ, _+_, _*_, _≤_, _<_}
+use mathlib.Core.Path.{_≡_, refl, ap, ap₂, sym, _∙_, subst}
+use mathlib.Core.Bool.{Bool, true, false, cond, not, _&&_, false≢true}
+use mathlib.Core.Option.{Option, orElse}
+use mathlib.Core.List.{List}
+use native.Mathlib.Omega.{arith}
+use native.Mathlib.Nat.{mul-le-mul}
+use lib.Dec.{leb}
+use lib.ListN.{length, replicate}
+use borrow.Author.Tests.{leb-true, leb-false}
+use Rattle.parts.specs.declared.Entry.{Entry}
+use Rattle.units.specs.Flags.{setsMark, stays, markClass, currentClass}
+use Rattle.walk.specs.declared.Walked.{Walked}
+use Rattle.walk.specs.Walk.{Machine, Line, Conf, going, stopped, Fits, glyphs, kindAt, current, give, met, givenBy, onAt, begin, Ends, walked}
+use Rattle.walk.specs.Line.{padded, handedOut, glyphOf}
+use Rattle.walk.proofs.Theory.{current-within, give-length, At, at-first, at-stays, at-moves, at-stops, spent-never}
+use Rattle.walk.proofs.Laws.{ends-walked, never-walked}
+use Rattle.walk.proofs.Line.{padded-zeros, first-zeros, give-padded}
+
+abbrev pub confOf : ℕ → ℕ → ℕ → List ℕ → ℕ → Conf
+confOf row place mark given count = record { row = row; place = place; mark = glyphOf mark; given = given; count = count }
+
+-- what the loop holds is where the walk stands
+pub record Keeps (m : Machine) (l : Line) (row place mark spent count : ℕ) (out : List ℕ) : Type 0 where
+  pub given : List ℕ
+  pub stands : At m l (confOf row place mark given count) spent
+  pub out-is : out ≡ padded given
+
+-- what the code has after an entry, by its callees' equations
+pub record Entered (m : Machine) (l : Line) (row place mark : ℕ) (out : List ℕ) (e : Entry) (marked : ℕ) (out′ : List ℕ) : Type 0 where
+  pub entry-is : e ≡ m .cell row (kindAt (l .kinds) (l .ends) place)
+  pub mark-is : glyphOf marked ≡ cond (setsMark (e .flags)) (orElse (current (glyphs l) place) (glyphOf mark)) (glyphOf mark)
+  pub out-is : out′ ≡ give (current (glyphs l) place) (currentClass (e .flags)) (give (glyphOf mark) (markClass (e .flags)) out)
+
+pub entered : (m : Machine) (l : Line) (row place mark : ℕ) (out : List ℕ) (kind glyph marked : ℕ) (e : Entry) (out′ : List ℕ)
+    → kind ≡ kindAt (l .kinds) (l .ends) place
+    → e ≡ m .cell row kind
+    → glyphOf glyph ≡ current (glyphs l) place
+    → glyphOf marked ≡ cond (setsMark (e .flags)) (orElse (glyphOf glyph) (glyphOf mark)) (glyphOf mark)
+    → out′ ≡ give (glyphOf glyph) (currentClass (e .flags)) (give (glyphOf mark) (markClass (e .flags)) out)
+    → Entered m l row place mark out e marked out′
+entered m l row place mark out kind glyph marked e out′ ek ee eg em eo =
+    record {
+      entry-is = ee ∙ ap (m .cell row) ek;
+      mark-is = em ∙ ap (λ (g : Option ℕ). cond (setsMark (e .flags)) (orElse g (glyphOf mark)) (glyphOf mark)) eg;
+      out-is = eo ∙ ap (λ (g : Option ℕ). give g (currentClass (e .flags)) (give (glyphOf mark) (markClass (e .flags)) out)) eg;
+    }
+
+module _ (m : Machine) (l : Line) (ok : Fits m l) where
+  pub keeps-first : (k row : ℕ) → k ≡ 1024 → glyphs l ≤ k → row ≡ cond (l .starts) 0 1 → Keeps m l row 0 1024 0 0 (replicate k 0)
+  unfolding begin
+  keeps-first k row e h er =
+      record {
+        given = replicate (glyphs l) 0;
+        stands = rw er (at-first m l ok);
+        out-is = padded-zeros (glyphs l) k e h;
+      }
+
+  -- S entries at one place
+  pub keeps-never : (row place mark spent count : ℕ) (out : List ℕ) (k : ℕ) → Keeps m l row place mark spent count out → m .rows ≤ spent → k ≡ 1024
+      → _≡_ {A = Walked} (record { ends = false; count = 0; classes = replicate k 0 }) (handedOut (walked m l))
+  unfolding handedOut
+  keeps-never row place mark spent count out k w h e =
+      let g : (s : Conf) × (walked m l ≡ going s) = never-walked m l (spent-never m l ok _ spent (w .stands) h) in
+      ap (λ (x : List ℕ). record { ends = false; count = 0; classes = x }) (first-zeros k e) ∙ sym (ap handedOut (g .1))
+
+  module _ (row place mark spent count : ℕ) (out : List ℕ) (e : Entry) (marked : ℕ) (out′ : List ℕ)
+      (w : Keeps m l row place mark spent count out) (few : spent < m .rows) (t : Entered m l row place mark out e marked out′) where
+    abbrev s : Conf
+    s = confOf row place mark (w .given) count
+
+    on-is : (p : ℕ) → onAt p (met m l s) l s ≡ confOf (e .row) p marked (givenBy (met m l s) l s) (count + 1)
+    on-is p =
+        ap₂ (λ (r : ℕ) (g : Option ℕ). record { row = r; place = p; mark = g; given = givenBy (met m l s) l s; count = count + 1 })
+        (ap (λ (x : Entry). x .row) (sym (t .entry-is)))
+        (sym (rw (t .entry-is) at (t .mark-is)))
+
+    out-given : out′ ≡ padded (givenBy (met m l s) l s)
+    out-given =
+        let f : ℕ = met m l s .flags in
+        let g : Option ℕ = current (glyphs l) place in
+        let b : List ℕ = give (glyphOf mark) (markClass f) (w .given) in
+        let n : length (w .given) ≡ glyphs l = w .stands .long in
+        let n′ : length b ≡ glyphs l = give-length (glyphOf mark) (markClass f) (w .given) ∙ n in
+        (rw (t .entry-is) at (t .out-is))
+        ∙ ap (λ (x : List ℕ). give g (currentClass f) (give (glyphOf mark) (markClass f) x)) (w .out-is)
+        ∙ ap (give g (currentClass f)) (give-padded (glyphOf mark) (markClass f) (w .given) (rw n (w .stands .mark-within)))
+        ∙ give-padded g (currentClass f) b (rw n′ (current-within (glyphs l) place))
+
+    stay-is : (b : Bool) → stays (e .flags) ≡ b → stays (met m l s .flags) ≡ b
+    stay-is b h = rw (t .entry-is) at h
+
+    pub keeps-stays : stays (e .flags) ≡ true → Keeps m l (e .row) place marked (spent + 1) (count + 1) out′
+    keeps-stays h =
+        record {
+          given = givenBy (met m l s) l s;
+          stands = subst (λ (x : Conf). At m l x (spent + 1)) (on-is place) (at-stays m l ok s spent (w .stands) few (stay-is true h));
+          out-is = out-given;
+        }
+
+    pub keeps-moves : stays (e .flags) ≡ false → place < glyphs l → Keeps m l (e .row) (place + 1) marked 0 (count + 1) out′
+    keeps-moves h p =
+        record {
+          given = givenBy (met m l s) l s;
+          stands = subst (λ (x : Conf). At m l x 0) (on-is (place + 1)) (at-moves m l ok s spent (w .stands) few (stay-is false h) p);
+          out-is = out-given;
+        }
+
+    pub keeps-stops : stays (e .flags) ≡ false → glyphs l ≤ place
+        → _≡_ {A = Walked} (record { ends = true; count = count + 1; classes = out′ }) (handedOut (walked m l))
+    unfolding handedOut Ends
+    keeps-stops h p =
+        let q : walked m l ≡ stopped (givenBy (met m l s) l s) (count + 1) =
+        ends-walked m l ok _ _ (count + 1, at-stops m l ok s spent (w .stands) few (stay-is false h) p)
+        in
+        ap (λ (x : List ℕ). record { ends = true; count = count + 1; classes = x }) out-given ∙ sym (ap handedOut q)
+
+pub count-small : (m : Machine) (l : Line) (row place mark spent count : ℕ) (out : List ℕ) → Keeps m l row place mark spent count out → m .rows ≤ 256 → glyphs l ≤ 1024 → count ≤ 262400
+count-small m l row place mark spent count out w h n =
+    let p : place ≤ 1024 = omega (arith, w .stands .place-low) in
+    let e : m .rows * place ≤ 256 * 1024 = mul-le-mul h p in
+    omega (arith, w .stands .count-low, w .stands .spent-low)
+
+-- an entry stops the walk exactly where it does not stay at the end position
+pub stops-true : (b : Bool) (n place : ℕ) → (not b && leb n place) ≡ true → (b ≡ false) × (n ≤ place)
+stops-true false n place e = (refl, leb-true n place e)
+stops-true true n place e = absurd (false≢true e)
+
+pub stops-false : (b : Bool) (n place : ℕ) → (not b && leb n place) ≡ false → b ≡ false → place < n
+stops-false b n place e h = leb-false n place (rw h at e)

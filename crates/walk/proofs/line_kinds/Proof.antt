@@ -1,0 +1,71 @@
+-- `walk::line_kinds` meets its contract. Assumes nothing.
+use Prim.Native.Nat.{ℕ, _-_, _≤_}
+use mathlib.Core.List.{map}
+use mathlib.Core.Path.{_≡_, refl, ap, _∙_}
+use native.Mathlib.Omega.{arith}
+use lib.Seq.{take-length}
+use lib.ListN.{length, take, length-set}
+use borrow.Author.Needs.{needs}
+use Rattle.walk.proofs.Line.{first-zeros, padded-more}
+use Rattle.walk.specs.Line.{lineKind, padded}
+use Rattle.walk.proofs.line_kinds.Statement.{statement}
+use Rattle.walk.proofs.line_kinds.Tie as tie
+
+abbrev Inv-loop : tie.InvT-loop
+Inv-loop table here glyphs kinds₀ i₀ kinds i = (kinds ≡ padded (map (lineKind table here) (take i glyphs))) × (i ≤ length glyphs) × (length kinds ≡ 1024)
+
+abbrev μ-loop : tie.MeasureT-loop
+μ-loop table here glyphs kinds₀ i₀ kinds i = length glyphs - i
+
+loop-holds : tie.Need-loop-holds Inv-loop μ-loop
+loop-holds c = (first-zeros 1024 refl, omega arith, refl)
+
+mul-line-kind : tie.Need-mul-line-kind Inv-loop μ-loop
+mul-line-kind c = omega arith
+
+shared-slice-read-line-kind : tie.Need-shared-slice-read-line-kind Inv-loop μ-loop
+shared-slice-read-line-kind c = omega arith
+
+line-kind-requires : tie.Need-line-kind-requires Inv-loop μ-loop
+line-kind-requires c κs = search needs
+
+array-write-kinds : tie.Need-array-write-kinds Inv-loop μ-loop
+array-write-kinds c = omega arith
+
+add-i : tie.Need-add-i Inv-loop μ-loop
+add-i c = omega arith
+
+loop-less : tie.Need-loop-less Inv-loop μ-loop
+loop-less c = omega arith
+
+loop-again : tie.Need-loop-again Inv-loop μ-loop
+loop-again c =
+    let a = c .before .before .before .before .before .before .args in
+    let l = c .before .before .before .loop in (
+      padded-more (lineKind (a .table .now) (a .here)) (a .glyphs .now) (l .i) (c .line-kind .result) (l .kinds) (omega arith) (c .before .before .before .before .before .before .pre .1) (l .inv .0) (c .line-kind .ensures),
+      omega arith,
+      simp length-set (l .inv .2),
+    )
+
+returns : tie.Need-returns Inv-loop μ-loop
+returns c =
+    let a = c .before .before .before .before .args in
+    let l = c .before .loop in
+    let e : l .i ≡ length (a .glyphs .now) = omega arith in
+    l .inv .0 ∙ ap (λ (x : ℕ). padded (map (lineKind (a .table .now) (a .here)) (take x (a .glyphs .now)))) e ∙ ap (λ x. padded (map (lineKind (a .table .now) (a .here)) x)) (take-length (a .glyphs .now))
+
+pub line-kinds-spec : {M : Type 1} → statement M
+line-kinds-spec =
+    tie.close
+    (tie.spec
+    Inv-loop
+    μ-loop
+    loop-holds
+    mul-line-kind
+    shared-slice-read-line-kind
+    line-kind-requires
+    array-write-kinds
+    add-i
+    loop-less
+    loop-again
+    returns)

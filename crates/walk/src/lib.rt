@@ -1,0 +1,162 @@
+// The class walk of a line (document 01, "The class walk"), by the machine in a table's bytes.
+ghost use mathlib.Core.Path.{_≡_};
+ghost use mathlib.Core.Bool.{cond, not, _&&_};
+ghost use mathlib.Core.Option.{orElse};
+ghost use Prim.Native.Nat.{ℕ, _≤_, _<_, _^_};
+ghost use lib.Dec.{leb};
+ghost use lib.ListN.{length};
+ghost use Rattle.units.specs.Flags.{setsMark, stays, markClass, currentClass};
+ghost use Rattle.walk.specs.Walk.{give, kindAt, current, walked};
+ghost use Rattle.walk.specs.Line.{machineAt, lineOf, lineKind, lineKinds, padded, handedOut, glyphOf, Sound, Kinds};
+
+// A walk that ended, with its count of entries and a class for each glyph of the line; zeros follow.
+// Of a walk that never ends the count is 0 and so is every class.
+pub struct Walked {
+    pub ends: bool,
+    pub count: u32,
+    pub classes: [u8; 1024],
+}
+
+// A glyph is named by its place in the line; this is no glyph's place.
+const NONE: usize = 1024;
+
+// The machine's class of a glyph: 2 for a deleted one.
+fn line_kind(table: &[u8], here: usize, glyph: u16) -> u8
+    requires { ⌜ here < 2 ^ 32 ⌝ }
+    ensures { λ r. ⌜ r ≡ lineKind (now (table .entry)) here glyph ⌝ }
+{
+    if glyph == 0xFFFF {
+        return 2;
+    }
+    machine::class_of(table, here, glyph)
+}
+
+// The machine's classes of a line's glyphs; zeros past the line.
+pub fn line_kinds(table: &[u8], here: usize, glyphs: &[u16]) -> [u8; 1024]
+    requires { ⌜ (here < 2 ^ 32) × (length (now glyphs) ≤ 1024) ⌝ }
+    ensures { λ r. ⌜ r ≡ padded (lineKinds (now (table .entry)) here (now (glyphs .entry))) ⌝ }
+{
+    let mut kinds = [0u8; 1024];
+    let mut i: usize = 0;
+    while i < glyphs.len() {
+        kinds[i] = line_kind(table, here, glyphs[i]);
+        i += 1;
+    }
+    kinds
+}
+
+// The row in which a line's walk begins.
+fn first_row(starts: bool) -> usize
+    ensures { λ r. ⌜ r ≡ cond starts 0 1 ⌝ }
+{
+    if starts { 0 } else { 1 }
+}
+
+// The class at a place, the end position after the last glyph among them.
+fn kind_at(kinds: &[u8], place: usize, ends: bool) -> usize
+    ensures { λ r. ⌜ r ≡ kindAt (now (kinds .entry)) ends place ⌝ }
+{
+    if place < kinds.len() {
+        return kinds[place] as usize;
+    }
+    if ends { 0 } else { 3 }
+}
+
+// The current glyph of a line of so many: none at the end position.
+fn glyph_at(place: usize, glyphs: usize) -> usize
+    requires { ⌜ glyphs ≤ 1024 ⌝ }
+    ensures { λ r. ⌜ glyphOf r ≡ current glyphs place ⌝ }
+{
+    if place < glyphs { place } else { NONE }
+}
+
+// The marked glyph after an entry with these flags.
+fn mark_after(flags: u16, glyph: usize, mark: usize) -> usize
+    ensures { λ r. ⌜ glyphOf r ≡ cond (setsMark flags) (orElse (glyphOf glyph) (glyphOf mark)) (glyphOf mark) ⌝ }
+{
+    if units::sets_mark(flags) {
+        if glyph < NONE {
+            return glyph;
+        }
+    }
+    mark
+}
+
+// Gives a class to a glyph, unless the class is 0 or there is no glyph.
+fn give_class(classes: &mut [u8; 1024], glyph: usize, class: u8)
+    ensures { λ r. ⌜ now (classes .exit) ≡ give (glyphOf glyph) class (now (classes .entry)) ⌝ }
+{
+    if glyph < NONE {
+        if class != 0 {
+            classes[glyph] = class;
+        }
+    }
+}
+
+// Gives the mark class to the marked glyph, then the current class to the current glyph.
+fn give_classes(classes: &mut [u8; 1024], mark: usize, glyph: usize, flags: u16)
+    ensures { λ r. ⌜ now (classes .exit) ≡ give (glyphOf glyph) (currentClass flags) (give (glyphOf mark) (markClass flags) (now (classes .entry))) ⌝ }
+{
+    give_class(classes, mark, units::mark_class(flags));
+    give_class(classes, glyph, units::current_class(flags));
+}
+
+// Whether an entry with these flags stops the walk of a line of so many glyphs.
+fn stops(flags: u16, place: usize, glyphs: usize) -> bool
+    ensures { λ r. ⌜ r ≡ (not (stays flags) && leb glyphs place) ⌝ }
+{
+    if units::stays_put(flags) {
+        return false;
+    }
+    glyphs <= place
+}
+
+// The walk of a line by the machine of `rows` rows, over the machine's classes of the line's glyphs.
+// Once `rows` entries have stayed at one place, a row was met there twice, so the walk never leaves the place.
+pub fn walk_line(
+    table: &[u8],
+    here: usize,
+    rows: usize,
+    kinds: &[u8],
+    starts: bool,
+    ends: bool,
+) -> Walked
+    requires { ⌜ (Sound (now table) here rows) × (Kinds (now table) here (now kinds)) ⌝ }
+    ensures { λ r. ⌜ r ≡ handedOut (walked (machineAt (now (table .entry)) here rows) (lineOf (now (kinds .entry)) starts ends)) ⌝ }
+{
+    let mut classes = [0u8; 1024];
+    let mut row = first_row(starts);
+    let mut place: usize = 0;
+    let mut mark: usize = NONE;
+    let mut spent: usize = 0;
+    let mut count: u32 = 0;
+    while spent < rows {
+        let entry = machine::cell(table, here, row, kind_at(kinds, place, ends));
+        let flags = entry.flags;
+        let glyph = glyph_at(place, kinds.len());
+        let marked = mark_after(flags, glyph, mark);
+        give_classes(&mut classes, mark, glyph, flags);
+        let taken = count + 1;
+        if stops(flags, place, kinds.len()) {
+            return Walked {
+                ends: true,
+                count: taken,
+                classes,
+            };
+        }
+        row = entry.row as usize;
+        mark = marked;
+        count = taken;
+        if units::stays_put(flags) {
+            spent += 1;
+        } else {
+            place += 1;
+            spent = 0;
+        }
+    }
+    Walked {
+        ends: false,
+        count: 0,
+        classes: [0u8; 1024],
+    }
+}
