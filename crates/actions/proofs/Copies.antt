@@ -2,46 +2,43 @@
 use Prim.Native.Nat.{ℕ, zero, suc, _+_, _-_, _*_, _≤_, _<_}
 use mathlib.Core.Path.{_≡_, refl, ap, ap₂, sym, _∙_, subst}
 use mathlib.Core.Bool.{Bool, true, false, cond}
-use mathlib.Core.List.{List, [], _∷_, _++_}
+use mathlib.Core.List.{List, _∷_, _++_}
 use native.Mathlib.Omega.{arith}
 use native.Mathlib.Decide.{ℕ-discrete}
 use native.Mathlib.Numerals.{add-one}
 use lib.ListN.{length, getD, take, set, replicate}
-use lib.Seq.{take-all, length-take-le}
+use lib.Seq.{take-all, length-take-le, set-at}
 use lib.Dec.{eqb}
 use borrow.Author.Tests.{ne-eqb}
 use Rattle.fields.specs.Field.{u16At}
+use Rattle.lists.specs.Upto.{from}
+use Rattle.lists.proofs.UptoLaws.{length-from}
 use Rattle.actions.specs.Faults.{dataSize}
 use Rattle.actions.specs.Actions.{bytesAt, contentAt, padded}
 
 module _ (t : List ℕ) where
   pub bytes-length : (at n : ℕ) → length (bytesAt t at n) ≡ n
   unfolding bytesAt
-  bytes-length at zero = refl
-  bytes-length at (suc n) = ap suc (bytes-length (at + 1) n)
+  bytes-length at n = length-from (λ i. getD t i 0) n at
 
-  -- one byte more: `x` is the byte as it was read
-  fill-next : (i m first x : ℕ) → i < m → x ≡ getD t (first + i) 0
-      → set (bytesAt t first i ++ replicate (m - i) 0) i x ≡ bytesAt t first (suc i) ++ replicate (m - suc i) 0
-  unfolding bytesAt
-  fill-next i zero first x h e = absurd (omega arith)
-  fill-next zero (suc m) first x h e =
-      let p : first + 0 ≡ first = omega arith in
-      let z : suc m - 0 ≡ suc m = omega arith in
-      let q : suc m - 1 ≡ m = omega arith in
-      ap (λ (k : ℕ). set (replicate k 0) 0 x) z ∙ ap₂ (λ (b k : ℕ). b ∷ replicate k 0) (e ∙ ap (λ (k : ℕ). getD t k 0) p) (sym q)
-  fill-next (suc i) (suc m) first x h e =
-      let p : first + suc i ≡ first + 1 + i = omega arith in
-      let q : suc m - suc i ≡ m - i = omega arith in
-      let s : suc m - suc (suc i) ≡ m - suc i = omega arith in
-      ap (λ (k : ℕ). set (getD t first 0 ∷ bytesAt t (first + 1) i ++ replicate k 0) (suc i) x) q
-      ∙ ap (λ (l : List ℕ). getD t first 0 ∷ l) (fill-next i m (first + 1) x (omega arith) (e ∙ ap (λ (k : ℕ). getD t k 0) p))
-      ∙ ap (λ (k : ℕ). getD t first 0 ∷ getD t (first + 1) 0 ∷ bytesAt t (first + 1 + 1) i ++ replicate k 0) (sym s)
+  bytes-last : (i at : ℕ) (zs : List ℕ) → bytesAt t at (suc i) ++ zs ≡ bytesAt t at i ++ getD t (at + i) 0 ∷ zs
+  unfolding bytesAt from
+  bytes-last zero at zs = let e : at ≡ at + 0 = omega arith in ap (λ (k : ℕ). getD t k 0 ∷ zs) e
+  bytes-last (suc i) at zs =
+      let e : suc at + i ≡ at + suc i = omega arith in
+      ap (λ (l : List ℕ). getD t at 0 ∷ l) (bytes-last i (suc at) zs ∙ ap (λ (k : ℕ). bytesAt t (suc at) i ++ getD t k 0 ∷ zs) e)
 
+  -- one byte more is copied: `x` is the byte as it was read
   pub fill-again : (i first x : ℕ) (bs : List ℕ) → bs ≡ bytesAt t first i ++ replicate (76 - i) 0 → i < 76 → x ≡ getD t (first + i) 0
       → set bs i x ≡ bytesAt t first (i + 1) ++ replicate (76 - (i + 1)) 0
   fill-again i first x bs e h f =
-      ap (λ (l : List ℕ). set l i x) e ∙ fill-next i 76 first x h f ∙ ap (λ (k : ℕ). bytesAt t first k ++ replicate (76 - k) 0) (sym (add-one i))
+      let zs = replicate {A = ℕ} (76 - (i + 1)) 0 in
+      let one : 76 - i ≡ suc (76 - (i + 1)) = omega arith in
+      ap (λ (l : List ℕ). set l i x) (e ∙ ap (λ (k : ℕ). bytesAt t first i ++ replicate k 0) one)
+      ∙ set-at (bytesAt t first i) 0 zs x i (bytes-length first i)
+      ∙ ap (λ (b : ℕ). bytesAt t first i ++ b ∷ zs) f
+      ∙ sym (bytes-last i first zs)
+      ∙ ap (λ (k : ℕ). bytesAt t first k ++ zs) (sym (add-one i))
 
   pub fill-end : (first i n : ℕ) → i ≡ n → bytesAt t first i ++ replicate (76 - i) 0 ≡ padded (bytesAt t first n)
   fill-end first i n e =
@@ -66,10 +63,10 @@ module _ (t : List ℕ) where
     -- ---- the data, `bs` being its bytes as they stand in the table, `s` of them
 
     take-bytes : (j p n : ℕ) → take j (bytesAt t p n) ≡ bytesAt t p (length (take j (bytesAt t p n)))
-    unfolding bytesAt
+    unfolding bytesAt from
     take-bytes zero p n = refl
     take-bytes (suc j) p zero = refl
-    take-bytes (suc j) p (suc n) = ap (λ (l : List ℕ). getD t p 0 ∷ l) (take-bytes j (p + 1) n)
+    take-bytes (suc j) p (suc n) = ap (λ (l : List ℕ). getD t p 0 ∷ l) (take-bytes j (suc p) n)
 
     plain : (kind ≡ 5 → ⊥) → contentAt t at kind ≡ bytesAt t (at + 8) (cond (eqb kind 0) (12 + 2 * u16At t (at + 18)) (dataSize kind))
     unfolding contentAt
@@ -81,7 +78,7 @@ module _ (t : List ℕ) where
         go false = refl
 
     pub size-other : (s : ℕ) → (kind ≡ 0 → ⊥) → s ≡ dataSize kind → s ≤ 16 → s ≡ length (take 76 (contentAt t at kind))
-    unfolding contentAt bytesAt
+    unfolding contentAt bytesAt from
     size-other s z e h = go (ℕ-discrete kind 5)
       where
         go : Dec (kind ≡ 5) → s ≡ length (take 76 (contentAt t at kind))
@@ -100,10 +97,10 @@ module _ (t : List ℕ) where
 
     pub content-five : (s : ℕ) (bs : List ℕ) → kind ≡ 5 → s ≡ length (take 76 (contentAt t at kind)) → bs ≡ padded (bytesAt t (at + 8) s)
         → set (set bs 0 0) 1 0 ≡ padded (take 76 (contentAt t at kind))
-    unfolding contentAt bytesAt
+    unfolding contentAt bytesAt from
     content-five s bs z e f =
         let four : s ≡ 4 = e ∙ ap (λ (k : ℕ). length (take 76 (contentAt t at k))) z in
-        let q : at + 8 + 1 + 1 ≡ at + 10 = omega arith in
+        let q : suc (suc (at + 8)) ≡ at + 10 = omega arith in
         ap (λ (l : List ℕ). set (set l 0 0) 1 0) (f ∙ ap (λ (k : ℕ). padded (bytesAt t (at + 8) k)) four)
-        ∙ ap (λ (p : ℕ). 0 ∷ 0 ∷ getD t p 0 ∷ getD t (p + 1) 0 ∷ replicate 72 0) q
+        ∙ ap (λ (p : ℕ). 0 ∷ 0 ∷ getD t p 0 ∷ getD t (suc p) 0 ∷ replicate 72 0) q
         ∙ ap (λ (k : ℕ). padded (take 76 (contentAt t at k))) (sym z)

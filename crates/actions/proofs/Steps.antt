@@ -1,7 +1,7 @@
 -- The outcomes of the definitions that go by cases, and one step of each recursion, in the form that a return or a turn of a loop asks for.
 use Prim.Native.Nat.{ℕ, zero, suc, _+_, _-_, _*_, _≤_, _<_}
 use mathlib.Core.List.{List}
-use mathlib.Core.Path.{_≡_, refl, ap, _∙_}
+use mathlib.Core.Path.{_≡_, refl, _∙_}
 use native.Mathlib.Omega.{arith}
 use lib.ListN.{length}
 use lib.Dec.{ltb}
@@ -12,7 +12,6 @@ use Rattle.fields.specs.Field.{u16At, u32At}
 use Rattle.fields.specs.Faults.{_then_, rule, inside}
 use Rattle.fields.specs.Laws.{then-first, then-stop, then-clear, inside-holds, bad-inside}
 use Rattle.actions.specs.declared.Spot.the-variants.{At, Nowhere}
-use Rattle.actions.specs.declared.Stretch.{Stretch}
 use Rattle.actions.specs.Faults.{glyphFault, addedFault, type0Fault, type2Fault, type4Fault, type5Fault, dataFault, actionFault, actionsFault, listFault}
 use Rattle.actions.specs.Actions.{placeAfter, placeOf, componentsAt}
 

@@ -6,6 +6,7 @@ use mathlib.Core.List.{List, [], _∷_, _++_}
 use lib.Dec.{ltb, eqb}
 use lib.ListN.{length, getD, take, replicate}
 use Rattle.fields.specs.Field.{u16At, u32At}
+use Rattle.lists.specs.Upto.{from}
 use Rattle.meaning.specs.Meaning.{Action}
 use Rattle.actions.specs.declared.Spot.{Spot}
 use Rattle.actions.specs.declared.Spot.the-variants.{At, Nowhere}
@@ -14,8 +15,7 @@ use Rattle.actions.specs.Faults.{dataSize}
 
 -- n bytes from `at` on
 unfoldable pub bytesAt : List ℕ → ℕ → ℕ → List ℕ
-bytesAt t at zero = []
-bytesAt t at (suc n) = getD t at 0 ∷ bytesAt t (at + 1) n
+bytesAt t at n = from (λ i. getD t i 0) n at
 
 -- the data of the action at `at`, of a type
 unfoldable pub contentAt : List ℕ → ℕ → ℕ → List ℕ

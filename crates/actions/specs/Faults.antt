@@ -1,5 +1,5 @@
 -- The first fault of an action list (document 01, "The table", the list, and "Numbers of refusal", 4 and 8): fields in stored order, each found inside the table
--- before it is judged, the count before the actions. `at` is an action's start where its fields are named by their distance from it. Padding is not read.
+-- before it is judged, the count before the actions. An action's fields are named by their distance from its start, `at`; what follows its data up to its length is left alone.
 use Prim.Native.Nat.{ℕ, _+_, _*_, _%_}
 use mathlib.Core.List.{List}
 use mathlib.Core.Bool.{cond, _||_}
@@ -19,7 +19,7 @@ glyphFault t glyphs at = inside t at 2 then rule (ltb (u16At t at) glyphs) BadAc
 unfoldable pub addedFault : List ℕ → ℕ → ℕ → Fault
 addedFault t glyphs at = inside t at 2 then rule (eqb (u16At t at) 0xFFFF || ltb (u16At t at) glyphs) BadActions at
 
--- type 0's count, 1 to 32; here its glyphs are weighed against the action's length
+-- type 0's count, 1 to 32; whether the action's length has room for so many glyphs is judged here, not at the length
 unfoldable pub countFault : List ℕ → ℕ → Fault
 countFault t at =
     inside t (at + 18) 2

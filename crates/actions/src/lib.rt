@@ -1,8 +1,7 @@
 // An action list (document 01, "The table"): a 32-bit count, 0 to 64, then actions that say their own lengths: class,
 // type, length, data. Here: its first fault, where an action of it stands, and what is read from an action.
 ghost use mathlib.Core.Path.{_≡_};
-ghost use mathlib.Core.List.{List};
-ghost use Prim.Native.Nat.{ℕ, _+_, _*_, _≤_, _<_, _^_};
+ghost use Prim.Native.Nat.{_≤_, _<_, _^_};
 ghost use lib.ListN.{length, take};
 ghost use Rattle.meaning.specs.Ask.{held};
 ghost use Rattle.actions.specs.Faults.{glyphFault, addedFault, countFault, glyphsFault, type0Fault, type2Fault, type4Fault, type5Fault, dataFault, dataSize, lengthFault, actionFault, actionsFault, listFault};

@@ -6,8 +6,6 @@ use mathlib.Core.List.{List, [], _∷_}
 use Rattle.fields.specs.Field.{u16At, u32At}
 use Rattle.units.specs.Fixed.{fixedSize}
 use Rattle.units.specs.Flags.{keptFlags}
-use Rattle.parts.specs.declared.Limits.{Limits}
-use Rattle.parts.specs.declared.Flags.{Flags}
 use Rattle.parts.specs.declared.Pair.{Pair}
 use Rattle.cluster.specs.declared.Sought.{Sought}
 use Rattle.cluster.specs.declared.Sought.the-variants.{Record, Nothing}

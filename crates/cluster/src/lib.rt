@@ -1,7 +1,7 @@
 // A width cluster (document 01, "The table"): a 32-bit count, 1 to 128, then pairs of 24 bytes: class, before grow,
 // before shrink, after grow, after shrink, grow flags, shrink flags. Here: its first fault, and what is read from it.
 ghost use mathlib.Core.Path.{_≡_};
-ghost use Prim.Native.Nat.{ℕ, _+_, _*_, _<_, _^_};
+ghost use Prim.Native.Nat.{_+_, _*_, _<_, _^_};
 ghost use Rattle.fields.specs.Field.{u16At, u32At};
 ghost use Rattle.units.specs.Fixed.{fixedSize};
 ghost use Rattle.units.specs.Flags.{keptFlags};

@@ -6,45 +6,31 @@ use Rattle.actions.specs.Actions.{contentAt, actionAt, padded}
 use borrow.Author.Needs.{needs}
 use Rattle.actions.proofs.action_at.Statement.{statement}
 use Rattle.actions.proofs.action_at.Tie as tie
-use Rattle.actions.proofs.action_at.Reads as reads
-use Rattle.actions.proofs.action_at.Lts as lts
-use Rattle.actions.proofs.content_at.Reads as content-at-reads
-use Rattle.actions.proofs.content_size.Reads as content-size-reads
-use Rattle.fields.proofs.u16_at.Reads as u16-at-reads
 
--- src/lib.rt:299:9
 u16-at-requires : tie.Need-u16-at-requires
 u16-at-requires c κs = search needs
 
--- src/lib.rt:300:38
 add-u16-at : tie.Need-add-u16-at
 add-u16-at c = search needs
 
--- src/lib.rt:300:9
 u16-at-requires-2 : tie.Need-u16-at-requires-2
 u16-at-requires-2 c κs = search needs
 
--- src/lib.rt:301:9
 content-size-requires : tie.Need-content-size-requires
 content-size-requires c κs = search needs
 
--- src/lib.rt:302:9
 content-at-requires : tie.Need-content-at-requires
 content-at-requires c κs = search needs
 
--- src/lib.rt:303:25
 cast-t8 : tie.Need-cast-t8
 cast-t8 c = search needs
 
--- src/lib.rt:303:45
 cast-t9 : tie.Need-cast-t9
 cast-t9 c = search needs
 
--- src/lib.rt:303:64
 cast-t10 : tie.Need-cast-t10
 cast-t10 c = search needs
 
--- src/lib.rt:295:1
 returns : tie.Need-returns
 unfolding actionAt
 returns c =

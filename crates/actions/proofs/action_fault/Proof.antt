@@ -5,84 +5,58 @@ use Rattle.actions.specs.Faults.{actionFault}
 use borrow.Author.Needs.{needs}
 use Rattle.actions.proofs.action_fault.Statement.{statement}
 use Rattle.actions.proofs.action_fault.Tie as tie
-use Rattle.actions.proofs.action_fault.Reads as reads
-use Rattle.actions.proofs.action_fault.Lts as lts
-use Rattle.actions.proofs.data_fault.Reads as data-fault-reads
-use Rattle.actions.proofs.length_fault.Reads as length-fault-reads
-use Rattle.fields.proofs.in_table.Reads as in-table-reads
-use Rattle.fields.proofs.ruled.Reads as ruled-reads
-use Rattle.fields.proofs.then.Reads as then-reads
-use Rattle.fields.proofs.u16_at.Reads as u16-at-reads
 
--- src/lib.rt:180:9
 returns : tie.Need-returns
 returns c = sym (action-past _ _ _ (c .if1 .taken))
 
--- src/lib.rt:182:38
 add-u16-at : tie.Need-add-u16-at
 add-u16-at c = search needs
 
--- src/lib.rt:182:9
 u16-at-requires : tie.Need-u16-at-requires
 u16-at-requires c κs = search needs
 
--- src/lib.rt:183:9
 in-table-requires : tie.Need-in-table-requires
 in-table-requires c κs = search needs
 
--- src/lib.rt:184:33
 u16-at-requires-2 : tie.Need-u16-at-requires-2
 u16-at-requires-2 c κs = search needs
 
--- src/lib.rt:184:9
 ruled-requires : tie.Need-ruled-requires
 ruled-requires c κs = search needs
 
--- src/lib.rt:185:43
 add-in-table : tie.Need-add-in-table
 add-in-table c = search needs
 
--- src/lib.rt:185:9
 in-table-requires-2 : tie.Need-in-table-requires-2
 in-table-requires-2 c κs = search needs
 
--- src/lib.rt:186:63
 add-ruled : tie.Need-add-ruled
 add-ruled c = search needs
 
--- src/lib.rt:186:9
 ruled-requires-2 : tie.Need-ruled-requires-2
 ruled-requires-2 c κs = search needs
 
--- src/lib.rt:187:9
 length-fault-requires : tie.Need-length-fault-requires
 length-fault-requires c κs = search needs
 
--- src/lib.rt:188:41
 data-fault-requires : tie.Need-data-fault-requires
 data-fault-requires c κs = search needs
 
--- src/lib.rt:188:9
 then-requires : tie.Need-then-requires
 then-requires c κs = search needs
 
--- src/lib.rt:189:38
 then-requires-2 : tie.Need-then-requires-2
 then-requires-2 c κs = search needs
 
--- src/lib.rt:189:9
 then-requires-3 : tie.Need-then-requires-3
 then-requires-3 c κs = search needs
 
--- src/lib.rt:190:28
 then-requires-4 : tie.Need-then-requires-4
 then-requires-4 c κs = search needs
 
--- src/lib.rt:190:5
 then-requires-5 : tie.Need-then-requires-5
 then-requires-5 c κs = search needs
 
--- src/lib.rt:176:1
 returns-2 : tie.Need-returns-2
 unfolding actionFault
 returns-2 c =

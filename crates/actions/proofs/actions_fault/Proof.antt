@@ -7,10 +7,6 @@ use Rattle.actions.specs.Faults.{actionsFault}
 use Rattle.actions.proofs.Steps.{action-begins}
 use Rattle.actions.proofs.actions_fault.Statement.{statement}
 use Rattle.actions.proofs.actions_fault.Tie as tie
-use Rattle.actions.proofs.actions_fault.Reads as reads
-use Rattle.actions.proofs.actions_fault.Lts as lts
-use Rattle.actions.proofs.action_fault.Reads as action-fault-reads
-use Rattle.fields.proofs.u32_at.Reads as u32-at-reads
 
 abbrev Inv-loop : tie.InvT-loop
 Inv-loop table glyphs first count at₀ left₀ at left = actionsFault table glyphs count first ≡ actionsFault table glyphs left at
@@ -18,19 +14,15 @@ Inv-loop table glyphs first count at₀ left₀ at left = actionsFault table gly
 abbrev μ-loop : tie.MeasureT-loop
 μ-loop table glyphs first count at₀ left₀ at left = left
 
--- src/lib.rt:199:5
 loop-holds : tie.Need-loop-holds Inv-loop μ-loop
 loop-holds c = refl
 
--- src/lib.rt:200:13
 action-fault-requires : tie.Need-action-fault-requires Inv-loop μ-loop
 action-fault-requires c κs = search needs
 
--- src/lib.rt:202:13
 enum-told : tie.Need-enum-told Inv-loop μ-loop
 enum-told c = search needs
 
--- src/lib.rt:202:13
 returns : tie.Need-returns Inv-loop μ-loop
 returns c =
     c .before .before .action-fault .ensures
@@ -39,34 +31,27 @@ returns c =
 enum-told-2 : tie.Need-enum-told-2 Inv-loop μ-loop
 enum-told-2 c = search needs
 
--- src/lib.rt:204:37
 add-u32-at : tie.Need-add-u32-at Inv-loop μ-loop
 add-u32-at c = omega (arith, action-begins _ _ _ (sym (c .before .before .action-fault .ensures) ∙ c .enum-told2 .given .1))
 
--- src/lib.rt:204:15
 u32-at-requires : tie.Need-u32-at-requires Inv-loop μ-loop
 u32-at-requires c κs = search needs
 
--- src/lib.rt:204:9
 add-at : tie.Need-add-at Inv-loop μ-loop
 add-at c = omega (arith, action-begins _ _ _ (sym (c .before .before .before .action-fault .ensures) ∙ c .before .enum-told2 .given .1))
 
--- src/lib.rt:205:9
 sub-left : tie.Need-sub-left Inv-loop μ-loop
 sub-left c = search needs
 
--- src/lib.rt:199:5
 loop-less : tie.Need-loop-less Inv-loop μ-loop
 loop-less c = search needs
 
--- src/lib.rt:199:5
 loop-again : tie.Need-loop-again Inv-loop μ-loop
 loop-again c =
     c .before .before .before .before .before .loop .inv
     ∙ walk-next _ _ _ _ _ _ _ _ (c .before .before .before .before .loop-test .taken) (sym (c .before .before .before .action-fault .ensures) ∙ c .before .enum-told2 .given .1)
     (ap (λ (k : ℕ). c .before .before .before .before .before .loop .at + k) (c .u32-at .ensures .0)) refl
 
--- src/lib.rt:194:1
 returns-2 : tie.Need-returns-2 Inv-loop μ-loop
 returns-2 c = sym (c .before .loop .inv ∙ walk-none _ _ _ _ _ _ (c .loop-test .left))
 

@@ -3,47 +3,34 @@ use Rattle.actions.proofs.Steps.{components-none, components-some}
 use borrow.Author.Needs.{needs}
 use Rattle.actions.proofs.components_at.Statement.{statement}
 use Rattle.actions.proofs.components_at.Tie as tie
-use Rattle.actions.proofs.components_at.Reads as reads
-use Rattle.actions.proofs.components_at.Lts as lts
-use Rattle.fields.proofs.u16_at.Reads as u16-at-reads
 
--- src/lib.rt:311:30
 add-u16-at : tie.Need-add-u16-at
 add-u16-at c = search needs
 
--- src/lib.rt:311:8
 u16-at-requires : tie.Need-u16-at-requires
 u16-at-requires c κs = search needs
 
--- src/lib.rt:312:9
 returns : tie.Need-returns
 returns c = sym (components-none _ _ _ (c .before .u16-at .ensures .0) (c .if1 .taken))
 
--- src/lib.rt:314:39
 add-u16-at-2 : tie.Need-add-u16-at-2
 add-u16-at-2 c = search needs
 
--- src/lib.rt:314:9
 u16-at-requires-2 : tie.Need-u16-at-requires-2
 u16-at-requires-2 c κs = search needs
 
--- src/lib.rt:315:21
 add-t5 : tie.Need-add-t5
 add-t5 c = search needs
 
--- src/lib.rt:315:34
 add-t4 : tie.Need-add-t4
 add-t4 c = search needs
 
--- src/lib.rt:315:44
 mul-t7 : tie.Need-mul-t7
 mul-t7 c = search needs
 
--- src/lib.rt:315:34
 add-t8 : tie.Need-add-t8
 add-t8 c = search needs
 
--- src/lib.rt:307:1
 returns-2 : tie.Need-returns-2
 returns-2 c = sym (components-some _ _ _ _ (c .before .before .u16-at .ensures .0) (c .u16-at2 .ensures .0) (c .before .if1 .left))
 

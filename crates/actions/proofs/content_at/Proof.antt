@@ -2,36 +2,25 @@ use Rattle.actions.proofs.Copies.{content-plain, content-five}
 use borrow.Author.Needs.{needs}
 use Rattle.actions.proofs.content_at.Statement.{statement}
 use Rattle.actions.proofs.content_at.Tie as tie
-use Rattle.actions.proofs.content_at.Reads as reads
-use Rattle.actions.proofs.content_at.Lts as lts
-use Rattle.actions.proofs.content_size.Reads as content-size-reads
-use Rattle.actions.proofs.copied.Reads as copied-reads
 
--- src/lib.rt:284:35
 add-copied : tie.Need-add-copied
 add-copied c = search needs
 
--- src/lib.rt:284:43
 content-size-requires : tie.Need-content-size-requires
 content-size-requires c κs = search needs
 
--- src/lib.rt:284:21
 copied-requires : tie.Need-copied-requires
 copied-requires c κs = search needs
 
--- src/lib.rt:286:9
 returns : tie.Need-returns
 returns c = content-plain _ _ _ _ _ (c .if1 .taken) (c .before .before .content-size .ensures .0) (c .before .copied .ensures)
 
--- src/lib.rt:289:5
 array-write-bytes : tie.Need-array-write-bytes
 array-write-bytes c = search needs
 
--- src/lib.rt:290:5
 array-write-bytes-2 : tie.Need-array-write-bytes-2
 array-write-bytes-2 c = search needs
 
--- src/lib.rt:280:1
 returns-2 : tie.Need-returns-2
 returns-2 c = content-five _ _ _ _ _ (c .if1 .left) (c .before .before .content-size .ensures .0) (c .before .copied .ensures)
 

@@ -3,59 +3,40 @@ use Rattle.actions.proofs.Steps.{data-0, data-1, data-2, data-3, data-4
 use borrow.Author.Needs.{needs}
 use Rattle.actions.proofs.data_fault.Statement.{statement}
 use Rattle.actions.proofs.data_fault.Tie as tie
-use Rattle.actions.proofs.data_fault.Reads as reads
-use Rattle.actions.proofs.data_fault.Lts as lts
-use Rattle.actions.proofs.glyph_fault.Reads as glyph-fault-reads
-use Rattle.actions.proofs.type0_fault.Reads as type0-fault-reads
-use Rattle.actions.proofs.type2_fault.Reads as type2-fault-reads
-use Rattle.actions.proofs.type4_fault.Reads as type4-fault-reads
-use Rattle.actions.proofs.type5_fault.Reads as type5-fault-reads
 
--- src/lib.rt:124:9
 type0-fault-requires : tie.Need-type0-fault-requires
 type0-fault-requires c κs = search needs
 
--- src/lib.rt:124:9
 returns : tie.Need-returns
 returns c = c .type0-fault .ensures ∙ sym (data-0 _ _ _ _ (c .before .if1 .taken))
 
--- src/lib.rt:127:43
 add-glyph-fault : tie.Need-add-glyph-fault
 add-glyph-fault c = search needs
 
--- src/lib.rt:127:9
 glyph-fault-requires : tie.Need-glyph-fault-requires
 glyph-fault-requires c κs = search needs
 
--- src/lib.rt:127:9
 returns-2 : tie.Need-returns-2
 returns-2 c = c .glyph-fault .ensures ∙ sym (data-1 _ _ _ _ (c .before .if2 .taken))
 
--- src/lib.rt:130:9
 type2-fault-requires : tie.Need-type2-fault-requires
 type2-fault-requires c κs = search needs
 
--- src/lib.rt:130:9
 returns-3 : tie.Need-returns-3
 returns-3 c = c .type2-fault .ensures ∙ sym (data-2 _ _ _ _ (c .before .if3 .taken))
 
--- src/lib.rt:133:9
 returns-4 : tie.Need-returns-4
 returns-4 c = sym (data-3 _ _ _ _ (c .if4 .taken))
 
--- src/lib.rt:136:9
 type4-fault-requires : tie.Need-type4-fault-requires
 type4-fault-requires c κs = search needs
 
--- src/lib.rt:136:9
 returns-5 : tie.Need-returns-5
 returns-5 c = c .type4-fault .ensures ∙ sym (data-4 _ _ _ _ (c .before .if5 .taken))
 
--- src/lib.rt:138:5
 type5-fault-requires : tie.Need-type5-fault-requires
 type5-fault-requires c κs = search needs
 
--- src/lib.rt:119:1
 returns-6 : tie.Need-returns-6
 returns-6 c =
     c .type5-fault .ensures

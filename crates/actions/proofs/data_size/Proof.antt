@@ -2,30 +2,22 @@ use borrow.Author.Needs.{needs}
 use borrow.Author.Tests.{ne-eqb}
 use Rattle.actions.proofs.data_size.Statement.{statement}
 use Rattle.actions.proofs.data_size.Tie as tie
-use Rattle.actions.proofs.data_size.Reads as reads
-use Rattle.actions.proofs.data_size.Lts as lts
 
--- src/lib.rt:146:9
 returns : tie.Need-returns
 returns c = (simp (c .if1 .taken), search needs)
 
--- src/lib.rt:149:9
 returns-2 : tie.Need-returns-2
 returns-2 c = (simp (c .if2 .taken), search needs)
 
--- src/lib.rt:152:9
 returns-3 : tie.Need-returns-3
 returns-3 c = (simp (c .if3 .taken), search needs)
 
--- src/lib.rt:155:9
 returns-4 : tie.Need-returns-4
 returns-4 c = (simp (c .if4 .taken), search needs)
 
--- src/lib.rt:158:9
 returns-5 : tie.Need-returns-5
 returns-5 c = (simp (c .if5 .taken), search needs)
 
--- src/lib.rt:142:1
 returns-6 : tie.Need-returns-6
 returns-6 c = (
   simp (ne-eqb _ _ (c .before .before .before .before .if1 .left), ne-eqb _ _ (c .before .before .before .if2 .left), ne-eqb _ _ (c .before .before .if3 .left), ne-eqb _ _ (c .before .if4 .left), ne-eqb _ _ (c .if5 .left)),

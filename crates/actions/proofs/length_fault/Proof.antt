@@ -3,72 +3,49 @@ use Rattle.actions.specs.Faults.{lengthFault}
 use borrow.Author.Needs.{needs}
 use Rattle.actions.proofs.length_fault.Statement.{statement}
 use Rattle.actions.proofs.length_fault.Tie as tie
-use Rattle.actions.proofs.length_fault.Reads as reads
-use Rattle.actions.proofs.length_fault.Lts as lts
-use Rattle.actions.proofs.data_size.Reads as data-size-reads
-use Rattle.fields.proofs.in_table.Reads as in-table-reads
-use Rattle.fields.proofs.ruled.Reads as ruled-reads
-use Rattle.fields.proofs.then.Reads as then-reads
-use Rattle.fields.proofs.u16_at.Reads as u16-at-reads
-use Rattle.fields.proofs.u32_at.Reads as u32-at-reads
 
--- src/lib.rt:167:42
 add-in-table : tie.Need-add-in-table
 add-in-table c = search needs
 
--- src/lib.rt:167:9
 in-table-requires : tie.Need-in-table-requires
 in-table-requires c κs = search needs
 
--- src/lib.rt:168:40
 add-u32-at : tie.Need-add-u32-at
 add-u32-at c = search needs
 
--- src/lib.rt:168:9
 u32-at-requires : tie.Need-u32-at-requires
 u32-at-requires c κs = search needs
 
--- src/lib.rt:169:48
 add-u16-at : tie.Need-add-u16-at
 add-u16-at c = search needs
 
--- src/lib.rt:169:26
 u16-at-requires : tie.Need-u16-at-requires
 u16-at-requires c κs = search needs
 
--- src/lib.rt:169:9
 data-size-requires : tie.Need-data-size-requires
 data-size-requires c κs = search needs
 
--- src/lib.rt:170:69
 add-ruled : tie.Need-add-ruled
 add-ruled c = search needs
 
--- src/lib.rt:170:9
 ruled-requires : tie.Need-ruled-requires
 ruled-requires c κs = search needs
 
--- src/lib.rt:171:32
 add-ruled-2 : tie.Need-add-ruled-2
 add-ruled-2 c = search needs
 
--- src/lib.rt:171:73
 add-ruled-3 : tie.Need-add-ruled-3
 add-ruled-3 c = search needs
 
--- src/lib.rt:171:9
 ruled-requires-2 : tie.Need-ruled-requires-2
 ruled-requires-2 c κs = search needs
 
--- src/lib.rt:172:26
 then-requires : tie.Need-then-requires
 then-requires c κs = search needs
 
--- src/lib.rt:172:5
 then-requires-2 : tie.Need-then-requires-2
 then-requires-2 c κs = search needs
 
--- src/lib.rt:163:1
 returns : tie.Need-returns
 unfolding lengthFault
 returns c =

@@ -6,21 +6,13 @@ use Rattle.actions.specs.Faults.{listFault}
 use borrow.Author.Needs.{needs}
 use Rattle.actions.proofs.list_fault.Statement.{statement}
 use Rattle.actions.proofs.list_fault.Tie as tie
-use Rattle.actions.proofs.list_fault.Reads as reads
-use Rattle.actions.proofs.list_fault.Lts as lts
-use Rattle.actions.proofs.actions_fault.Reads as actions-fault-reads
-use Rattle.fields.proofs.in_table.Reads as in-table-reads
-use Rattle.fields.proofs.u32_at.Reads as u32-at-reads
 
--- src/lib.rt:214:9
 in-table-requires : tie.Need-in-table-requires
 in-table-requires c κs = search needs
 
--- src/lib.rt:216:9
 enum-told : tie.Need-enum-told
 enum-told c = search needs
 
--- src/lib.rt:216:9
 returns : tie.Need-returns
 unfolding listFault
 returns c = c .before .before .in-table .ensures ∙ sym (then-stop _ (sym (c .before .before .in-table .ensures) ∙ c .enum-told .given .1))
@@ -28,23 +20,18 @@ returns c = c .before .before .in-table .ensures ∙ sym (then-stop _ (sym (c .b
 enum-told-2 : tie.Need-enum-told-2
 enum-told-2 c = search needs
 
--- src/lib.rt:218:9
 u32-at-requires : tie.Need-u32-at-requires
 u32-at-requires c κs = search needs
 
--- src/lib.rt:220:9
 returns-2 : tie.Need-returns-2
 returns-2 c = sym (list-many _ _ _ _ (sym (c .before .before .before .before .in-table .ensures) ∙ c .before .before .enum-told2 .given .1) (c .before .u32-at .ensures .0) (c .if1 .taken))
 
--- src/lib.rt:222:34
 add-actions-fault : tie.Need-add-actions-fault
 add-actions-fault c = omega (arith, inside-holds _ _ _ (sym (c .before .before .before .before .in-table .ensures) ∙ c .before .before .enum-told2 .given .1))
 
--- src/lib.rt:222:5
 actions-fault-requires : tie.Need-actions-fault-requires
 actions-fault-requires c κs = search needs
 
--- src/lib.rt:211:1
 returns-3 : tie.Need-returns-3
 returns-3 c =
     c .actions-fault .ensures

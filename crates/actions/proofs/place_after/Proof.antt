@@ -6,9 +6,6 @@ use Rattle.actions.specs.Actions.{placeAfter}
 use Rattle.actions.proofs.Steps.{after-next, after-none}
 use Rattle.actions.proofs.place_after.Statement.{statement}
 use Rattle.actions.proofs.place_after.Tie as tie
-use Rattle.actions.proofs.place_after.Reads as reads
-use Rattle.actions.proofs.place_after.Lts as lts
-use Rattle.fields.proofs.u32_at.Reads as u32-at-reads
 
 abbrev Inv-loop : tie.InvT-loop
 Inv-loop table first count at₀ left₀ at left = (placeAfter table count first ≡ placeAfter table left at) × (at + 2 ^ 32 * left < 2 ^ 50)
@@ -16,35 +13,27 @@ Inv-loop table first count at₀ left₀ at left = (placeAfter table count first
 abbrev μ-loop : tie.MeasureT-loop
 μ-loop table first count at₀ left₀ at left = left
 
--- src/lib.rt:232:5
 loop-holds : tie.Need-loop-holds Inv-loop μ-loop
 loop-holds c = (refl, omega arith)
 
--- src/lib.rt:233:37
 add-u32-at : tie.Need-add-u32-at Inv-loop μ-loop
 add-u32-at c = search needs
 
--- src/lib.rt:233:15
 u32-at-requires : tie.Need-u32-at-requires Inv-loop μ-loop
 u32-at-requires c κs = search needs
 
--- src/lib.rt:233:9
 add-at : tie.Need-add-at Inv-loop μ-loop
 add-at c = search needs
 
--- src/lib.rt:234:9
 sub-left : tie.Need-sub-left Inv-loop μ-loop
 sub-left c = search needs
 
--- src/lib.rt:232:5
 loop-less : tie.Need-loop-less Inv-loop μ-loop
 loop-less c = search needs
 
--- src/lib.rt:232:5
 loop-again : tie.Need-loop-again Inv-loop μ-loop
 loop-again c = (c .before .before .loop .inv .0 ∙ after-next _ _ _ _ (c .before .loop-test .taken) (c .u32-at .ensures .0), omega arith)
 
--- src/lib.rt:226:1
 returns : tie.Need-returns Inv-loop μ-loop
 returns c = (sym (c .before .loop .inv .0 ∙ after-none _ _ _ (c .loop-test .left)), omega arith)
 

@@ -4,28 +4,19 @@ use Rattle.actions.proofs.Steps.{place-nowhere, place-there}
 use borrow.Author.Needs.{needs}
 use Rattle.actions.proofs.place_of.Statement.{statement}
 use Rattle.actions.proofs.place_of.Tie as tie
-use Rattle.actions.proofs.place_of.Reads as reads
-use Rattle.actions.proofs.place_of.Lts as lts
-use Rattle.actions.proofs.place_after.Reads as place-after-reads
-use Rattle.fields.proofs.u32_at.Reads as u32-at-reads
 
--- src/lib.rt:244:8
 u32-at-requires : tie.Need-u32-at-requires
 u32-at-requires c κs = search needs
 
--- src/lib.rt:245:9
 returns : tie.Need-returns
 returns c = (sym (place-nowhere _ _ _ _ (c .before .u32-at .ensures .0) (c .if1 .taken)), tt)
 
--- src/lib.rt:247:33
 add-place-after : tie.Need-add-place-after
 add-place-after c = search needs
 
--- src/lib.rt:247:14
 place-after-requires : tie.Need-place-after-requires
 place-after-requires c κs = search needs
 
--- src/lib.rt:240:1
 returns-2 : tie.Need-returns-2
 returns-2 c = (ap At (c .place-after .ensures .0) ∙ sym (place-there _ _ _ _ (c .before .before .u32-at .ensures .0) (c .before .if1 .left)), c .place-after .ensures .1)
 

@@ -3,75 +3,52 @@ use Rattle.actions.specs.Faults.{type0Fault}
 use borrow.Author.Needs.{needs}
 use Rattle.actions.proofs.type0_fault.Statement.{statement}
 use Rattle.actions.proofs.type0_fault.Tie as tie
-use Rattle.actions.proofs.type0_fault.Reads as reads
-use Rattle.actions.proofs.type0_fault.Lts as lts
-use Rattle.actions.proofs.count_fault.Reads as count-fault-reads
-use Rattle.actions.proofs.glyphs_fault.Reads as glyphs-fault-reads
-use Rattle.fields.proofs.in_table.Reads as in-table-reads
-use Rattle.fields.proofs.then.Reads as then-reads
-use Rattle.fields.proofs.u16_at.Reads as u16-at-reads
 
--- src/lib.rt:80:41
 add-in-table : tie.Need-add-in-table
 add-in-table c = search needs
 
--- src/lib.rt:80:9
 in-table-requires : tie.Need-in-table-requires
 in-table-requires c κs = search needs
 
--- src/lib.rt:81:41
 add-in-table-2 : tie.Need-add-in-table-2
 add-in-table-2 c = search needs
 
--- src/lib.rt:81:9
 in-table-requires-2 : tie.Need-in-table-requires-2
 in-table-requires-2 c κs = search needs
 
--- src/lib.rt:82:41
 add-in-table-3 : tie.Need-add-in-table-3
 add-in-table-3 c = search needs
 
--- src/lib.rt:82:9
 in-table-requires-3 : tie.Need-in-table-requires-3
 in-table-requires-3 c κs = search needs
 
--- src/lib.rt:83:9
 count-fault-requires : tie.Need-count-fault-requires
 count-fault-requires c κs = search needs
 
--- src/lib.rt:84:46
 add-glyphs-fault : tie.Need-add-glyphs-fault
 add-glyphs-fault c = search needs
 
--- src/lib.rt:84:77
 add-u16-at : tie.Need-add-u16-at
 add-u16-at c = search needs
 
--- src/lib.rt:84:55
 u16-at-requires : tie.Need-u16-at-requires
 u16-at-requires c κs = search needs
 
--- src/lib.rt:84:9
 glyphs-fault-requires : tie.Need-glyphs-fault-requires
 glyphs-fault-requires c κs = search needs
 
--- src/lib.rt:85:39
 then-requires : tie.Need-then-requires
 then-requires c κs = search needs
 
--- src/lib.rt:85:9
 then-requires-2 : tie.Need-then-requires-2
 then-requires-2 c κs = search needs
 
--- src/lib.rt:86:25
 then-requires-3 : tie.Need-then-requires-3
 then-requires-3 c κs = search needs
 
--- src/lib.rt:86:5
 then-requires-4 : tie.Need-then-requires-4
 then-requires-4 c κs = search needs
 
--- src/lib.rt:76:1
 returns : tie.Need-returns
 unfolding type0Fault
 returns c =

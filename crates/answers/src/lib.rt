@@ -1,0 +1,59 @@
+// The answers to the questions that a table and a sheet can be asked (document 01, "The sheet"): the part, or
+// nothing, or a refusal. specs/Says.antt gives what each case says.
+use fields::Refusal;
+use parts::Entry;
+use parts::HeldAction;
+use parts::Pair;
+
+// Whether a table or a sheet is accepted.
+pub enum Checked {
+    Accepted,
+    Refused(Refusal),
+}
+
+// The glyph count.
+pub enum CountAnswer {
+    Count(u32),
+    Refused(Refusal),
+}
+
+// The row count S and the class count of a machine.
+pub enum SizesAnswer {
+    Sizes { rows: u16, classes: u16 },
+    Nothing,
+    Refused(Refusal),
+}
+
+// The class of a glyph.
+pub enum ClassAnswer {
+    Class(u8),
+    Nothing,
+    Refused(Refusal),
+}
+
+// What the cell of a row and a class holds.
+pub enum CellAnswer {
+    Cell(Entry),
+    Nothing,
+    Refused(Refusal),
+}
+
+// The width record of a glyph and a class.
+pub enum RecordAnswer {
+    Record(Pair),
+    Nothing,
+    Refused(Refusal),
+}
+
+// Whether an action was found.
+pub enum Sought {
+    Found,
+    Nothing,
+    Refused(Refusal),
+}
+
+// The action of a glyph and a number; all zeros where none was found.
+pub struct ActionAnswer {
+    pub sought: Sought,
+    pub action: HeldAction,
+}

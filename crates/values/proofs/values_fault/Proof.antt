@@ -1,0 +1,42 @@
+use Rattle.values.specs.Values.{valuesFault}
+use Rattle.fields.specs.Laws.{then-stop, then-go}
+use Rattle.values.proofs.Laws.{none-judged}
+use mathlib.Core.Path.{_≡_, refl, sym, ap, ap₂, _∙_}
+use borrow.Author.Needs.{needs}
+use Rattle.values.proofs.values_fault.Statement.{statement}
+use Rattle.values.proofs.values_fault.Tie as tie
+
+lookup-fault-requires : tie.Need-lookup-fault-requires
+lookup-fault-requires c κs = search needs
+
+enum-told : tie.Need-enum-told
+enum-told c = search needs
+
+returns : tie.Need-returns
+unfolding valuesFault
+returns c = let f = c .before .before .lookup-fault .ensures in f ∙ sym (then-stop _ (sym f ∙ c .enum-told .given .1))
+
+enum-told-2 : tie.Need-enum-told-2
+enum-told-2 c = search needs
+
+slice-aggregate-glyphs-fault : tie.Need-slice-aggregate-glyphs-fault
+slice-aggregate-glyphs-fault c = search needs
+
+glyphs-fault-requires : tie.Need-glyphs-fault-requires
+glyphs-fault-requires c κs = ((search needs, (search needs, (search needs, sym (c .before .before .before .lookup-fault .ensures) ∙ c .before .enum-told2 .given .1))), none-judged _ _ _ 32768)
+
+returns-2 : tie.Need-returns-2
+unfolding valuesFault
+returns-2 c = c .before .glyphs-fault .ensures ∙ sym (then-go _ (sym (c .before .before .before .before .before .lookup-fault .ensures) ∙ c .before .before .before .enum-told2 .given .1))
+
+pub values-fault-spec : {M : Type 1} → statement M
+values-fault-spec =
+    tie.close
+    (tie.spec
+    lookup-fault-requires
+    enum-told
+    returns
+    enum-told-2
+    slice-aggregate-glyphs-fault
+    glyphs-fault-requires
+    returns-2)
