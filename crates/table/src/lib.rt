@@ -1,0 +1,109 @@
+// A 'just' table read with a glyph count (document 01, "The table" and "Numbers of refusal"): its first fault,
+// refusals 1 to 8 in their order, and whether it is accepted.
+ghost use mathlib.Core.Path.{_≡_};
+ghost use Prim.Native.Nat.{ℕ, _+_, _≤_, _<_, _^_};
+ghost use lib.ListN.{length};
+ghost use Rattle.answers.specs.Says.{checkedBy};
+ghost use Rattle.table.specs.Table.{headerFault, offsetsFault, machinePart, actionPart, directionFault, tableFault};
+use answers::Checked;
+use fields::Fault;
+use fields::Refusal;
+use values::Kind;
+
+// The machine at an offset, 0 for none.
+fn machine_part(table: &[u8], glyphs: usize, offset: usize) -> Fault
+    requires { ⌜ offset < 2 ^ 16 ⌝ }
+    ensures { λ r. ⌜ r ≡ machinePart (now (table .entry)) glyphs offset ⌝ }
+{
+    if offset == 0 {
+        return Fault::Clear;
+    }
+    machine::machine_fault(table, glyphs, offset + 8)
+}
+
+// The action lookup at an offset, 0 for none, and the lists that its values lead to.
+fn action_part(table: &[u8], glyphs: usize, offset: usize) -> Fault
+    requires { ⌜ (offset < 2 ^ 16) × (glyphs < 2 ^ 16) ⌝ }
+    ensures { λ r. ⌜ r ≡ actionPart (now (table .entry)) glyphs offset ⌝ }
+{
+    if offset == 0 {
+        return Fault::Clear;
+    }
+    values::values_fault(table, glyphs, Kind::Lists, offset, offset)
+}
+
+// The three offsets of the direction at `at`.
+fn offsets_fault(table: &[u8], at: usize) -> Fault
+    requires { ⌜ at < 2 ^ 16 ⌝ }
+    ensures { λ r. ⌜ r ≡ offsetsFault (now (table .entry)) at ⌝ }
+{
+    let machine_in = fields::in_table(table, at, 2);
+    let widths_in = fields::in_table(table, at + 2, 2);
+    let actions_in = fields::in_table(table, at + 4, 2);
+    fields::then(machine_in, fields::then(widths_in, actions_in))
+}
+
+// The first fault of the direction at `at`, 0 for none.
+fn direction_fault(table: &[u8], glyphs: usize, at: usize) -> Fault
+    requires { ⌜ (at < 2 ^ 16) × (glyphs < 2 ^ 16) ⌝ }
+    ensures { λ r. ⌜ r ≡ directionFault (now (table .entry)) glyphs at ⌝ }
+{
+    if at == 0 {
+        return Fault::Clear;
+    }
+    let offsets = offsets_fault(table, at);
+    if let Fault::Bad { refusal: _, at: _ } = offsets {
+        return offsets;
+    }
+    let machine = machine_part(table, glyphs, fields::u16_at(table, at));
+    if let Fault::Bad { refusal: _, at: _ } = machine {
+        return machine;
+    }
+    let base = fields::u16_at(table, at + 2);
+    let widths = values::values_fault(table, glyphs, Kind::Clusters, at + 6, base);
+    if let Fault::Bad { refusal: _, at: _ } = widths {
+        return widths;
+    }
+    action_part(table, glyphs, fields::u16_at(table, at + 4))
+}
+
+// Length, glyph count, version and format.
+fn header_fault(table: &[u8], count: u32) -> Fault
+    ensures { λ r. ⌜ r ≡ headerFault (now (table .entry)) count ⌝ }
+{
+    let long = fields::ruled(10 <= table.len(), Refusal::TableLength, 0);
+    let short = fields::ruled(table.len() <= 32768, Refusal::TableLength, 0);
+    let some = fields::ruled(1 <= count, Refusal::GlyphCount, 0);
+    let few = fields::ruled(count <= 65535, Refusal::GlyphCount, 0);
+    let version = fields::ruled(fields::u32_at(table, 0) == 65536, Refusal::Version, 0);
+    let format = fields::ruled(fields::u16_at(table, 4) == 0, Refusal::Version, 0);
+    let third = fields::then(version, format);
+    let second = fields::then(some, fields::then(few, third));
+    fields::then(long, fields::then(short, second))
+}
+
+// The first fault of a table read with a glyph count.
+pub fn table_fault(table: &[u8], count: u32) -> Fault
+    ensures { λ r. ⌜ r ≡ tableFault (now (table .entry)) count ⌝ }
+{
+    let header = header_fault(table, count);
+    if let Fault::Bad { refusal: _, at: _ } = header {
+        return header;
+    }
+    let glyphs = count as usize;
+    let horizontal = direction_fault(table, glyphs, fields::u16_at(table, 6));
+    if let Fault::Bad { refusal: _, at: _ } = horizontal {
+        return horizontal;
+    }
+    direction_fault(table, glyphs, fields::u16_at(table, 8))
+}
+
+// Whether a table is accepted with a glyph count, or the refusal of its first fault.
+pub fn check_table(table: &[u8], count: u32) -> Checked
+    ensures { λ r. ⌜ r ≡ checkedBy (tableFault (now (table .entry)) count) ⌝ }
+{
+    match table_fault(table, count) {
+        Fault::Clear => Checked::Accepted,
+        Fault::Bad { refusal, at: _ } => Checked::Refused(refusal),
+    }
+}
