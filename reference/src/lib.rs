@@ -6,6 +6,7 @@
 pub mod actions;
 pub mod bytes;
 pub mod cluster;
+pub mod examples;
 pub mod generate;
 pub mod line;
 pub mod lookup;

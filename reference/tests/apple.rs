@@ -4,36 +4,9 @@
 mod common;
 
 use common::{line, run, Fields, TWELVE_POINTS};
+use reference::examples::{complex, simple};
 use reference::*;
 use Direction::{Horizontal, Vertical};
-
-/// The roman example, 104 bytes.
-fn simple() -> Vec<u8> {
-    let head = Fields::new().l(0x0001_0000).w(0).w(10).w(0).to(10);
-    let head = head.w(0).w(48).w(0).to(16);
-    let lookup = head.w(2).w(6).w(2).w(12).w(1).w(0).to(28);
-    let lookup = lookup.w(2).w(2).w(0).to(34).w(275).w(3).w(28).to(40).w(0xFFFF).w(0xFFFF).w(0).w(0);
-    let first = lookup.to(48).l(1).l(0).l(0x8000).l(0xFFFF_F500).l(0x8000).l(0xFFFF_F500).w(1).w(1);
-    let second = first.to(76).l(1).l(0).l(0x2500).l(0xFFFF_F500).l(0x2500).l(0xFFFF_F500).w(2).w(2);
-    second.to(104).done()
-}
-
-/// The kashida example, 444 bytes.
-fn complex() -> Vec<u8> {
-    let head = Fields::new().l(0x0001_0000).w(0).w(10).w(0).to(10);
-    let head = head.w(168).w(48).w(128).to(16);
-    let lookup = head.w(2).w(6).w(2).w(12).w(1).w(0).to(28);
-    let lookup = lookup.w(2).w(2).w(0).to(34).w(226).w(3).w(28).to(40).w(0xFFFF).w(0xFFFF).w(0).w(0);
-    let first = lookup.to(48).l(1).l(0).l(0x8000).l(0xFFFF_F500).l(0x8000).l(0xFFFF_F500).w(1).w(1);
-    let second = first.to(76).l(2).l(0).l(0x2500).l(0xFFFF_F500).l(0x2500).l(0xFFFF_F500).w(2).w(2);
-    let second = second.to(104).l(1).l(0x2500).l(0xFFFF_F500).l(0x2500).l(0xFFFF_F500).w(0x1000).w(2);
-    let post = second.to(128).w(2).w(6).w(1).w(6).w(0).w(0).to(140).w(226).w(2).w(24).w(0xFFFF).w(0xFFFF).w(0);
-    let post = post.to(152).l(1).w(1).w(1).l(12).w(226).w(0);
-    let machine = post.to(168).w(276).w(0).l(0).to(176).w(5).w(8).w(236).w(256);
-    let machine = machine.to(184).w(3).w(223).bs(&[4; 223]).b(0);
-    let rows = machine.to(412).bs(&[1, 2, 1, 1, 0]).bs(&[1, 2, 1, 1, 0]).bs(&[1, 2, 1, 1, 1]).bs(&[1, 2, 1, 1, 0]);
-    rows.to(432).w(246).w(1).w(246).w(0).w(251).w(0).to(444).done()
-}
 
 fn record(limit: u32, grow_flags: u16, shrink_flags: u16) -> WidthRecord {
     WidthRecord {

@@ -1,56 +1,9 @@
-//! Byte building for tests: fields one after another.
+//! Lines and their answers, for tests.
 #![allow(dead_code)]
 
 use reference::{Line, LineInput};
 
-/// Big-endian fields put down in order.
-#[derive(Clone, Default)]
-pub struct Fields(pub Vec<u8>);
-
-impl Fields {
-    pub fn new() -> Fields {
-        Fields::default()
-    }
-
-    pub fn b(mut self, value: u8) -> Fields {
-        self.0.push(value);
-        self
-    }
-
-    pub fn w(mut self, value: u16) -> Fields {
-        self.0.extend(value.to_be_bytes());
-        self
-    }
-
-    pub fn l(mut self, value: u32) -> Fields {
-        self.0.extend(value.to_be_bytes());
-        self
-    }
-
-    pub fn ws(self, values: &[u16]) -> Fields {
-        values.iter().fold(self, |fields, &value| fields.w(value))
-    }
-
-    pub fn ls(self, values: &[u32]) -> Fields {
-        values.iter().fold(self, |fields, &value| fields.l(value))
-    }
-
-    pub fn bs(mut self, values: &[u8]) -> Fields {
-        self.0.extend(values);
-        self
-    }
-
-    /// Zero bytes up to a place.
-    pub fn to(mut self, place: usize) -> Fields {
-        assert!(self.0.len() <= place, "already past {place}");
-        self.0.resize(place, 0);
-        self
-    }
-
-    pub fn done(self) -> Vec<u8> {
-        self.0
-    }
-}
+pub use reference::examples::Fields;
 
 /// The smallest table: both directions absent.
 pub fn empty_table() -> Vec<u8> {

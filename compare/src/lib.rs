@@ -1,0 +1,20 @@
+//! Holds the proved library against the second program.
+//!
+//! A case is a name, `KIND-SEED-INDEX`, from which its input is drawn again; a case in which the two differ is saved as a
+//! file of that name.
+
+pub mod cases;
+pub mod library;
+pub mod tables;
+
+/// What a comparison finds: nothing, or in which way the two differ.
+pub type Outcome = Result<(), String>;
+
+/// Fails with a description where two answers differ.
+pub fn same<T: PartialEq + std::fmt::Debug>(what: &str, library: T, second: T) -> Outcome {
+    if library == second {
+        Ok(())
+    } else {
+        Err(format!("{what}: the library says {library:?}, the second program {second:?}"))
+    }
+}

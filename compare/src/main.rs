@@ -1,0 +1,111 @@
+//! `compare [--seed S] [--count N] [--minutes M] [NAME ..]`: compares the proved library with the second program on drawn
+//! cases; with names, only on those cases. Exit status 1 where they differ.
+
+use compare::{tables, Outcome};
+use std::process::ExitCode;
+use std::time::{Duration, Instant};
+
+/// What a run was asked for.
+struct Asked {
+    seed: u64,
+    count: u64,
+    limit: Option<Duration>,
+    names: Vec<String>,
+}
+
+fn asked() -> Result<Asked, String> {
+    let mut asked = Asked { seed: 1, count: 20_000, limit: None, names: Vec::new() };
+    let mut words = std::env::args().skip(1);
+    while let Some(word) = words.next() {
+        let mut number = || -> Result<u64, String> {
+            let text = words.next().ok_or(format!("{word} wants a number"))?;
+            text.parse().map_err(|_| format!("{text} is not a number"))
+        };
+        match word.as_str() {
+            "--seed" => asked.seed = number()?,
+            "--count" => asked.count = number()?,
+            "--minutes" => {
+                asked.limit = Some(Duration::from_secs(60 * number()?));
+                asked.count = u64::MAX;
+            }
+            _ if word.starts_with('-') => return Err(format!("{word} is not known")),
+            _ => asked.names.push(word),
+        }
+    }
+    Ok(asked)
+}
+
+/// The kinds of cases, each with its comparison.
+type Kind = (&'static str, fn(u64, u64) -> Outcome);
+
+const KINDS: [Kind; 1] = [("table", table_case)];
+
+fn table_case(seed: u64, index: u64) -> Outcome {
+    let (table, glyphs) = tables::draw(seed, index);
+    tables::compare(&table, glyphs)?;
+    if index % 50 == 0 {
+        tables::compare_counts(&table)?;
+    }
+    Ok(())
+}
+
+/// One case by its name, `KIND-SEED-INDEX`.
+fn replay(name: &str) -> Outcome {
+    let parts: Vec<&str> = name.split('-').collect();
+    let [kind, seed, index] = parts[..] else {
+        return Err(format!("{name} is no case's name"));
+    };
+    let (_, case) = KINDS.iter().find(|(known, _)| *known == kind).ok_or(format!("{kind} is no kind of case"))?;
+    let number = |text: &str| text.parse::<u64>().map_err(|_| format!("{text} is not a number"));
+    case(number(seed)?, number(index)?)
+}
+
+/// Saves a case in which the two differ, and says so.
+fn report(name: &str, difference: &str) {
+    let folder = concat!(env!("CARGO_MANIFEST_DIR"), "/differences");
+    let _ = std::fs::create_dir_all(folder);
+    let _ = std::fs::write(format!("{folder}/{name}"), format!("{difference}\n"));
+    println!("{name}: {difference}");
+}
+
+fn main() -> ExitCode {
+    let asked = match asked() {
+        Ok(asked) => asked,
+        Err(wrong) => {
+            eprintln!("compare: {wrong}");
+            return ExitCode::from(2);
+        }
+    };
+    let mut differences = 0;
+    for name in &asked.names {
+        match replay(name) {
+            Ok(()) => println!("{name}: the same"),
+            Err(difference) => {
+                println!("{name}: {difference}");
+                differences += 1;
+            }
+        }
+    }
+    if asked.names.is_empty() {
+        differences = run(&asked);
+    }
+    if differences == 0 { ExitCode::SUCCESS } else { ExitCode::FAILURE }
+}
+
+/// All kinds in turn, case by case, until the count or the time is used up.
+fn run(asked: &Asked) -> u32 {
+    let began = Instant::now();
+    let mut differences = 0;
+    let mut index = 0;
+    while index < asked.count && asked.limit.is_none_or(|limit| began.elapsed() < limit) {
+        for (kind, case) in KINDS {
+            if let Err(difference) = case(asked.seed, index) {
+                report(&format!("{kind}-{}-{index}", asked.seed), &difference);
+                differences += 1;
+            }
+        }
+        index += 1;
+    }
+    println!("compare: {index} cases of {} kinds, {differences} differences", KINDS.len());
+    differences
+}
