@@ -6,7 +6,7 @@ ghost use Rattle.fields.specs.declared.Fault.the-variants.{Clear};
 ghost use Rattle.lookup.specs.Units.{unitSize, firstOf, rangeFault, singleFault, unitFault, unitsFault, arrayFault, valuesFault, arraysFault, below};
 ghost use Rattle.lookup.specs.Lookup.{countedFault, segmentsFault, trimmedFault, lookupFault};
 ghost use Rattle.lookup.specs.Find.{covers, unitValue, unitsValue, hasUnits, unitCount, trimmedValue, valueFrom, valueOf};
-ghost use Rattle.lookup.specs.Pass.{Serves, Reaches};
+ghost use Rattle.lookup.specs.Pass.{Serves, Reaches, untilOf, Constant};
 use fields::Fault;
 use fields::Refusal;
 
@@ -22,9 +22,10 @@ pub struct Cursor {
     pub left: usize,
 }
 
-// A glyph's value, and the cursor for the next glyph.
+// A glyph's value, the first glyph after it that may have another, and the cursor for the glyphs after it.
 pub struct Looked {
     pub found: Found,
+    pub until: usize,
     pub cursor: Cursor,
 }
 
@@ -395,14 +396,47 @@ fn value_here(table: &[u8], glyphs: usize, at: usize, cursor: Cursor, glyph: usi
     value_from(table, at, glyph, 1, start)
 }
 
-// The value at a glyph of a pass that has come to it, and the cursor for the next glyph.
+// Up to which glyph the units from the cursor on give what they give `glyph`: the next unit's first glyph, the end
+// of a unit of format 2, or the next glyph.
+fn units_until(table: &[u8], format: usize, cursor: Cursor, glyph: usize) -> usize
+    requires { ⌜ (cursor .at < 2 ^ 40) × (glyph < 2 ^ 16) ⌝ }
+    ensures { λ r. ⌜ r ≡ untilOf (now (table .entry)) format cursor glyph ⌝ }
+{
+    let p = cursor.at;
+    if cursor.left == 0 {
+        return 65536;
+    }
+    let first = first_of(table, format, p);
+    if glyph < first {
+        return first;
+    }
+    if format == 2 {
+        return fields::u16_at(table, p) + 1;
+    }
+    glyph + 1
+}
+
+// Up to which glyph the lookup at `at` gives what it gives `glyph`, as far as the unit at hand shows it.
+fn same_until(table: &[u8], at: usize, cursor: Cursor, glyph: usize) -> usize
+    requires { ⌜ (at < 2 ^ 32) × ((glyph < 2 ^ 16) × Reaches (now table) at glyph cursor) ⌝ }
+    ensures { λ r. ⌜ Constant (now (table .entry)) at glyph r ⌝ }
+{
+    let format = fields::u16_at(table, at);
+    if has_units(format) {
+        return units_until(table, format, cursor, glyph);
+    }
+    glyph + 1
+}
+
+// The value at a glyph of a pass that has come to it, how far it goes, and the cursor for the glyphs after it.
 pub fn step(table: &[u8], glyphs: usize, at: usize, cursor: Cursor, glyph: usize) -> Looked
     requires { ⌜ (at < 2 ^ 32) × ((glyph < 2 ^ 16) × Serves (now table) at glyph cursor) ⌝ }
-    ensures { λ r. ⌜ (r .found ≡ valueOf (now (table .entry)) glyphs at glyph) × Serves (now (table .entry)) at (glyph + 1) (r .cursor) ⌝ }
+    ensures { λ r. ⌜ (r .found ≡ valueOf (now (table .entry)) glyphs at glyph) × Serves (now (table .entry)) at (glyph + 1) (r .cursor) × Constant (now (table .entry)) at glyph (r .until) ⌝ }
 {
     let next = advance(table, at, cursor, glyph);
     Looked {
         found: value_here(table, glyphs, at, next, glyph),
+        until: same_until(table, at, next, glyph),
         cursor: next,
     }
 }

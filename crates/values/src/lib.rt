@@ -99,17 +99,16 @@ fn glyphs_fault(
 {
     let mut cursor = lookup::begin(table, at);
     let mut glyph: usize = 0;
-    let mut left = glyphs;
-    while 0 < left {
+    while glyph < glyphs {
         let looked = lookup::step(table, glyphs, at, cursor, glyph);
         let found = looked.found;
         let fault = judge_spot(table, glyphs, kind, spot_of(kind, base, found), judged);
         if let Fault::Bad { refusal: _, at: _ } = fault {
             return fault;
         }
+        // The glyphs up to there have the same value.
         cursor = looked.cursor;
-        glyph += 1;
-        left -= 1;
+        glyph = looked.until;
     }
     Fault::Clear
 }

@@ -9,8 +9,11 @@ advance-requires c κs = search needs
 value-here-requires : tie.Need-value-here-requires
 value-here-requires c κs = search needs
 
+same-until-requires : tie.Need-same-until-requires
+same-until-requires c κs = search needs
+
 returns : tie.Need-returns
-returns c = (c .value-here .ensures, serves-next _ _ _ (c .before .advance .ensures .serves))
+returns c = (c .before .value-here .ensures, serves-next _ _ _ (c .before .before .advance .ensures .serves), c .same-until .ensures)
 
 pub step-spec : {M : Type 1} → statement M
-step-spec = tie.close (tie.spec advance-requires value-here-requires returns)
+step-spec = tie.close (tie.spec advance-requires value-here-requires same-until-requires returns)

@@ -1,0 +1,74 @@
+-- A list sorted by halves, and merged.
+use Prim.Native.Nat.{ℕ, _-_, _≤_, _<_}
+use mathlib.Core.Path.{_≡_, sym, ap, ap₂, _∙_, subst}
+use mathlib.Core.List.{List, [], _∷_, _++_, append-nil}
+use mathlib.Core.Bool.{Bool, true, false}
+use native.Mathlib.Omega.{arith}
+use lib.ListN.{length, take, drop, replicate, length-append, length-drop, length-replicate, take-append-drop, drop-of-length-le}
+use lib.Seq.{take-all, take-at, drop-at, length-take-le}
+use borrow.Rule.Slice.PartMut.{putMid}
+use Rattle.section.specs.Section.{Says}
+use Rattle.order.specs.Order.{Perm, same, then, NoLater, no-later-dec, merged, left, Sorted, stretch, Apart, Adjacent}
+use Rattle.order.proofs.OrderLaws.{later-total, later-trans, later-anti, later-same}
+use Rattle.order.proofs.SortLaws.{perm-sym, apart-perm, apart-adjacent, adjacent-apart, perm-both, perm-length, merged-perm, merged-ordered}
+
+pub sorted-short : (s marks A : List ℕ) → length A < 2 → Sorted s marks A A
+sorted-short s marks [] h = record { perm = same; ordered = tt }
+sorted-short s marks (x ∷ []) h = record { perm = same; ordered = (tt, tt) }
+sorted-short s marks (x ∷ y ∷ A) h = absurd (omega arith)
+
+module _ (A L : List ℕ) (h : ℕ) (hl : h ≤ length A) (pl : length L ≡ h) where
+  pub rest-is : drop h (L ++ drop h A) ≡ drop h A
+  rest-is = drop-at L (drop h A) h pl
+
+  pub middle-is : take (length (L ++ drop h A) - h) (drop h (L ++ drop h A)) ≡ drop h A
+  middle-is = ap (λ (l : List ℕ). take (length (L ++ drop h A) - h) l) rest-is ∙ take-all (length (L ++ drop h A) - h) (drop h A) few
+    where
+      few : length (drop h A) ≤ length (L ++ drop h A) - h
+      few = simp (length-append, length-drop) (omega arith)
+
+  module _ (R : List ℕ) (pr : length R ≡ length A - h) where
+    pub both-are : putMid h (length (L ++ drop h A) - h) (L ++ drop h A) R ≡ L ++ R
+    both-are =
+        ap₂ (λ (u v : List ℕ). u ++ (R ++ v)) (take-at L (drop h A) h pl)
+        (ap (λ (l : List ℕ). drop (length (L ++ drop h A) - h) l) rest-is ∙ drop-of-length-le (drop h A) few)
+        ∙ ap (λ (l : List ℕ). L ++ l) (append-nil R)
+      where
+        few : length (drop h A) ≤ length (L ++ drop h A) - h
+        few = simp (length-append, length-drop) (omega arith)
+
+pub sorted-halves : (s marks A L R : List ℕ) (h : ℕ) → h ≤ length A → Sorted s marks (take h A) L
+    → Sorted s marks (take (length (L ++ drop h A) - h) (drop h (L ++ drop h A))) R
+    → Sorted s marks A (left s marks (putMid h (length (L ++ drop h A) - h) (L ++ drop h A) R) 0 h h)
+sorted-halves s marks A L R h hl p q =
+    subst (λ (l : List ℕ). Sorted s marks A (left s marks l 0 h h)) (sym (both-are A L h hl pl R pr))
+    (subst (λ (l : List ℕ). Sorted s marks A l) (sym parts)
+    (record {
+      perm = then (subst (λ (l : List ℕ). Perm l (L ++ R)) (take-append-drop h A) (perm-both {xs = take h A} {ys = L} (drop h A) R (p .perm) (q′ .perm)))
+          (merged-perm {le = NoLater s marks} (no-later-dec s marks) L R);
+      ordered = merged-ordered {le = NoLater s marks} (no-later-dec s marks) (later-total s marks) (later-trans s marks) L R (p .ordered) (q′ .ordered);
+    }))
+  where
+    pl : length L ≡ h
+    pl = sym (perm-length (p .perm)) ∙ length-take-le h A hl
+
+    q′ : Sorted s marks (drop h A) R
+    q′ = subst (λ (l : List ℕ). Sorted s marks l R) (middle-is A L h hl pl) q
+
+    pr : length R ≡ length A - h
+    pr = sym (perm-length (q′ .perm)) ∙ length-drop h A
+
+    parts : left s marks (L ++ R) 0 h h ≡ merged {le = NoLater s marks} (no-later-dec s marks) L R
+    parts = ap₂ (λ (u v : List ℕ). merged {le = NoLater s marks} (no-later-dec s marks) u v) (take-at L R h pl) (drop-at L R h pl)
+
+-- ---- the answer on a sorted list is the answer on the list
+
+pub says-apart : (s marks a b : List ℕ) (r : Bool) → Sorted s marks a b → Says r (Adjacent (stretch s marks) b) → Says r (Apart (stretch s marks) a)
+says-apart s marks a b true p h =
+    apart-perm (stretch s marks) (perm-sym (p .perm))
+    (adjacent-apart (stretch s marks) (NoLater s marks) (later-trans s marks) (later-anti s marks) (later-same s marks) b (p .ordered) h)
+says-apart s marks a b false p h = λ k. h (apart-adjacent (stretch s marks) b (apart-perm (stretch s marks) (p .perm) k))
+
+-- the first m elements of a repeat
+pub room : (m n v : ℕ) → m ≤ n → length (take m (replicate n v)) ≡ m
+room m n v h = length-take-le m (replicate n v) (subst (λ (k : ℕ). m ≤ k) (sym (length-replicate n v)) h)

@@ -1,0 +1,99 @@
+-- The dictionary's order: total, transitive, and two that come no later than each other are equal.
+use Prim.Native.Nat.{ℕ, _+_, _≤_, _<_}
+use mathlib.Core.Path.{_≡_, refl, sym, ap, ap₂, _∙_, subst}
+use mathlib.Core.Logic.{inl, inr, ⊎-elim}
+use mathlib.Core.List.{List, [], _∷_}
+use native.Mathlib.Decide.{ℕ-discrete, decLt}
+use native.Mathlib.Omega.{arith}
+use native.Mathlib.Numerals.{add-one}
+use lib.ListN.{length, getD, take, length-take, drop-of-length-le}
+use lib.Seq.{slice, slice-cons}
+use Rattle.order.specs.Order.{Le, stretch, NoLater}
+
+total-step : (x y : ℕ) (a b : List ℕ) → Dec (y < x) → Dec (x ≡ y) → (Le (x ∷ a) (y ∷ b) → ⊥) → ((Le a b → ⊥) → Le b a) → Le (y ∷ b) (x ∷ a)
+total-step x y a b (yes p) e h f = inl p
+total-step x y a b (no p) (yes q) h f = inr (sym q, f (λ k. h (inr (q, k))))
+total-step x y a b (no p) (no q) h f = absurd (h (inl (omega arith)))
+
+pub le-total : (a b : List ℕ) → (Le a b → ⊥) → Le b a
+le-total [] b h = absurd (h tt)
+le-total (x ∷ a) [] h = tt
+le-total (x ∷ a) (y ∷ b) h = total-step x y a b (decLt y x) (ℕ-discrete x y) h (le-total a b)
+
+trans-step : (x y z : ℕ) (a b c : List ℕ) → (Le a b → Le b c → Le a c) → Le (x ∷ a) (y ∷ b) → Le (y ∷ b) (z ∷ c) → Le (x ∷ a) (z ∷ c)
+trans-step x y z a b c f (inl p) (inl q) = inl (omega arith)
+trans-step x y z a b c f (inl p) (inr q) = inl (omega arith)
+trans-step x y z a b c f (inr p) (inl q) = inl (omega arith)
+trans-step x y z a b c f (inr p) (inr q) = inr (p .0 ∙ q .0, f (p .1) (q .1))
+
+pub le-trans : (a b c : List ℕ) → Le a b → Le b c → Le a c
+le-trans [] b c p q = tt
+le-trans (x ∷ a) [] c p q = absurd p
+le-trans (x ∷ a) (y ∷ b) [] p q = absurd q
+le-trans (x ∷ a) (y ∷ b) (z ∷ c) p q = trans-step x y z a b c (le-trans a b c) p q
+
+anti-step : (x y : ℕ) (a b : List ℕ) → (Le a b → Le b a → a ≡ b) → Le (x ∷ a) (y ∷ b) → Le (y ∷ b) (x ∷ a) → x ∷ a ≡ y ∷ b
+anti-step x y a b f (inl p) (inl q) = absurd (omega arith)
+anti-step x y a b f (inl p) (inr q) = absurd (omega arith)
+anti-step x y a b f (inr p) (inl q) = absurd (omega arith)
+anti-step x y a b f (inr p) (inr q) = ap₂ (λ (u : ℕ) (v : List ℕ). u ∷ v) (p .0) (f (p .1) (q .1))
+
+pub le-anti : (a b : List ℕ) → Le a b → Le b a → a ≡ b
+le-anti [] [] p q = refl
+le-anti [] (y ∷ b) p q = absurd q
+le-anti (x ∷ a) [] p q = absurd p
+le-anti (x ∷ a) (y ∷ b) p q = anti-step x y a b (le-anti a b) p q
+
+pub le-same : (a : List ℕ) → Le a a
+le-same [] = tt
+le-same (x ∷ a) = inr (refl, le-same a)
+
+-- ---- of stretches
+
+pub later-total : (s marks : List ℕ) (i j : ℕ) → (NoLater s marks i j → ⊥) → NoLater s marks j i
+unfolding NoLater
+later-total s marks i j h = le-total (stretch s marks i) (stretch s marks j) h
+
+pub later-trans : (s marks : List ℕ) (i j k : ℕ) → NoLater s marks i j → NoLater s marks j k → NoLater s marks i k
+unfolding NoLater
+later-trans s marks i j k p q = le-trans (stretch s marks i) (stretch s marks j) (stretch s marks k) p q
+
+pub later-anti : (s marks : List ℕ) (i j : ℕ) → NoLater s marks i j → NoLater s marks j i → stretch s marks i ≡ stretch s marks j
+unfolding NoLater
+later-anti s marks i j p q = le-anti (stretch s marks i) (stretch s marks j) p q
+
+pub later-same : (s marks : List ℕ) (i j : ℕ) → stretch s marks i ≡ stretch s marks j → NoLater s marks j i
+unfolding NoLater
+later-same s marks i j e = subst (λ (t : List ℕ). Le (stretch s marks j) t) (sym e) (le-same (stretch s marks j))
+
+-- ---- a stretch byte by byte
+
+pub slice-done : (i e : ℕ) (s : List ℕ) → e ≤ i → slice i e s ≡ []
+slice-done i e s h = drop-of-length-le (take e s) {i = i} (simp length-take (omega arith))
+
+module _ (s : List ℕ) (i ae j be : ℕ) (ai : i < ae) (al : ae ≤ length s) where
+  first : slice i ae s ≡ getD s i 0 ∷ slice (i + 1) ae s
+  first = slice-cons i ae s 0 ai al ∙ ap (λ (k : ℕ). getD s i 0 ∷ slice k ae s) (sym (add-one i))
+
+  pub turn-ended : be ≤ j → Le (slice i ae s) (slice j be s) → ⊥
+  turn-ended h p = subst (λ (l : List ℕ). Le (getD s i 0 ∷ slice (i + 1) ae s) l) (slice-done j be s h) (subst (λ (l : List ℕ). Le l (slice j be s)) first p)
+
+  module _ (bj : j < be) (bl : be ≤ length s) where
+    second : slice j be s ≡ getD s j 0 ∷ slice (j + 1) be s
+    second = slice-cons j be s 0 bj bl ∙ ap (λ (k : ℕ). getD s j 0 ∷ slice k be s) (sym (add-one j))
+
+    both : Le (slice i ae s) (slice j be s) ≡ Le (getD s i 0 ∷ slice (i + 1) ae s) (getD s j 0 ∷ slice (j + 1) be s)
+    both = ap₂ (λ (u v : List ℕ). Le u v) first second
+
+    pub turn-less : getD s i 0 < getD s j 0 → Le (slice i ae s) (slice j be s)
+    turn-less h = subst (λ (T : Type 0). T) (sym both) (inl h)
+
+    pub turn-more : getD s j 0 < getD s i 0 → Le (slice i ae s) (slice j be s) → ⊥
+    turn-more h p = ⊎-elim (λ q. omega arith) (λ q. omega (arith, q .0)) (subst (λ (T : Type 0). T) both p)
+
+    module _ (e : getD s i 0 ≡ getD s j 0) where
+      pub turn-on : Le (slice i ae s) (slice j be s) → Le (slice (i + 1) ae s) (slice (j + 1) be s)
+      turn-on p = ⊎-elim (λ q. absurd (omega arith)) (λ q. q .1) (subst (λ (T : Type 0). T) both p)
+
+      pub turn-back : Le (slice (i + 1) ae s) (slice (j + 1) be s) → Le (slice i ae s) (slice j be s)
+      turn-back p = subst (λ (T : Type 0). T) (sym both) (inr (e, p))

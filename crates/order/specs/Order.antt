@@ -1,0 +1,97 @@
+-- What is distinct among items that stand one after the other in bytes (document 01, "The sheet", sections 5 and 7: compared as written). The bytes
+-- between two marks are a stretch; stretches are ordered as words in a dictionary, and the numbers of stretches are sorted by what they stand for.
+use Prim.Native.Nat.{ℕ, _+_, _<_}
+use mathlib.Core.Path.{_≡_}
+use mathlib.Core.Bool.{Bool, true, false}
+use mathlib.Core.Logic.{_⊎_, inl, inr, ⊎-elim, ite}
+use mathlib.Core.List.{List, [], _∷_}
+use native.Mathlib.Decide.{ℕ-discrete, decLt}
+use lib.ListN.{length, getD, drop}
+use lib.Seq.{slice}
+use Rattle.lists.specs.Codes.{All}
+use Rattle.lists.specs.Upto.{from}
+
+-- a comes no later than b in a dictionary
+abbrev pub Le : List ℕ → List ℕ → Type 0
+Le [] b = Unit {0}
+Le (x ∷ a) [] = ⊥
+Le (x ∷ a) (y ∷ b) = (x < y) ⊎ ((x ≡ y) × Le a b)
+
+-- the bytes of s from mark i to mark i + 1; nothing of them stands past the end of s
+unfoldable pub stretch : List ℕ → List ℕ → ℕ → List ℕ
+stretch s marks i = slice (getD marks i 0) (getD marks (i + 1) 0) s
+
+-- stretch i comes no later than stretch j
+unfoldable pub NoLater : List ℕ → List ℕ → ℕ → ℕ → Type 0
+NoLater s marks i j = Le (stretch s marks i) (stretch s marks j)
+
+module _ {A : Type 0} (le : A → A → Type 0) where
+  -- each element comes no later than all that follow
+  abbrev pub Ordered : List A → Type 0
+  Ordered [] = Unit {0}
+  Ordered (x ∷ xs) = All (le x) xs × Ordered xs
+
+-- the same elements in another order
+pub data Perm {A : Type 0} : List A → List A → Type 0 where
+  same : {xs : List A} → Perm xs xs
+  keep : {x : A} {xs ys : List A} → Perm xs ys → Perm (x ∷ xs) (x ∷ ys)
+  swap : {x y : A} {xs : List A} → Perm (x ∷ y ∷ xs) (y ∷ x ∷ xs)
+  then : {xs ys zs : List A} → Perm xs ys → Perm ys zs → Perm xs zs
+
+module _ {A : Type 0} {le : A → A → Type 0} (dec : (a b : A) → Dec (le a b)) where
+  -- two lists merged: of the two first elements the one that comes first, the left one where either may
+  abbrev pub into : A → (List A → List A) → List A → List A
+  into x rest [] = x ∷ rest []
+  into x rest (y ∷ ys) = ite (dec x y) (x ∷ rest (y ∷ ys)) (y ∷ into x rest ys)
+
+  abbrev pub merged : List A → List A → List A
+  merged [] ys = ys
+  merged (x ∷ xs) ys = into x (λ zs. merged xs zs) ys
+
+-- no two elements of a list have the same f
+abbrev pub Apart : {A B : Type 0} → (A → B) → List A → Type 0
+Apart f [] = Unit {0}
+Apart f (x ∷ xs) = All (λ (y : _). f x ≡ f y → ⊥) xs × Apart f xs
+
+-- no two neighbours have the same f
+abbrev pub Adjacent : {A B : Type 0} → (A → B) → List A → Type 0
+Adjacent f [] = Unit {0}
+Adjacent f (x ∷ []) = Unit {0}
+Adjacent f (x ∷ y ∷ xs) = (f x ≡ f y → ⊥) × Adjacent f (y ∷ xs)
+
+-- the numbers from i on, k of them
+abbrev pub countFrom : ℕ → ℕ → List ℕ
+countFrom i k = from (λ (x : ℕ). x) k i
+
+-- ---- the order is decided
+
+le-decide : (x y : ℕ) (a b : List ℕ) → Dec (x < y) → Dec (x ≡ y) → Dec (Le a b) → Dec (Le (x ∷ a) (y ∷ b))
+le-decide x y a b (yes p) e d = yes (inl p)
+le-decide x y a b (no p) (no q) d = no (λ h. ⊎-elim p (λ k. q (k .0)) h)
+le-decide x y a b (no p) (yes q) (yes d) = yes (inr (q, d))
+le-decide x y a b (no p) (yes q) (no d) = no (λ h. ⊎-elim p (λ k. d (k .1)) h)
+
+pub le-dec : (a b : List ℕ) → Dec (Le a b)
+le-dec [] b = yes tt
+le-dec (x ∷ a) [] = no (λ h. h)
+le-dec (x ∷ a) (y ∷ b) = le-decide x y a b (decLt x y) (ℕ-discrete x y) (le-dec a b)
+
+pub no-later-dec : (s marks : List ℕ) (i j : ℕ) → Dec (NoLater s marks i j)
+unfolding NoLater
+no-later-dec s marks i j = le-dec (stretch s marks i) (stretch s marks j)
+
+-- ---- merging and sorting numbers
+
+-- what is left to merge: of the part of ord from i to h, and of its part from j on
+abbrev pub left : (s marks ord : List ℕ) → ℕ → ℕ → ℕ → List ℕ
+left s marks ord i h j = merged {le = NoLater s marks} (no-later-dec s marks) (slice i h ord) (drop j ord)
+
+-- the next element is the left part's first (true), or the right part's; what is left after it
+abbrev pub Next : Bool → (s marks ord : List ℕ) → ℕ → ℕ → ℕ → Type 0
+Next true s marks ord i h j = (i < h) × (left s marks ord i h j ≡ getD ord i 0 ∷ left s marks ord (i + 1) h j)
+Next false s marks ord i h j = (j < length ord) × (left s marks ord i h j ≡ getD ord j 0 ∷ left s marks ord i h (j + 1))
+
+-- b has a's elements, in order
+pub record Sorted (s marks a b : List ℕ) : Type 0 where
+  pub perm : Perm a b
+  pub ordered : Ordered (NoLater s marks) b
