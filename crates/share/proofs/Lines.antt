@@ -1,0 +1,213 @@
+-- From lists of parts to a line of glyphs; and the rule's theorems on a line.
+use mathlib.Core.Path.{_≡_, refl, sym, ap, _∙_}
+use mathlib.Core.List.{List, [], _∷_, map}
+use mathlib.Core.Bool.{Bool, true, false, cond, _&&_}
+use Prim.Native.Nat.{ℕ, zero, suc, _+_, _-_, _≤_, _<_}
+use native.Mathlib.Omega.{arith}
+use native.Mathlib.Nat.{zero-add, le-of-suc-le-suc}
+use native.Mathlib.Numerals.{add-one}
+use lib.Dec.{leb}
+use lib.IntN.{ℤ, pos, negℤ, _+ℤ_, negℤ-+ℤ}
+use lib.ListN.{length, drop, take, getD, replicate}
+use borrow.Author.Tests.{le-leb, lt-leb, leb-true}
+use Rattle.share.specs.Share.{total, still, plus, stages, goesBack, noPart, movements, remainder, most, within}
+use Rattle.share.specs.Line.{Glyph, apart, sideStages, sideFactors, sideExtras, evens, odds, lineMoves, beforeMoves, afterMoves, lineLeft, lineFits, signedOf, glyphsOf, Parts, Lent}
+use Rattle.share.specs.Inner.{weave, factorsAt, lineOf, Moved, stageCount, Fit}
+use Rattle.share.proofs.Lists.{length-still}
+use Rattle.share.proofs.Theory.{sum-is-gap, length-movesBy, no-part-still, both, empty, remainder-is}
+use Rattle.share.proofs.Halves.{total-halves, length-halves, getD-evens, getD-odds, length-weave}
+use Rattle.share.proofs.Stages.{at-stage, at-end}
+
+-- ---- the sides of listed glyphs
+
+pub record SidesOf (ks us bs cs : List ℕ) : Type 0 where
+  pub stages : sideStages (glyphsOf ks us bs cs) ≡ weave ks ks
+  pub factors : sideFactors (glyphsOf ks us bs cs) ≡ weave bs cs
+  pub extras : sideExtras (glyphsOf ks us bs cs) ≡ weave (still us) us
+
+pub sides-of : (ks us bs cs : List ℕ) → length us ≡ length ks → length bs ≡ length ks → length cs ≡ length ks → SidesOf ks us bs cs
+sides-of [] [] [] cs u b c = record { stages = refl; factors = refl; extras = refl }
+sides-of [] [] (y ∷ bs) cs u b c = absurd (omega arith)
+sides-of [] (x ∷ us) bs cs u b c = absurd (omega arith)
+sides-of (k ∷ ks) [] bs cs u b c = absurd (omega arith)
+sides-of (k ∷ ks) (x ∷ us) [] cs u b c = absurd (omega arith)
+sides-of (k ∷ ks) (x ∷ us) (y ∷ bs) [] u b c = absurd (omega arith)
+sides-of (k ∷ ks) (x ∷ us) (y ∷ bs) (z ∷ cs) u b c =
+    let i = sides-of ks us bs cs (omega arith) (omega arith) (omega arith) in
+    record {
+      stages = ap (λ (l : List ℕ). k ∷ k ∷ l) (i .stages);
+      factors = ap (λ (l : List ℕ). y ∷ z ∷ l) (i .factors);
+      extras = ap (λ (l : List ℕ). 0 ∷ x ∷ l) (i .extras);
+    }
+
+-- the parts of a line, listed, are the line
+pub glyphsOf-parts : (gs : List Glyph) → glyphsOf (map (λ (g : Glyph). g .stage) gs) (map (λ (g : Glyph). g .extra) gs) (map (λ (g : Glyph). g .before) gs) (map (λ (g : Glyph). g .after) gs) ≡ gs
+glyphsOf-parts [] = refl
+glyphsOf-parts (g ∷ gs) = ap (λ (l : List Glyph). g ∷ l) (glyphsOf-parts gs)
+
+module _ {n : ℕ} {ks us bs cs : List ℕ} (p : Lent n ks us bs cs) (gap : ℕ) where
+  s : SidesOf ks us bs cs
+  s = sides-of ks us bs cs (omega (arith, p .stages, p .extras)) (omega (arith, p .stages, p .first)) (omega (arith, p .stages, p .second))
+
+  pub line-left : lineOf remainder ks us bs cs gap ≡ lineLeft (glyphsOf ks us bs cs) gap
+  unfolding lineLeft
+  line-left = sym (ap (λ (l : List ℕ). remainder l (sideFactors (glyphsOf ks us bs cs)) (sideExtras (glyphsOf ks us bs cs)) gap) (s .stages)
+      ∙ ap (λ (l : List ℕ). remainder (weave ks ks) l (sideExtras (glyphsOf ks us bs cs)) gap) (s .factors)
+      ∙ ap (λ (l : List ℕ). remainder (weave ks ks) (weave bs cs) l gap) (s .extras))
+
+  pub line-moves : lineOf movements ks us bs cs gap ≡ lineMoves (glyphsOf ks us bs cs) gap
+  unfolding lineMoves
+  line-moves = sym (ap (λ (l : List ℕ). movements l (sideFactors (glyphsOf ks us bs cs)) (sideExtras (glyphsOf ks us bs cs)) gap) (s .stages)
+      ∙ ap (λ (l : List ℕ). movements (weave ks ks) l (sideExtras (glyphsOf ks us bs cs)) gap) (s .factors)
+      ∙ ap (λ (l : List ℕ). movements (weave ks ks) (weave bs cs) l gap) (s .extras))
+
+-- ---- refusal 15's test
+
+module _ {n : ℕ} {ks bs cs : List ℕ} (p : Parts n ks bs cs) where
+  pub fits-is : (us : List ℕ) → length us ≡ length ks → lineFits (glyphsOf ks us bs cs) ≡ within (weave ks ks) (weave bs cs) stages
+  unfolding lineFits
+  fits-is us u =
+      let s = sides-of ks us bs cs u (omega (arith, p .stages, p .first)) (omega (arith, p .stages, p .second)) in
+      ap (λ (l : List ℕ). within l (sideFactors (glyphsOf ks us bs cs)) stages) (s .stages) ∙ ap (λ (l : List ℕ). within (weave ks ks) l stages) (s .factors)
+
+module _ (ks bs cs : List ℕ) where
+  within-at : (s : ℕ) → s < stageCount → {b : Bool} → b ≡ within (weave ks ks) (weave bs cs) (drop s stages)
+      → b ≡ (leb (total (factorsAt s ks bs cs)) most && within (weave ks ks) (weave bs cs) (drop (s + 1) stages))
+  within-at s h e = e ∙ ap (within (weave ks ks) (weave bs cs)) (at-stage s h)
+
+  pub within-on : {s : ℕ} {b : Bool} → s < stageCount → total (factorsAt s ks bs cs) ≤ most → b ≡ within (weave ks ks) (weave bs cs) (drop s stages)
+      → b ≡ within (weave ks ks) (weave bs cs) (drop (s + 1) stages)
+  within-on {s} h l e =
+      within-at s h e ∙ ap (λ (t : Bool). t && within (weave ks ks) (weave bs cs) (drop (s + 1) stages)) (le-leb (total (factorsAt s ks bs cs)) most l)
+
+  pub within-over : {s : ℕ} {b : Bool} → s < stageCount → most < total (factorsAt s ks bs cs) → b ≡ within (weave ks ks) (weave bs cs) (drop s stages) → false ≡ b
+  within-over {s} h l e =
+      sym (within-at s h e ∙ ap (λ (t : Bool). t && within (weave ks ks) (weave bs cs) (drop (s + 1) stages)) (lt-leb (total (factorsAt s ks bs cs)) most l))
+
+  pub within-end : {s : ℕ} {b : Bool} → s ≡ stageCount → b ≡ within (weave ks ks) (weave bs cs) (drop s stages) → true ≡ b
+  within-end {s} h e = sym (e ∙ ap (within (weave ks ks) (weave bs cs)) (at-end s h))
+
+  -- what the test says of each stage
+  split : (s : ℕ) → s < stageCount → within (weave ks ks) (weave bs cs) (drop s stages) ≡ true
+      → (leb (total (factorsAt s ks bs cs)) most ≡ true) × (within (weave ks ks) (weave bs cs) (drop (s + 1) stages) ≡ true)
+  split s h e = both _ _ (sym (within-at s h (sym e)))
+
+  tails : (s : ℕ) → s ≤ stageCount → within (weave ks ks) (weave bs cs) stages ≡ true → within (weave ks ks) (weave bs cs) (drop s stages) ≡ true
+  tails zero h e = e
+  tails (suc s) h e = rw (add-one) at (split s h (tails s (omega arith) e) .1)
+
+  pub fit : within (weave ks ks) (weave bs cs) stages ≡ true → Fit ks bs cs
+  fit e = record { at = λ s h. leb-true (total (factorsAt s ks bs cs)) most (split s h (tails s (omega arith) e) .0) }
+
+-- ---- from nothing
+
+-- what is added to n zeros
+pub plus-zeros : (n : ℕ) (xs : List ℕ) → n ≤ length xs → plus (replicate n 0) xs ≡ xs
+plus-zeros zero xs h = refl
+plus-zeros (suc n) [] h = absurd (omega arith)
+plus-zeros (suc n) (x ∷ xs) h = rw (zero-add x, plus-zeros n xs (le-of-suc-le-suc h))
+
+pub total-zeros : (n : ℕ) → total (replicate n 0) ≡ 0
+total-zeros zero = refl
+total-zeros (suc n) = omega (arith, total-zeros n)
+
+-- a local array of zeros, lent in part
+pub zeros-length : (m n : ℕ) → n ≤ m → n ≡ length {A = ℕ} (take n (replicate m 0))
+zeros-length m zero h = refl
+zeros-length zero (suc n) h = absurd (omega arith)
+zeros-length (suc m) (suc n) h = ap suc (zeros-length m n (omega arith))
+
+pub zeros-take : (m n : ℕ) → n ≤ m → take {A = ℕ} n (replicate m 0) ≡ replicate n 0
+zeros-take m zero h = refl
+zeros-take zero (suc n) h = absurd (omega arith)
+zeros-take (suc m) (suc n) h = ap (λ (l : List ℕ). 0 ∷ l) (zeros-take m n (omega arith))
+
+module _ {n : ℕ} {ks us bs cs : List ℕ} (p : Lent n ks us bs cs) (gap : ℕ) where
+  pub length-line : length (lineOf movements ks us bs cs gap) ≡ n + n
+  length-line =
+      length-movesBy stages goesBack (n + n) (weave ks ks) (weave bs cs) (weave (still us) us) gap
+      (length-weave n ks ks (p .stages) (p .stages)) (length-weave n bs cs (p .first) (p .second)) (length-weave n (still us) us (length-still us ∙ p .extras) (p .extras))
+
+  pub from-zeros : {xs ys xs' ys' : List ℕ} → xs ≡ replicate n 0 → ys ≡ replicate n 0 → Moved (lineOf movements ks us bs cs gap) xs ys xs' ys'
+      → (xs' ≡ evens (lineOf movements ks us bs cs gap)) × (ys' ≡ odds (lineOf movements ks us bs cs gap))
+  from-zeros {xs} {ys} {xs'} {ys'} e f m =
+      let w = lineOf movements ks us bs cs gap in
+      let l = length-halves n w length-line in (
+        m .before ∙ ap (λ (l : List ℕ). plus l (evens w)) e ∙ plus-zeros n (evens w) (omega arith),
+        m .after ∙ ap (λ (l : List ℕ). plus l (odds w)) f ∙ plus-zeros n (odds w) (omega arith),
+      )
+
+-- no more than the gap on either side
+pub sides-small : (ks us bs cs : List ℕ) (gap : ℕ) → (total (evens (lineOf movements ks us bs cs gap)) ≤ gap) × (total (odds (lineOf movements ks us bs cs gap)) ≤ gap)
+sides-small ks us bs cs gap =
+    let h = total-halves (lineOf movements ks us bs cs gap) in
+    let s = sum-is-gap (weave ks ks) (weave bs cs) (weave (still us) us) gap in
+    (omega arith, omega arith)
+
+-- ---- the theorems on a line
+
+length-sides : (gs : List Glyph) → (length (sideStages gs) ≡ length gs + length gs) × (length (sideFactors gs) ≡ length gs + length gs) × (length (sideExtras gs) ≡ length gs + length gs)
+length-sides [] = (refl, refl, refl)
+length-sides (g ∷ gs) = let i = length-sides gs in (omega arith, omega arith, omega arith)
+
+-- a movement for each side of each glyph
+pub line-lengths : (gs : List Glyph) (gap : ℕ) → (length (beforeMoves gs gap) ≡ length gs) × (length (afterMoves gs gap) ≡ length gs)
+unfolding lineMoves
+line-lengths gs gap =
+    let i = length-sides gs in
+    length-halves (length gs) (lineMoves gs gap) (length-movesBy stages goesBack (length gs + length gs) (sideStages gs) (sideFactors gs) (sideExtras gs) gap (i .0) (i .1) (i .2))
+
+-- THE SUM: movements and remainder are the gap, to the unit
+pub line-sum : (gs : List Glyph) (gap : ℕ) → total (beforeMoves gs gap) + total (afterMoves gs gap) + lineLeft gs gap ≡ gap
+unfolding lineMoves lineLeft
+line-sum gs gap = omega (arith, total-halves (lineMoves gs gap), sum-is-gap (sideStages gs) (sideFactors gs) (sideExtras gs) gap)
+
+-- WHEN THERE IS A REMAINDER
+pub line-remainder : (gs : List Glyph) (gap : ℕ)
+    → lineLeft gs gap ≡ cond (empty (sideStages gs) (sideFactors gs) stages && empty (sideStages gs) (sideExtras gs) stages) gap 0
+unfolding lineLeft
+line-remainder gs gap = remainder-is (sideStages gs) (sideFactors gs) (sideExtras gs) gap
+
+-- STAYS STILL: a glyph that takes no part does not move
+stage-at : (gs : List Glyph) (i : ℕ) → (getD (sideStages gs) (i + i) noPart ≡ getD gs i apart .stage) × (getD (sideStages gs) (i + i + 1) noPart ≡ getD gs i apart .stage)
+stage-at [] i = (refl, refl)
+stage-at (g ∷ gs) zero = (refl, refl)
+stage-at (g ∷ gs) (suc i) =
+    let e : suc i + suc i ≡ suc (suc (i + i)) = omega arith in
+    let f : suc i + suc i + 1 ≡ suc (suc (i + i + 1)) = omega arith in
+    (rw e (stage-at gs i .0), rw f (stage-at gs i .1))
+
+pub line-still : (gs : List Glyph) (gap i : ℕ) → getD gs i apart .stage ≡ noPart → (getD (beforeMoves gs gap) i 0 ≡ 0) × (getD (afterMoves gs gap) i 0 ≡ 0)
+unfolding lineMoves
+line-still gs gap i e =
+    let s = stage-at gs i in (
+      getD-evens i (lineMoves gs gap) ∙ no-part-still (i + i) (sideStages gs) (sideFactors gs) (sideExtras gs) gap (s .0 ∙ e),
+      getD-odds i (lineMoves gs gap) ∙ no-part-still (i + i + 1) (sideStages gs) (sideFactors gs) (sideExtras gs) gap (s .1 ∙ e),
+    )
+
+-- ---- with signs
+
+abbrev pub sumℤ : List ℤ → ℤ
+sumℤ [] = pos 0
+sumℤ (z ∷ zs) = z +ℤ sumℤ zs
+
+-- the sum of sizes with a sign is their sum with that sign
+pub sum-signed : (b : Bool) (l : List ℕ) → sumℤ (map (signedOf b) l) ≡ signedOf b (total l)
+sum-signed true [] = refl
+sum-signed false [] = refl
+sum-signed true (x ∷ l) = ap (λ (z : ℤ). negℤ (pos x) +ℤ z) (sum-signed true l) ∙ sym (negℤ-+ℤ (pos x) (pos (total l)))
+sum-signed false (x ∷ l) = ap (λ (z : ℤ). pos x +ℤ z) (sum-signed false l)
+
+add-signed : (b : Bool) (x y : ℕ) → signedOf b x +ℤ signedOf b y ≡ signedOf b (x + y)
+add-signed true x y = sym (negℤ-+ℤ (pos x) (pos y))
+add-signed false x y = refl
+
+-- THE SUM, with signs
+pub line-sum-signed : (b : Bool) (gs : List Glyph) (gap : ℕ)
+    → (sumℤ (map (signedOf b) (beforeMoves gs gap)) +ℤ sumℤ (map (signedOf b) (afterMoves gs gap))) +ℤ signedOf b (lineLeft gs gap) ≡ signedOf b gap
+line-sum-signed b gs gap =
+    ap (λ (z : ℤ). (z +ℤ sumℤ (map (signedOf b) (afterMoves gs gap))) +ℤ signedOf b (lineLeft gs gap)) (sum-signed b (beforeMoves gs gap))
+    ∙ ap (λ (z : ℤ). (signedOf b (total (beforeMoves gs gap)) +ℤ z) +ℤ signedOf b (lineLeft gs gap)) (sum-signed b (afterMoves gs gap))
+    ∙ ap (λ (z : ℤ). z +ℤ signedOf b (lineLeft gs gap)) (add-signed b (total (beforeMoves gs gap)) (total (afterMoves gs gap)))
+    ∙ add-signed b (total (beforeMoves gs gap) + total (afterMoves gs gap)) (lineLeft gs gap)
+    ∙ ap (signedOf b) (line-sum gs gap)

@@ -1,0 +1,75 @@
+-- Lines worked out (document 01, "Sample lines and tables", the starred lines on sharing, and some more): one list of cases, one theorem.
+use mathlib.Core.Path.{_≡_, refl}
+use mathlib.Core.Bool.{Bool, true, false}
+use mathlib.Core.List.{List, [], _∷_}
+use Prim.Native.Nat.{ℕ}
+use Rattle.share.specs.Share.{shares, stageMoves, stageLeft, stages, goesBack, noPart, movesBy, leftBy}
+use Rattle.share.specs.Line.{Glyph, lineMoves, beforeMoves, afterMoves, lineLeft, lineFits}
+
+-- a line and the size of its gap; whether refusal 15 lets it pass, the movements of its before sides and of its after sides, and the remainder
+pub record Sample : Type 0 where
+  pub glyphs : List Glyph
+  pub gap : ℕ
+  pub fits : Bool
+  pub before : List ℕ
+  pub after : List ℕ
+  pub left : ℕ
+
+abbrev glyph : ℕ → ℕ → ℕ → ℕ → Glyph
+glyph stage extra before after = record { stage = stage; extra = extra; before = before; after = after }
+
+abbrev pub samples : List Sample
+samples =
+    -- factors 3, 3, 3: a gap below their total, the total, and one more
+    record { glyphs = glyph 0 0 0 3 ∷ glyph 0 0 0 3 ∷ glyph 0 0 0 3 ∷ []; gap = 7; fits = true; before = 0 ∷ 0 ∷ 0 ∷ []; after = 2 ∷ 2 ∷ 3 ∷ []; left = 0 }
+    ∷ record { glyphs = glyph 0 0 0 3 ∷ glyph 0 0 0 3 ∷ glyph 0 0 0 3 ∷ []; gap = 9; fits = true; before = 0 ∷ 0 ∷ 0 ∷ []; after = 3 ∷ 3 ∷ 3 ∷ []; left = 0 }
+    ∷ record { glyphs = glyph 0 0 0 3 ∷ glyph 0 0 0 3 ∷ glyph 0 0 0 3 ∷ []; gap = 10; fits = true; before = 0 ∷ 0 ∷ 0 ∷ []; after = 3 ∷ 3 ∷ 4 ∷ []; left = 0 }
+    -- a unit lost by rounding goes to the side where the running total wins it, not to the last one
+    ∷ record { glyphs = glyph 0 0 3 3 ∷ glyph 0 0 3 3 ∷ []; gap = 6; fits = true; before = 1 ∷ 1 ∷ []; after = 2 ∷ 2 ∷ []; left = 0 }
+    -- no factor, none unlimited
+    ∷ record { glyphs = glyph 0 0 0 0 ∷ glyph 1 0 0 0 ∷ []; gap = 5; fits = true; before = 0 ∷ 0 ∷ []; after = 0 ∷ 0 ∷ []; left = 5 }
+    -- two unlimited glyphs of one stage
+    ∷ record { glyphs = glyph 1 1 0 0 ∷ glyph 1 1 0 0 ∷ []; gap = 5; fits = true; before = 0 ∷ 0 ∷ []; after = 2 ∷ 3 ∷ []; left = 0 }
+    -- no glyph
+    ∷ record { glyphs = []; gap = 4; fits = true; before = []; after = []; left = 4 }
+    -- a before side stands ahead of its after side
+    ∷ record { glyphs = glyph 0 0 1 1 ∷ []; gap = 1; fits = true; before = 0 ∷ []; after = 1 ∷ []; left = 0 }
+    -- stage 0 has its factors, and stage 1 shares the rest
+    ∷ record { glyphs = glyph 1 0 4 0 ∷ glyph 0 0 3 2 ∷ glyph 1 0 0 4 ∷ []; gap = 8; fits = true; before = 1 ∷ 3 ∷ 0 ∷ []; after = 0 ∷ 2 ∷ 2 ∷ []; left = 0 }
+    -- an unlimited glyph has nothing extra where the gap is at most the total, and all that is past it otherwise
+    ∷ record { glyphs = glyph 0 1 0 2 ∷ glyph 0 0 0 2 ∷ []; gap = 4; fits = true; before = 0 ∷ 0 ∷ []; after = 2 ∷ 2 ∷ []; left = 0 }
+    ∷ record { glyphs = glyph 0 1 0 2 ∷ glyph 0 0 0 2 ∷ []; gap = 9; fits = true; before = 0 ∷ 0 ∷ []; after = 7 ∷ 2 ∷ []; left = 0 }
+    -- one takes no part; what the stages leave goes back to stage 1, on top of its factors
+    ∷ record { glyphs = glyph noPart 1 9 9 ∷ glyph 2 0 0 1 ∷ glyph 1 0 2 0 ∷ []; gap = 7; fits = true; before = 0 ∷ 0 ∷ 6 ∷ []; after = 0 ∷ 1 ∷ 0 ∷ []; left = 0 }
+    -- the most that a stage's total may be, and one more in a stage that is not reached
+    ∷ record { glyphs = glyph 0 0 8589934592 0 ∷ glyph 2 0 0 1 ∷ []; gap = 3; fits = true; before = 3 ∷ 0 ∷ []; after = 0 ∷ 0 ∷ []; left = 0 }
+    ∷ record { glyphs = glyph 0 0 0 3 ∷ glyph 2 0 8589934592 1 ∷ []; gap = 3; fits = false; before = 0 ∷ 0 ∷ []; after = 3 ∷ 0 ∷ []; left = 0 }
+    ∷ []
+
+pub record Right (s : Sample) : Type 0 where
+  pub fits : lineFits (s .glyphs) ≡ s .fits
+  pub before : beforeMoves (s .glyphs) (s .gap) ≡ s .before
+  pub after : afterMoves (s .glyphs) (s .gap) ≡ s .after
+  pub left : lineLeft (s .glyphs) (s .gap) ≡ s .left
+
+pub data All : List Sample → Type 0 where
+  none : All []
+  more : {s : Sample} {ss : List Sample} → Right s → All ss → All (s ∷ ss)
+
+pub worked-out : All samples
+unfolding shares stageMoves stageLeft stages goesBack movesBy leftBy lineMoves lineLeft lineFits
+worked-out =
+    more (record { fits = refl; before = refl; after = refl; left = refl }) (
+    more (record { fits = refl; before = refl; after = refl; left = refl }) (
+    more (record { fits = refl; before = refl; after = refl; left = refl }) (
+    more (record { fits = refl; before = refl; after = refl; left = refl }) (
+    more (record { fits = refl; before = refl; after = refl; left = refl }) (
+    more (record { fits = refl; before = refl; after = refl; left = refl }) (
+    more (record { fits = refl; before = refl; after = refl; left = refl }) (
+    more (record { fits = refl; before = refl; after = refl; left = refl }) (
+    more (record { fits = refl; before = refl; after = refl; left = refl }) (
+    more (record { fits = refl; before = refl; after = refl; left = refl }) (
+    more (record { fits = refl; before = refl; after = refl; left = refl }) (
+    more (record { fits = refl; before = refl; after = refl; left = refl }) (
+    more (record { fits = refl; before = refl; after = refl; left = refl }) (
+    more (record { fits = refl; before = refl; after = refl; left = refl }) none)))))))))))))

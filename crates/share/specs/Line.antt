@@ -1,0 +1,89 @@
+-- The sharing rule on a line's glyphs (document 01, "Sharing the gap" and refusal 15), for one direction of the gap: from each glyph's part to the
+-- movements of its two sides.
+use Prim.Native.Nat.{ℕ, _≤_}
+use mathlib.Core.Path.{_≡_}
+use mathlib.Core.Bool.{Bool, true, false}
+use mathlib.Core.List.{List, [], _∷_}
+use lib.ListN.{length}
+use lib.IntN.{ℤ, pos, negℤ}
+use Rattle.share.specs.Share.{stages, noPart, movements, remainder, within}
+
+-- a glyph's part: its stage mark, 1 where it is unlimited and else 0, and the factors of its two sides
+pub record Glyph : Type 0 where
+  pub stage : ℕ
+  pub extra : ℕ
+  pub before : ℕ
+  pub after : ℕ
+
+-- the part of a glyph that takes none
+abbrev pub apart : Glyph
+apart = record { stage = noPart; extra = 0; before = 0; after = 0 }
+
+-- ---- the sides in line order
+
+abbrev pub sideStages : List Glyph → List ℕ
+sideStages [] = []
+sideStages (g ∷ gs) = g .stage ∷ g .stage ∷ sideStages gs
+
+abbrev pub sideFactors : List Glyph → List ℕ
+sideFactors [] = []
+sideFactors (g ∷ gs) = g .before ∷ g .after ∷ sideFactors gs
+
+abbrev pub sideExtras : List Glyph → List ℕ
+sideExtras [] = []
+sideExtras (g ∷ gs) = 0 ∷ g .extra ∷ sideExtras gs
+
+-- of values of the sides, those of the before sides, and those of the after sides
+abbrev pub evens : List ℕ → List ℕ
+evens [] = []
+evens (x ∷ []) = x ∷ []
+evens (x ∷ y ∷ l) = x ∷ evens l
+
+abbrev pub odds : List ℕ → List ℕ
+odds [] = []
+odds (x ∷ []) = []
+odds (x ∷ y ∷ l) = y ∷ odds l
+
+-- ---- the rule
+
+unfoldable pub lineMoves : List Glyph → ℕ → List ℕ
+lineMoves gs gap = movements (sideStages gs) (sideFactors gs) (sideExtras gs) gap
+
+abbrev pub beforeMoves : List Glyph → ℕ → List ℕ
+beforeMoves gs gap = evens (lineMoves gs gap)
+
+abbrev pub afterMoves : List Glyph → ℕ → List ℕ
+afterMoves gs gap = odds (lineMoves gs gap)
+
+unfoldable pub lineLeft : List Glyph → ℕ → ℕ
+lineLeft gs gap = remainder (sideStages gs) (sideFactors gs) (sideExtras gs) gap
+
+-- refusal 15 does not bar the line
+unfoldable pub lineFits : List Glyph → Bool
+lineFits gs = within (sideStages gs) (sideFactors gs) stages
+
+-- a size with the gap's sign: minus where the line shrinks
+abbrev pub signedOf : Bool → ℕ → ℤ
+signedOf true x = negℤ (pos x)
+signedOf false x = pos x
+
+-- the glyphs whose stage marks, extra weights and factors stand in four lists
+abbrev pub glyphsOf : List ℕ → List ℕ → List ℕ → List ℕ → List Glyph
+glyphsOf [] us bs cs = []
+glyphsOf (k ∷ ks) [] bs cs = []
+glyphsOf (k ∷ ks) (u ∷ us) [] cs = []
+glyphsOf (k ∷ ks) (u ∷ us) (b ∷ bs) [] = []
+glyphsOf (k ∷ ks) (u ∷ us) (b ∷ bs) (c ∷ cs) = record { stage = k; extra = u; before = b; after = c } ∷ glyphsOf ks us bs cs
+
+-- lists of n glyphs: their stage marks and factors; and these with their extra weights, of no more glyphs than a line may have
+pub record Parts (n : ℕ) (ks bs cs : List ℕ) : Type 0 where
+  pub stages : length ks ≡ n
+  pub first : length bs ≡ n
+  pub second : length cs ≡ n
+
+pub record Lent (n : ℕ) (ks us bs cs : List ℕ) : Type 0 where
+  pub stages : length ks ≡ n
+  pub extras : length us ≡ n
+  pub first : length bs ≡ n
+  pub second : length cs ≡ n
+  pub short : n ≤ 1024

@@ -1,0 +1,409 @@
+// A line's gap shared over its sides (document 01, "Sharing the gap" and refusal 15). All of it works on sizes; the sign stands in
+// `signed` alone. A line is four slices with an element for each glyph: its stage mark, 1 where it is unlimited and else 0, and the
+// factors of its before and its after side. A mark that is no stage, as 255, takes no part.
+ghost use mathlib.Core.Path.{_≡_};
+ghost use Prim.Native.Nat.{ℕ, _+_, _≤_, _<_, _^_, min};
+ghost use lib.ListN.{length, replicate};
+ghost use lib.Dec.{ltb};
+ghost use mathlib.Core.Bool.{true, cond};
+ghost use mathlib.Core.List.{List, map};
+ghost use Rattle.share.specs.Share.{total, most, plus, shares, stages, stageMoves, stageLeft, stagesMoves, stagesLeft, backMoves, backLeft, movements, remainder};
+ghost use Rattle.share.specs.Line.{evens, odds, glyphsOf, lineLeft, lineFits, beforeMoves, afterMoves, signedOf, Parts, Lent};
+ghost use Rattle.share.specs.Inner.{weave, factorsAt, extrasAt, lineOf, Runs, Ready, Stepped, Moved, Holds, Sides, Fit};
+
+// The most that a stage's total may be.
+const MOST: u64 = 8589934592;
+
+// The stages are 0 to STAGES - 1.
+const STAGES: u8 = 3;
+
+// Step 1's formula on its way from side to side: the amount, the total that it is shared over, the running total, and what the
+// sides so far have been given.
+pub struct Running {
+    pub amount: u64,
+    pub over: u64,
+    pub sum: u64,
+    pub given: u64,
+}
+
+// A side's share, and the state after it.
+pub struct Step {
+    pub share: u64,
+    pub next: Running,
+}
+
+// The state ahead of the first side.
+fn start(amount: u64, over: u64) -> Running
+    ensures { λ r. ⌜ Runs amount over 0 r ⌝ }
+{
+    Running {
+        amount,
+        over,
+        sum: 0,
+        given: 0,
+    }
+}
+
+// One side of step 1's formula. A side of no weight has no share, and costs no division.
+fn next_share(run: Running, weight: u64) -> Step
+    requires { ⌜ Ready run weight ⌝ }
+    ensures { λ r. ⌜ Stepped run weight r ⌝ }
+{
+    if weight == 0 {
+        return Step {
+            share: 0,
+            next: run,
+        };
+    }
+    let sum = run.sum + weight;
+    let given = run.amount * sum / run.over;
+    Step {
+        share: given - run.given,
+        next: Running {
+            amount: run.amount,
+            over: run.over,
+            sum,
+            given,
+        },
+    }
+}
+
+// `sum + more`, or one more than the most that a stage's total may be where it is above that.
+fn capped(sum: u64, more: u64) -> u64
+    requires { ⌜ sum ≤ most + 1 ⌝ }
+    ensures { λ r. ⌜ r ≡ min (sum + more) (most + 1) ⌝ }
+{
+    if MOST + 1 - sum < more {
+        return MOST + 1;
+    }
+    sum + more
+}
+
+// A stage's total, or one more than the most that it may be where it is above that.
+fn stage_total(stage: u8, marks: &[u8], first: &[u64], second: &[u64]) -> u64
+    requires { ⌜ Parts (length (now marks)) (now marks) (now first) (now second) ⌝ }
+    ensures { λ r. ⌜ r ≡ min (total (factorsAt stage (now (marks .entry)) (now (first .entry)) (now (second .entry)))) (most + 1) ⌝ }
+{
+    let mut sum: u64 = 0;
+    let mut i = 0;
+    while i < marks.len() {
+        if marks[i] == stage {
+            sum = capped(capped(sum, first[i]), second[i]);
+            i += 1;
+        } else {
+            i += 1;
+        }
+    }
+    sum
+}
+
+// How much extra weight the glyphs of a stage have: the number of unlimited ones.
+fn stage_extras(stage: u8, marks: &[u8], extras: &[u8]) -> u64
+    requires { ⌜ (length (now extras) ≡ length (now marks)) × (length (now marks) ≤ 1024) ⌝ }
+    ensures { λ r. ⌜ (r ≡ total (extrasAt stage (now (marks .entry)) (now (extras .entry)))) × (r ≤ most) ⌝ }
+{
+    let mut sum: u64 = 0;
+    let mut i = 0;
+    while i < marks.len() {
+        if marks[i] == stage {
+            sum += extras[i] as u64;
+            i += 1;
+        } else {
+            i += 1;
+        }
+    }
+    sum
+}
+
+// Adds to the sides of a stage their factors.
+fn give_all(
+    stage: u8,
+    marks: &[u8],
+    first: &[u64],
+    second: &[u64],
+    before: &mut [u64],
+    after: &mut [u64],
+)
+    requires { ⌜ Parts (length (now marks)) (now marks) (now first) (now second) × Sides (length (now marks)) (now before) (now after) ⌝ }
+    requires { ⌜ Holds (total (factorsAt stage (now marks) (now first) (now second))) (now before) (now after) ⌝ }
+    ensures { λ r. ⌜ Moved (factorsAt stage (now (marks .entry)) (now (first .entry)) (now (second .entry))) (now (before .entry)) (now (after .entry)) (now (before .exit)) (now (after .exit)) ⌝ }
+{
+    let mut i = 0;
+    while i < marks.len() {
+        if marks[i] == stage {
+            before[i] += first[i];
+            after[i] += second[i];
+            i += 1;
+        } else {
+            i += 1;
+        }
+    }
+}
+
+// Adds to the sides of a stage their shares of the amount, by their factors, whose total is `over`.
+fn give(
+    amount: u64,
+    over: u64,
+    stage: u8,
+    marks: &[u8],
+    first: &[u64],
+    second: &[u64],
+    before: &mut [u64],
+    after: &mut [u64],
+)
+    requires { ⌜ Parts (length (now marks)) (now marks) (now first) (now second) × Sides (length (now marks)) (now before) (now after) ⌝ }
+    requires { ⌜ Holds amount (now before) (now after) × (over ≡ total (factorsAt stage (now marks) (now first) (now second))) × (over ≤ most) ⌝ }
+    ensures { λ r. ⌜ Moved (shares amount (factorsAt stage (now (marks .entry)) (now (first .entry)) (now (second .entry)))) (now (before .entry)) (now (after .entry)) (now (before .exit)) (now (after .exit)) ⌝ }
+{
+    if over == 0 {
+        return;
+    }
+    let mut run = start(amount, over);
+    let mut i = 0;
+    while i < marks.len() {
+        if marks[i] == stage {
+            let one = next_share(run, first[i]);
+            let middle = one.next;
+            let two = next_share(middle, second[i]);
+            before[i] += one.share;
+            after[i] += two.share;
+            run = two.next;
+            i += 1;
+        } else {
+            i += 1;
+        }
+    }
+}
+
+// Adds to the after sides of a stage's unlimited glyphs their shares of the amount; `over` is their number.
+fn give_extra(amount: u64, over: u64, stage: u8, marks: &[u8], extras: &[u8], after: &mut [u64])
+    requires { ⌜ (length (now extras) ≡ length (now marks)) × (length (now after) ≡ length (now marks)) ⌝ }
+    requires { ⌜ (amount ≤ 1073741823) × (total (now after) + amount < 2 ^ 63) × (over ≡ total (extrasAt stage (now marks) (now extras))) × (over ≤ most) × (0 < over) ⌝ }
+    ensures { λ r. ⌜ now (after .exit) ≡ plus (now (after .entry)) (odds (shares amount (extrasAt stage (now (marks .entry)) (now (extras .entry))))) ⌝ }
+{
+    let mut run = start(amount, over);
+    let mut i = 0;
+    while i < marks.len() {
+        if marks[i] == stage {
+            let one = next_share(run, extras[i] as u64);
+            after[i] += one.share;
+            run = one.next;
+            i += 1;
+        } else {
+            i += 1;
+        }
+    }
+}
+
+// Shares what is left past a stage's factors over its unlimited glyphs; answers what is left then.
+fn share_extra(left: u64, stage: u8, marks: &[u8], extras: &[u8], after: &mut [u64]) -> u64
+    requires { ⌜ (length (now extras) ≡ length (now marks)) × (length (now marks) ≤ 1024) × (length (now after) ≡ length (now marks)) ⌝ }
+    requires { ⌜ (left ≤ 1073741823) × (total (now after) + left < 2 ^ 63) ⌝ }
+    ensures { λ r. ⌜ r ≡ cond (ltb 0 (total (extrasAt stage (now (marks .entry)) (now (extras .entry))))) 0 left ⌝ }
+    ensures { λ r. ⌜ now (after .exit) ≡ plus (now (after .entry)) (odds (shares left (extrasAt stage (now (marks .entry)) (now (extras .entry))))) ⌝ }
+{
+    let over = stage_extras(stage, marks, extras);
+    if over == 0 {
+        return left;
+    }
+    give_extra(left, over, stage, marks, extras, after);
+    0
+}
+
+// Steps 1 and 2 for one stage: adds its movements; answers what is left.
+fn share_stage(
+    left: u64,
+    stage: u8,
+    marks: &[u8],
+    extras: &[u8],
+    first: &[u64],
+    second: &[u64],
+    before: &mut [u64],
+    after: &mut [u64],
+) -> u64
+    requires { ⌜ Lent (length (now marks)) (now marks) (now extras) (now first) (now second) × Sides (length (now marks)) (now before) (now after) ⌝ }
+    requires { ⌜ Holds left (now before) (now after) × (total (factorsAt stage (now marks) (now first) (now second)) ≤ most) ⌝ }
+    ensures { λ r. ⌜ r ≡ stageLeft left (factorsAt stage (now (marks .entry)) (now (first .entry)) (now (second .entry))) (extrasAt stage (now (marks .entry)) (now (extras .entry))) ⌝ }
+    ensures { λ r. ⌜ Moved (stageMoves left (factorsAt stage (now (marks .entry)) (now (first .entry)) (now (second .entry))) (extrasAt stage (now (marks .entry)) (now (extras .entry)))) (now (before .entry)) (now (after .entry)) (now (before .exit)) (now (after .exit)) ⌝ }
+{
+    if left == 0 {
+        return 0;
+    }
+    let over = stage_total(stage, marks, first, second);
+    if left <= over {
+        give(left, over, stage, marks, first, second, before, after);
+        return 0;
+    }
+    give_all(stage, marks, first, second, before, after);
+    share_extra(left - over, stage, marks, extras, after)
+}
+
+// The stages in turn: adds their movements; answers what the last one leaves.
+fn share_stages(
+    gap: u64,
+    marks: &[u8],
+    extras: &[u8],
+    first: &[u64],
+    second: &[u64],
+    before: &mut [u64],
+    after: &mut [u64],
+) -> u64
+    requires { ⌜ Lent (length (now marks)) (now marks) (now extras) (now first) (now second) × Sides (length (now marks)) (now before) (now after) ⌝ }
+    requires { ⌜ Holds gap (now before) (now after) × Fit (now marks) (now first) (now second) ⌝ }
+    ensures { λ r. ⌜ r ≡ lineOf stagesLeft (now (marks .entry)) (now (extras .entry)) (now (first .entry)) (now (second .entry)) stages gap ⌝ }
+    ensures { λ r. ⌜ Moved (lineOf stagesMoves (now (marks .entry)) (now (extras .entry)) (now (first .entry)) (now (second .entry)) stages gap) (now (before .entry)) (now (after .entry)) (now (before .exit)) (now (after .exit)) ⌝ }
+{
+    let mut left = gap;
+    let mut stage: u8 = 0;
+    while stage < STAGES {
+        left = share_stage(left, stage, marks, extras, first, second, before, after);
+        stage += 1;
+    }
+    left
+}
+
+// Step 3: adds what is left to the first stage with a total above 0; answers the remainder.
+fn go_back(
+    left: u64,
+    marks: &[u8],
+    first: &[u64],
+    second: &[u64],
+    before: &mut [u64],
+    after: &mut [u64],
+) -> u64
+    requires { ⌜ Parts (length (now marks)) (now marks) (now first) (now second) × Sides (length (now marks)) (now before) (now after) ⌝ }
+    requires { ⌜ Holds left (now before) (now after) × Fit (now marks) (now first) (now second) ⌝ }
+    ensures { λ r. ⌜ r ≡ backLeft (weave (now (marks .entry)) (now (marks .entry))) (weave (now (first .entry)) (now (second .entry))) stages left ⌝ }
+    ensures { λ r. ⌜ Moved (backMoves (weave (now (marks .entry)) (now (marks .entry))) (weave (now (first .entry)) (now (second .entry))) stages left) (now (before .entry)) (now (after .entry)) (now (before .exit)) (now (after .exit)) ⌝ }
+{
+    if left == 0 {
+        return 0;
+    }
+    let mut stage: u8 = 0;
+    while stage < STAGES {
+        let over = stage_total(stage, marks, first, second);
+        if 0 < over {
+            give(left, over, stage, marks, first, second, before, after);
+            return 0;
+        }
+        stage += 1;
+    }
+    left
+}
+
+// The whole rule on sizes: adds the movements; answers the remainder.
+fn share_sizes(
+    gap: u64,
+    marks: &[u8],
+    extras: &[u8],
+    first: &[u64],
+    second: &[u64],
+    before: &mut [u64],
+    after: &mut [u64],
+) -> u64
+    requires { ⌜ Lent (length (now marks)) (now marks) (now extras) (now first) (now second) × Sides (length (now marks)) (now before) (now after) ⌝ }
+    requires { ⌜ Holds gap (now before) (now after) × Fit (now marks) (now first) (now second) ⌝ }
+    ensures { λ r. ⌜ r ≡ lineOf remainder (now (marks .entry)) (now (extras .entry)) (now (first .entry)) (now (second .entry)) gap ⌝ }
+    ensures { λ r. ⌜ Moved (lineOf movements (now (marks .entry)) (now (extras .entry)) (now (first .entry)) (now (second .entry)) gap) (now (before .entry)) (now (after .entry)) (now (before .exit)) (now (after .exit)) ⌝ }
+{
+    let left = share_stages(gap, marks, extras, first, second, before, after);
+    go_back(left, marks, first, second, before, after)
+}
+
+// A size with the gap's sign.
+fn signed(shrink: bool, size: u64) -> i32
+    requires { ⌜ size < 2147483648 ⌝ }
+    ensures { λ r. ⌜ r ≡ signedOf shrink size ⌝ }
+{
+    let plain = size as i32;
+    if shrink { -plain } else { plain }
+}
+
+// Sizes with the gap's sign.
+fn copy_signed(shrink: bool, from: &[u64], to: &mut [i32])
+    requires { ⌜ (length (now from) ≡ length (now to)) × (total (now from) < 2147483648) ⌝ }
+    ensures { λ r. ⌜ now (to .exit) ≡ map (signedOf shrink) (now (from .entry)) ⌝ }
+{
+    let mut i = 0;
+    while i < from.len() {
+        to[i] = signed(shrink, from[i]);
+        i += 1;
+    }
+}
+
+// The whole rule with its sign; `befores` and `afters` are room, all 0.
+fn share_in(
+    shrink: bool,
+    gap: u64,
+    marks: &[u8],
+    extras: &[u8],
+    first: &[u64],
+    second: &[u64],
+    befores: &mut [u64],
+    afters: &mut [u64],
+    before: &mut [i32],
+    after: &mut [i32],
+) -> u64
+    requires { ⌜ Lent (length (now marks)) (now marks) (now extras) (now first) (now second) × (gap ≤ 1073741823) × Fit (now marks) (now first) (now second) ⌝ }
+    requires { ⌜ (now befores ≡ replicate (length (now marks)) 0) × (now afters ≡ replicate (length (now marks)) 0) ⌝ }
+    requires { ⌜ (length (now before) ≡ length (now marks)) × (length (now after) ≡ length (now marks)) ⌝ }
+    ensures { λ r. ⌜ r ≡ lineOf remainder (now (marks .entry)) (now (extras .entry)) (now (first .entry)) (now (second .entry)) gap ⌝ }
+    ensures { λ r. ⌜ now (before .exit) ≡ map (signedOf shrink) (evens (lineOf movements (now (marks .entry)) (now (extras .entry)) (now (first .entry)) (now (second .entry)) gap)) ⌝ }
+    ensures { λ r. ⌜ now (after .exit) ≡ map (signedOf shrink) (odds (lineOf movements (now (marks .entry)) (now (extras .entry)) (now (first .entry)) (now (second .entry)) gap)) ⌝ }
+{
+    let left = share_sizes(gap, marks, extras, first, second, befores, afters);
+    copy_signed(shrink, befores, before);
+    copy_signed(shrink, afters, after);
+    left
+}
+
+// A line's gap, given as its size, shared over the sides of its glyphs: the signed movements of each glyph into `before` and
+// `after`; answers the size of the remainder. No stage's total is above the most that it may be: see `totals_fit`.
+pub fn share_line(
+    shrink: bool,
+    gap: u64,
+    marks: &[u8],
+    extras: &[u8],
+    first: &[u64],
+    second: &[u64],
+    before: &mut [i32],
+    after: &mut [i32],
+) -> u64
+    requires { ⌜ Lent (length (now marks)) (now marks) (now extras) (now first) (now second) ⌝ }
+    requires { ⌜ (length (now before) ≡ length (now marks)) × (length (now after) ≡ length (now marks)) ⌝ }
+    requires { ⌜ (gap ≤ 1073741823) × (lineFits (glyphsOf (now marks) (now extras) (now first) (now second)) ≡ true) ⌝ }
+    ensures { λ r. ⌜ r ≡ lineLeft (glyphsOf (now (marks .entry)) (now (extras .entry)) (now (first .entry)) (now (second .entry))) gap ⌝ }
+    ensures { λ r. ⌜ now (before .exit) ≡ map (signedOf shrink) (beforeMoves (glyphsOf (now (marks .entry)) (now (extras .entry)) (now (first .entry)) (now (second .entry))) gap) ⌝ }
+    ensures { λ r. ⌜ now (after .exit) ≡ map (signedOf shrink) (afterMoves (glyphsOf (now (marks .entry)) (now (extras .entry)) (now (first .entry)) (now (second .entry))) gap) ⌝ }
+{
+    let n = marks.len();
+    let mut befores = [0u64; 1024];
+    let mut afters = [0u64; 1024];
+    share_in(
+        shrink,
+        gap,
+        marks,
+        extras,
+        first,
+        second,
+        &mut befores[..n],
+        &mut afters[..n],
+        before,
+        after,
+    )
+}
+
+// Refusal 15's test: whether no stage's total is above the most that it may be, whichever glyphs are unlimited.
+pub fn totals_fit(marks: &[u8], first: &[u64], second: &[u64]) -> bool
+    requires { ⌜ Parts (length (now marks)) (now marks) (now first) (now second) ⌝ }
+    ensures { λ r. ⌜ ((us : List ℕ) → length us ≡ length (now (marks .entry)) → r ≡ lineFits (glyphsOf (now (marks .entry)) us (now (first .entry)) (now (second .entry)))) ⌝ }
+{
+    let mut stage: u8 = 0;
+    while stage < STAGES {
+        if MOST < stage_total(stage, marks, first, second) {
+            return false;
+        }
+        stage += 1;
+    }
+    true
+}

@@ -1,0 +1,3 @@
+pub mod LeastLaws
+pub mod StandLaws
+pub mod MachineLaws

@@ -1,0 +1,32 @@
+-- Small tables that are read out in proofs/ (document 01, "Sample lines and tables" and "Slips to rule out").
+use Prim.Native.Nat.{ℕ}
+use mathlib.Core.List.{List, [], _∷_}
+
+-- 00010000 0000 0000 0000
+unfoldable pub bareTable : List ℕ
+bareTable = 0 ∷ 1 ∷ 0 ∷ 0 ∷ 0 ∷ 0 ∷ 0 ∷ 0 ∷ 0 ∷ 0 ∷ []
+
+-- the same table with a horizontal direction that holds nothing, at 10: three offsets of 0, then a width lookup of format 6 (unit size 4) with no units, whose
+-- search fields, which are not read, are missing
+unfoldable pub hollowTable : List ℕ
+hollowTable = 0 ∷ 1 ∷ 0 ∷ 0 ∷ 0 ∷ 0 ∷ 0 ∷ 10 ∷ 0 ∷ 0 ∷ 0 ∷ 0 ∷ 0 ∷ 0 ∷ 0 ∷ 0 ∷ 0 ∷ 6 ∷ 0 ∷ 4 ∷ 0 ∷ 0 ∷ []
+
+-- a header whose directions both stand past its end, at 10 and at 11
+unfoldable pub strayTable : List ℕ
+strayTable = 0 ∷ 1 ∷ 0 ∷ 0 ∷ 0 ∷ 0 ∷ 0 ∷ 10 ∷ 0 ∷ 11 ∷ []
+
+-- values of 0: the width lookup at 16 (format 0) gives glyph 0 the value 0, which leads to the cluster at wdcTableOffset, 20, whose pair has class 5, ignored bits set and
+-- a negative shrink limit; the action lookup at 48 (format 6) gives it the value 0 too, and no list could stand there
+unfoldable pub zeroTable : List ℕ
+zeroTable =
+    0 ∷ 1 ∷ 0 ∷ 0 ∷ 0 ∷ 0 ∷ 0 ∷ 10 ∷ 0 ∷ 0 ∷ 0 ∷ 0 ∷ 0 ∷ 20 ∷ 0 ∷ 48 ∷ 0 ∷ 0 ∷ 0 ∷ 0
+    ∷ 0 ∷ 0 ∷ 0 ∷ 1 ∷ 0x80 ∷ 0 ∷ 0 ∷ 5 ∷ 0 ∷ 1 ∷ 0 ∷ 0 ∷ 0xFF ∷ 0xFF ∷ 0 ∷ 0 ∷ 0 ∷ 0 ∷ 0 ∷ 0
+    ∷ 0 ∷ 0 ∷ 0 ∷ 0 ∷ 0xF0 ∷ 1 ∷ 0 ∷ 2 ∷ 0 ∷ 6 ∷ 0 ∷ 4 ∷ 0 ∷ 1 ∷ 0 ∷ 0 ∷ 0 ∷ 0 ∷ 0 ∷ 0
+    ∷ 0 ∷ 0 ∷ 0 ∷ 0 ∷ []
+
+-- a machine at 22 with 4 classes, whose class table has glyph 1 alone, as class 2; two rows of cells that lead to row 1; and an empty width lookup
+unfoldable pub machineTable : List ℕ
+machineTable =
+    0 ∷ 1 ∷ 0 ∷ 0 ∷ 0 ∷ 0 ∷ 0 ∷ 10 ∷ 0 ∷ 0 ∷ 0 ∷ 22 ∷ 0 ∷ 0 ∷ 0 ∷ 0 ∷ 0 ∷ 6 ∷ 0 ∷ 4
+    ∷ 0 ∷ 0 ∷ 0 ∷ 0 ∷ 0 ∷ 0 ∷ 0 ∷ 0 ∷ 0 ∷ 0 ∷ 0 ∷ 4 ∷ 0 ∷ 8 ∷ 0 ∷ 13 ∷ 0 ∷ 21 ∷ 0 ∷ 1
+    ∷ 0 ∷ 1 ∷ 2 ∷ 0 ∷ 0 ∷ 0 ∷ 0 ∷ 0 ∷ 0 ∷ 0 ∷ 0 ∷ 0 ∷ 17 ∷ 0x80 ∷ 1 ∷ []

@@ -1,0 +1,113 @@
+// Whether an action fires (document 01, "Verdicts"). A limit in ems and a growth in units meet only through `units::factor`.
+use parts::HeldAction;
+use units::Ems;
+use units::Units;
+ghost use mathlib.Core.Path.{_≡_};
+ghost use Rattle.fields.specs.Field.{u32At};
+ghost use Rattle.units.specs.Fixed.{fixedOf};
+ghost use Rattle.verdict.specs.Verdict.{below, above, breaks, adds, substitutes, stretches, kindFires, heldFires};
+
+// What an action does at a growth. Only type 2 substitutes.
+pub enum Fires {
+    No,
+    Plain,
+    Substitutes,
+}
+
+// Whether the growth is below limit × size.
+fn is_below(growth: Units, bits: u32, size: u32) -> bool
+    ensures { λ r. ⌜ r ≡ below (growth .0) (fixedOf bits) size ⌝ }
+{
+    let limit = units::fixed(bits);
+    let least = units::factor(Ems(-limit.0), size);
+    growth.0 < -least.0
+}
+
+// Whether the growth is above limit × size.
+fn is_above(growth: Units, bits: u32, size: u32) -> bool
+    ensures { λ r. ⌜ r ≡ above (growth .0) (fixedOf bits) size ⌝ }
+{
+    let limit = units::fixed(bits);
+    let most = units::factor(limit, size);
+    most.0 < growth.0
+}
+
+// The Fixed number in an action's data, as its bits.
+fn limit_at(content: &[u8], at: usize) -> u32
+    ensures { λ r. ⌜ r ≡ u32At (now (content .entry)) at ⌝ }
+{
+    fields::u32_at(content, at) as u32
+}
+
+// Type 0: outside its two limits, of which the lower stands first.
+fn breaks_at(content: &[u8], growth: Units, size: u32) -> Fires
+    ensures { λ r. ⌜ r ≡ breaks (now (content .entry)) (growth .0) size ⌝ }
+{
+    if is_below(growth, limit_at(content, 0), size) {
+        return Fires::Plain;
+    }
+    if is_above(growth, limit_at(content, 4), size) {
+        return Fires::Plain;
+    }
+    Fires::No
+}
+
+// Types 1 and 5.
+fn adds_at(growth: Units) -> Fires
+    ensures { λ r. ⌜ r ≡ adds (growth .0) ⌝ }
+{
+    if 0 < growth.0 {
+        Fires::Plain
+    } else {
+        Fires::No
+    }
+}
+
+// Type 2: its threshold stands first.
+fn substitutes_at(content: &[u8], growth: Units, size: u32) -> Fires
+    ensures { λ r. ⌜ r ≡ substitutes (now (content .entry)) (growth .0) size ⌝ }
+{
+    if growth.0 <= 0 {
+        return Fires::No;
+    }
+    if is_below(growth, limit_at(content, 0), size) {
+        return Fires::Plain;
+    }
+    Fires::Substitutes
+}
+
+// Types 3 and 4.
+fn stretches_at(growth: Units) -> Fires
+    ensures { λ r. ⌜ r ≡ stretches (growth .0) ⌝ }
+{
+    if growth.0 == 0 {
+        Fires::No
+    } else {
+        Fires::Plain
+    }
+}
+
+// Whether an action of this type and data fires for a glyph of its class.
+pub fn kind_fires(kind: u16, content: &[u8], growth: Units, size: u32) -> Fires
+    ensures { λ r. ⌜ r ≡ kindFires kind (now (content .entry)) (growth .0) size ⌝ }
+{
+    match kind {
+        0 => breaks_at(content, growth, size),
+        1 | 5 => adds_at(growth),
+        2 => substitutes_at(content, growth, size),
+        3 | 4 => stretches_at(growth),
+        _ => Fires::No,
+    }
+}
+
+// Whether an action fires for a glyph of this class, at its growth in units and the point size.
+pub fn action_fires(action: HeldAction, class: u8, growth: Units, size: u32) -> Fires
+    ensures { λ r. ⌜ r ≡ heldFires action class (growth .0) size ⌝ }
+{
+    if action.class != class as u16 {
+        return Fires::No;
+    }
+    let kind = action.kind;
+    let bytes = action.bytes;
+    kind_fires(kind, &bytes, growth, size)
+}
