@@ -11,7 +11,7 @@ use Rattle.fields.specs.declared.Refusal.the-variants.{Outside, BadLookup}
 use Rattle.fields.specs.declared.Fault.the-variants.{Clear, Bad}
 use Rattle.fields.specs.Field.{u16At}
 use Rattle.fields.specs.Faults.{rule, inside}
-use Rattle.fields.specs.Laws.{then-go, then-stop, clear-inside, bad-inside}
+use Rattle.fields.specs.Laws.{then-go, then-stop, rule-clear, clear-inside, bad-inside}
 use Rattle.fields.specs.Walk.{walk}
 use Rattle.lookup.specs.declared.Found.the-variants.{Value, Nothing}
 use Rattle.lookup.specs.Units.{unitSize, lastOf, firstOf, rangeFault, singleFault, unitFault, arrayFault}
@@ -218,3 +218,14 @@ module _ (t : List ℕ) (glyphs at glyph : ℕ) where
   pub value-in : glyph < glyphs → valueOf t glyphs at glyph ≡ valueFrom t at glyph (unitCount t at) (at + 12)
   unfolding valueOf
   value-in h = simp (lt-ltb glyph glyphs h)
+
+-- a unit of formats 2 and 4 that lies inside, rises and is in order has no fault
+pub range-clear : (t : List ℕ) (p least first last : ℕ) → p + 6 ≤ length t → first ≡ u16At t (p + 2) → last ≡ u16At t p → least ≤ first → first ≤ last
+    → rangeFault t p least ≡ Clear
+unfolding rangeFault
+range-clear t p least first last h f l a b =
+    then-go _ (clear-inside t p 2 (omega arith))
+    ∙ then-go _ (clear-inside t (p + 2) 2 (omega arith))
+    ∙ then-go _ (rule-clear BadLookup (p + 2) (le-leb least (u16At t (p + 2)) (omega arith)))
+    ∙ then-go _ (rule-clear BadLookup (p + 2) (le-leb (u16At t (p + 2)) (u16At t p) (omega arith)))
+    ∙ clear-inside t (p + 4) 2 (omega arith)
