@@ -5,6 +5,7 @@
 
 pub mod cases;
 pub mod library;
+pub mod questions;
 pub mod tables;
 
 /// What a comparison finds: nothing, or in which way the two differ.

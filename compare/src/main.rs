@@ -1,6 +1,7 @@
 //! `compare [--seed S] [--count N] [--minutes M] [NAME ..]`: compares the proved library with the second program on drawn
 //! cases; with names, only on those cases. Exit status 1 where they differ.
 
+use compare::questions::Questions;
 use compare::{tables, Outcome};
 use std::process::ExitCode;
 use std::time::{Duration, Instant};
@@ -42,9 +43,10 @@ const KINDS: [Kind; 1] = [("table", table_case)];
 
 fn table_case(seed: u64, index: u64) -> Outcome {
     let (table, glyphs) = tables::draw(seed, index);
-    tables::compare(&table, glyphs)?;
+    let mut asked = Questions::new(seed, index);
+    tables::compare(&table, glyphs, &mut asked)?;
     if index % 50 == 0 {
-        tables::compare_counts(&table)?;
+        tables::compare_counts(&table, &mut asked)?;
     }
     Ok(())
 }

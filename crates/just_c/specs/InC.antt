@@ -1,0 +1,130 @@
+-- What the numbers and structs of the C boundary say: a refusal is its number and everything else zeros; a part that is not there is `found` false and zeros.
+use Prim.Native.Nat.{ℕ, _-_}
+use mathlib.Core.Bool.{true, false, cond}
+use mathlib.Core.List.{List}
+use lib.Dec.{eqb}
+use Rattle.fields.specs.Refusals.{numberOf}
+use Rattle.parts.specs.declared.Direction.{Direction}
+use Rattle.parts.specs.declared.Direction.the-variants.{Horizontal, Vertical}
+use Rattle.parts.specs.declared.Entry.{Entry}
+use Rattle.parts.specs.declared.Limits.{Limits}
+use Rattle.parts.specs.declared.Flags.{Flags}
+use Rattle.parts.specs.declared.Pair.{Pair}
+use Rattle.parts.specs.declared.HeldAction.{HeldAction}
+use Rattle.meaning.specs.Ask.{Answer, nothing, number, both, entry, pair, act, held}
+use Rattle.answers.specs.declared.Checked.{Checked}
+use Rattle.answers.specs.declared.Checked.the-variants.{Accepted, Refused}
+use Rattle.answers.specs.declared.Sought.{Sought}
+use Rattle.answers.specs.declared.Sought.the-variants as sought
+use Rattle.answers.specs.Says.{Reply, refused, given, noAction}
+use Rattle.actions.specs.declared.Stretch.{Stretch}
+use Rattle.just_c.specs.declared.JustCount.{JustCount}
+use Rattle.just_c.specs.declared.JustSizes.{JustSizes}
+use Rattle.just_c.specs.declared.JustClass.{JustClass}
+use Rattle.just_c.specs.declared.JustCell.{JustCell}
+use Rattle.just_c.specs.declared.JustRecord.{JustRecord}
+use Rattle.just_c.specs.declared.JustAction.{JustAction}
+use Rattle.just_c.specs.declared.JustStretch.{JustStretch}
+
+-- 0 for accepted, else the number of the refusal
+abbrev pub checkedNumber : Checked → ℕ
+checkedNumber Accepted = 0
+checkedNumber (Refused r) = numberOf r
+
+-- 0 is horizontal, any other number vertical
+abbrev pub directionIn : ℕ → Direction
+directionIn n = cond (eqb n 0) Horizontal Vertical
+
+-- what of an answer a call hands out, and zeros for any other
+abbrev pub numberIn : Answer → ℕ
+numberIn (number n) = n
+numberIn nothing = 0
+numberIn (both s c) = 0
+numberIn (entry e) = 0
+numberIn (pair p) = 0
+numberIn (act a) = 0
+
+abbrev pub countIn : Reply → JustCount
+countIn (refused n) = record { refusal = n; count = 0 }
+countIn (given a) = record { refusal = 0; count = numberIn a }
+
+abbrev pub sizesGiven : Answer → JustSizes
+sizesGiven (both s c) = record { refusal = 0; found = true; rows = s; classes = c }
+sizesGiven nothing = record { refusal = 0; found = false; rows = 0; classes = 0 }
+sizesGiven (number n) = record { refusal = 0; found = false; rows = 0; classes = 0 }
+sizesGiven (entry e) = record { refusal = 0; found = false; rows = 0; classes = 0 }
+sizesGiven (pair p) = record { refusal = 0; found = false; rows = 0; classes = 0 }
+sizesGiven (act a) = record { refusal = 0; found = false; rows = 0; classes = 0 }
+
+abbrev pub sizesIn : Reply → JustSizes
+sizesIn (refused n) = record { refusal = n; found = false; rows = 0; classes = 0 }
+sizesIn (given a) = sizesGiven a
+
+abbrev pub classGiven : Answer → JustClass
+classGiven (number c) = record { refusal = 0; found = true; class = c }
+classGiven nothing = record { refusal = 0; found = false; class = 0 }
+classGiven (both s c) = record { refusal = 0; found = false; class = 0 }
+classGiven (entry e) = record { refusal = 0; found = false; class = 0 }
+classGiven (pair p) = record { refusal = 0; found = false; class = 0 }
+classGiven (act a) = record { refusal = 0; found = false; class = 0 }
+
+abbrev pub classIn : Reply → JustClass
+classIn (refused n) = record { refusal = n; found = false; class = 0 }
+classIn (given a) = classGiven a
+
+abbrev pub noEntry : Entry
+noEntry = record { row = 0; flags = 0 }
+
+abbrev pub cellGiven : Answer → JustCell
+cellGiven (entry e) = record { refusal = 0; found = true; entry = e }
+cellGiven nothing = record { refusal = 0; found = false; entry = noEntry }
+cellGiven (number n) = record { refusal = 0; found = false; entry = noEntry }
+cellGiven (both s c) = record { refusal = 0; found = false; entry = noEntry }
+cellGiven (pair p) = record { refusal = 0; found = false; entry = noEntry }
+cellGiven (act a) = record { refusal = 0; found = false; entry = noEntry }
+
+abbrev pub cellIn : Reply → JustCell
+cellIn (refused n) = record { refusal = n; found = false; entry = noEntry }
+cellIn (given a) = cellGiven a
+
+abbrev pub noPair : Pair
+noPair =
+    record {
+      class = 0;
+      before = record { grow = 0; shrink = 0 };
+      after = record { grow = 0; shrink = 0 };
+      flags = record { grow = 0; shrink = 0 };
+    }
+
+abbrev pub recordGiven : Answer → JustRecord
+recordGiven (pair p) = record { refusal = 0; found = true; pair = p }
+recordGiven nothing = record { refusal = 0; found = false; pair = noPair }
+recordGiven (number n) = record { refusal = 0; found = false; pair = noPair }
+recordGiven (both s c) = record { refusal = 0; found = false; pair = noPair }
+recordGiven (entry e) = record { refusal = 0; found = false; pair = noPair }
+recordGiven (act a) = record { refusal = 0; found = false; pair = noPair }
+
+abbrev pub recordIn : Reply → JustRecord
+recordIn (refused n) = record { refusal = n; found = false; pair = noPair }
+recordIn (given a) = recordGiven a
+
+abbrev pub actionGiven : Answer → JustAction
+actionGiven (act a) = record { refusal = 0; found = true; action = held a }
+actionGiven nothing = record { refusal = 0; found = false; action = noAction }
+actionGiven (number n) = record { refusal = 0; found = false; action = noAction }
+actionGiven (both s c) = record { refusal = 0; found = false; action = noAction }
+actionGiven (entry e) = record { refusal = 0; found = false; action = noAction }
+actionGiven (pair p) = record { refusal = 0; found = false; action = noAction }
+
+abbrev pub actionIn : Reply → JustAction
+actionIn (refused n) = record { refusal = n; found = false; action = noAction }
+actionIn (given a) = actionGiven a
+
+-- an action's answer with its room, as it was found or not
+abbrev pub actionOut : Sought → HeldAction → JustAction
+actionOut sought.Found h = record { refusal = 0; found = true; action = h }
+actionOut sought.Nothing h = record { refusal = 0; found = false; action = h }
+actionOut (sought.Refused r) h = record { refusal = numberOf r; found = false; action = h }
+
+abbrev pub stretchIn : Stretch → JustStretch
+stretchIn s = record { offset = s .from; length = s .to - s .from }

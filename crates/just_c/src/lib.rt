@@ -1,0 +1,332 @@
+// The library for programs in C and other languages: each call with numbers, slices (a pointer, then a length) and
+// structs of C layout. A refusal is its number, 0 for none. A direction is 0 for horizontal, any other number for
+// vertical. specs/InC.antt says what each struct holds.
+ghost use mathlib.Core.Path.{_≡_};
+ghost use Rattle.meaning.specs.Ask.{ask, glyphCount, along, sizes, class, cell, width, action};
+ghost use Rattle.answers.specs.Says.{checkedBy, unlessBad, saysCount, saysSizes, saysClass, saysCell, saysRecord};
+ghost use Rattle.table.specs.Table.{tableFault};
+ghost use Rattle.table.specs.Means.{meaningOf};
+ghost use Rattle.table_parts.specs.Components.{componentsOf};
+ghost use Rattle.just_c.specs.InC.{checkedNumber, directionIn, countIn, sizesIn, classIn, cellIn, recordIn, noPair, actionIn, actionOut, stretchIn};
+use answers::ActionAnswer;
+use answers::CellAnswer;
+use answers::Checked;
+use answers::ClassAnswer;
+use answers::CountAnswer;
+use answers::RecordAnswer;
+use answers::SizesAnswer;
+use answers::Sought;
+use parts::Direction;
+use parts::Entry;
+use parts::Flags;
+use parts::HeldAction;
+use parts::Limits;
+use parts::Pair;
+
+#[repr(C)]
+pub struct JustCount {
+    pub refusal: u32,
+    pub count: u32,
+}
+
+#[repr(C)]
+pub struct JustSizes {
+    pub refusal: u32,
+    pub found: bool,
+    pub rows: u16,
+    pub classes: u16,
+}
+
+#[repr(C)]
+pub struct JustClass {
+    pub refusal: u32,
+    pub found: bool,
+    pub class: u8,
+}
+
+#[repr(C)]
+pub struct JustCell {
+    pub refusal: u32,
+    pub found: bool,
+    pub entry: Entry,
+}
+
+#[repr(C)]
+pub struct JustRecord {
+    pub refusal: u32,
+    pub found: bool,
+    pub pair: Pair,
+}
+
+#[repr(C)]
+pub struct JustAction {
+    pub refusal: u32,
+    pub found: bool,
+    pub action: HeldAction,
+}
+
+#[repr(C)]
+pub struct JustStretch {
+    pub offset: usize,
+    pub length: usize,
+}
+
+// A direction by its number.
+fn direction_in(number: u32) -> Direction
+    ensures { λ r. ⌜ r ≡ directionIn number ⌝ }
+{
+    if number == 0 {
+        return Direction::Horizontal;
+    }
+    Direction::Vertical
+}
+
+// The answers as structs of C layout.
+
+fn count_out(answer: CountAnswer) -> JustCount
+    ensures { λ r. ⌜ r ≡ countIn (saysCount answer) ⌝ }
+{
+    match answer {
+        CountAnswer::Count(count) => JustCount { refusal: 0, count },
+        CountAnswer::Refused(refusal) => JustCount {
+            refusal: fields::number_of(refusal),
+            count: 0,
+        },
+    }
+}
+
+fn sizes_out(answer: SizesAnswer) -> JustSizes
+    ensures { λ r. ⌜ r ≡ sizesIn (saysSizes answer) ⌝ }
+{
+    match answer {
+        SizesAnswer::Sizes { rows, classes } => JustSizes {
+            refusal: 0,
+            found: true,
+            rows,
+            classes,
+        },
+        SizesAnswer::Nothing => JustSizes {
+            refusal: 0,
+            found: false,
+            rows: 0,
+            classes: 0,
+        },
+        SizesAnswer::Refused(refusal) => JustSizes {
+            refusal: fields::number_of(refusal),
+            found: false,
+            rows: 0,
+            classes: 0,
+        },
+    }
+}
+
+fn class_out(answer: ClassAnswer) -> JustClass
+    ensures { λ r. ⌜ r ≡ classIn (saysClass answer) ⌝ }
+{
+    match answer {
+        ClassAnswer::Class(class) => JustClass {
+            refusal: 0,
+            found: true,
+            class,
+        },
+        ClassAnswer::Nothing => JustClass {
+            refusal: 0,
+            found: false,
+            class: 0,
+        },
+        ClassAnswer::Refused(refusal) => JustClass {
+            refusal: fields::number_of(refusal),
+            found: false,
+            class: 0,
+        },
+    }
+}
+
+fn cell_out(answer: CellAnswer) -> JustCell
+    ensures { λ r. ⌜ r ≡ cellIn (saysCell answer) ⌝ }
+{
+    match answer {
+        CellAnswer::Cell(entry) => JustCell {
+            refusal: 0,
+            found: true,
+            entry,
+        },
+        CellAnswer::Nothing => JustCell {
+            refusal: 0,
+            found: false,
+            entry: Entry { row: 0, flags: 0 },
+        },
+        CellAnswer::Refused(refusal) => JustCell {
+            refusal: fields::number_of(refusal),
+            found: false,
+            entry: Entry { row: 0, flags: 0 },
+        },
+    }
+}
+
+// A width record of zeros, where there is none.
+fn no_pair() -> Pair
+    ensures { λ r. ⌜ r ≡ noPair ⌝ }
+{
+    Pair {
+        class: 0,
+        before: Limits { grow: 0, shrink: 0 },
+        after: Limits { grow: 0, shrink: 0 },
+        flags: Flags { grow: 0, shrink: 0 },
+    }
+}
+
+fn record_out(answer: RecordAnswer) -> JustRecord
+    ensures { λ r. ⌜ r ≡ recordIn (saysRecord answer) ⌝ }
+{
+    match answer {
+        RecordAnswer::Record(pair) => JustRecord {
+            refusal: 0,
+            found: true,
+            pair,
+        },
+        RecordAnswer::Nothing => JustRecord {
+            refusal: 0,
+            found: false,
+            pair: no_pair(),
+        },
+        RecordAnswer::Refused(refusal) => JustRecord {
+            refusal: fields::number_of(refusal),
+            found: false,
+            pair: no_pair(),
+        },
+    }
+}
+
+fn action_out(answer: ActionAnswer) -> JustAction
+    ensures { λ r. ⌜ r ≡ actionOut (answer .sought) (answer .action) ⌝ }
+{
+    let sought = answer.sought;
+    let action = answer.action;
+    match sought {
+        Sought::Found => JustAction {
+            refusal: 0,
+            found: true,
+            action,
+        },
+        Sought::Nothing => JustAction {
+            refusal: 0,
+            found: false,
+            action,
+        },
+        Sought::Refused(refusal) => JustAction {
+            refusal: fields::number_of(refusal),
+            found: false,
+            action,
+        },
+    }
+}
+
+// Whether a table is accepted with a glyph count: 0, or the number of its first fault.
+#[no_mangle]
+pub extern "C" fn just_check_table(table: &[u8], glyphs: u32) -> u32
+    ensures { λ r. ⌜ r ≡ checkedNumber (checkedBy (tableFault (now (table .entry)) glyphs)) ⌝ }
+{
+    match table::check_table(table, glyphs) {
+        Checked::Accepted => 0,
+        Checked::Refused(refusal) => fields::number_of(refusal),
+    }
+}
+
+// The glyph count of an accepted table.
+#[no_mangle]
+pub extern "C" fn just_table_count(table: &[u8], glyphs: u32) -> JustCount
+    ensures { λ r. ⌜ r ≡ countIn (unlessBad (tableFault (now (table .entry)) glyphs) (ask (meaningOf (now (table .entry)) glyphs) glyphCount)) ⌝ }
+{
+    count_out(table_parts::ask_count(table, glyphs))
+}
+
+// The row count and the class count of a direction's machine.
+#[no_mangle]
+pub extern "C" fn just_table_sizes(table: &[u8], glyphs: u32, direction: u32) -> JustSizes
+    ensures { λ r. ⌜ r ≡ sizesIn (unlessBad (tableFault (now (table .entry)) glyphs) (ask (meaningOf (now (table .entry)) glyphs) (along (directionIn direction) sizes))) ⌝ }
+{
+    sizes_out(table_parts::ask_sizes(table, glyphs, direction_in(direction)))
+}
+
+// The class of a glyph.
+#[no_mangle]
+pub extern "C" fn just_table_class(
+    table: &[u8],
+    glyphs: u32,
+    direction: u32,
+    glyph: u16,
+) -> JustClass
+    ensures { λ r. ⌜ r ≡ classIn (unlessBad (tableFault (now (table .entry)) glyphs) (ask (meaningOf (now (table .entry)) glyphs) (along (directionIn direction) (class glyph)))) ⌝ }
+{
+    class_out(table_parts::ask_class(table, glyphs, direction_in(direction), glyph))
+}
+
+// What the cell of a row and a class holds.
+#[no_mangle]
+pub extern "C" fn just_table_cell(
+    table: &[u8],
+    glyphs: u32,
+    direction: u32,
+    row: u16,
+    class: u16,
+) -> JustCell
+    ensures { λ r. ⌜ r ≡ cellIn (unlessBad (tableFault (now (table .entry)) glyphs) (ask (meaningOf (now (table .entry)) glyphs) (along (directionIn direction) (cell row class)))) ⌝ }
+{
+    cell_out(table_parts::ask_cell(table, glyphs, direction_in(direction), row, class))
+}
+
+// The width record of a glyph and a class.
+#[no_mangle]
+pub extern "C" fn just_table_record(
+    table: &[u8],
+    glyphs: u32,
+    direction: u32,
+    glyph: u16,
+    class: u8,
+) -> JustRecord
+    ensures { λ r. ⌜ r ≡ recordIn (unlessBad (tableFault (now (table .entry)) glyphs) (ask (meaningOf (now (table .entry)) glyphs) (along (directionIn direction) (width glyph class)))) ⌝ }
+{
+    record_out(table_parts::ask_record(table, glyphs, direction_in(direction), glyph, class))
+}
+
+// The action of a glyph and a number.
+#[no_mangle]
+pub extern "C" fn just_table_action(
+    table: &[u8],
+    glyphs: u32,
+    direction: u32,
+    glyph: u16,
+    number: u16,
+) -> JustAction
+    ensures { λ r. ⌜ r ≡ actionIn (unlessBad (tableFault (now (table .entry)) glyphs) (ask (meaningOf (now (table .entry)) glyphs) (along (directionIn direction) (action glyph number)))) ⌝ }
+{
+    action_out(table_parts::ask_action(table, glyphs, direction_in(direction), glyph, number))
+}
+
+// Where a component list stands in the table: the offset of its first glyph, and its length in bytes, 0 where there
+// is none.
+#[no_mangle]
+pub extern "C" fn just_table_components(
+    table: &[u8],
+    glyphs: u32,
+    direction: u32,
+    glyph: u16,
+    number: u16,
+) -> JustStretch
+    ensures { λ r. ⌜ r ≡ stretchIn (componentsOf (now (table .entry)) glyphs (directionIn direction) glyph number) ⌝ }
+{
+    let stretch = table_parts::components_at(table, glyphs, direction_in(direction), glyph, number);
+    let from = stretch.from;
+    let to = stretch.to;
+    if to <= from {
+        return JustStretch {
+            offset: from,
+            length: 0,
+        };
+    }
+    JustStretch {
+        offset: from,
+        length: to - from,
+    }
+}
