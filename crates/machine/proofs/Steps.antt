@@ -12,7 +12,7 @@ use Rattle.fields.specs.declared.Fault.{Fault}
 use Rattle.fields.specs.declared.Fault.the-variants.{Clear, Bad}
 use Rattle.fields.specs.Field.{u16At}
 use Rattle.fields.specs.Faults.{_then_}
-use Rattle.fields.specs.Laws.{then-first, then-second, then-go, inside-holds, rule-holds}
+use Rattle.fields.specs.Laws.{then-first, then-second, then-go, clear-inside, inside-holds, rule-clear, rule-holds}
 use Rattle.fields.specs.Walk.{walk, walk-stop, walk-next, walk-none}
 use Rattle.machine.specs.declared.Scan.the-variants.{Broken, Count}
 use Rattle.machine.specs.Cells.{classCount, classTable, classAt, cellAt}
@@ -121,6 +121,13 @@ module _ (t : List ℕ) (here : ℕ) where
 pub class-inside : (t : List ℕ) (here at : ℕ) → classFault t here at ≡ Clear → at + 1 ≤ length t
 unfolding classFault
 class-inside t here at e = inside-holds t at 1 (then-first _ _ e)
+
+-- a class byte that lies inside and is below the class count has no fault
+pub class-clear : (t : List ℕ) (here at class classes : ℕ) → at < length t → class ≡ getD t at 0 → classes ≡ classCount t here → class < classes
+    → classFault t here at ≡ Clear
+unfolding classFault
+class-clear t here at class classes h e f l =
+    then-go _ (clear-inside t at 1 (omega arith)) ∙ rule-clear BadMachine at (lt-ltb (getD t at 0) (classCount t here) (omega arith))
 
 -- a glyph before the class table's first, after its last, and among them
 module _ (t : List ℕ) (here glyph : ℕ) where

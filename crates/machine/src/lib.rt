@@ -2,6 +2,8 @@
 // count S, a glyph's class, and what a cell holds. `here` is the place after the machine's 8-byte header, from
 // which the machine's offsets count.
 ghost use mathlib.Core.Path.{_≡_};
+ghost use mathlib.Core.Bool.{true};
+ghost use Rattle.fields.specs.declared.Fault.the-variants.{Clear};
 ghost use Prim.Native.Nat.{_-_, _<_, _^_, max, min};
 ghost use Rattle.machine.specs.Cells.{classCount, classAt, entryAt, cellAt};
 ghost use Rattle.machine.specs.Rows.{cellPlace, entryPlace, entryFault, cellFault, rowFault, raisedBy, unless, faultOf, countOf, rowsOf, rowCount};
@@ -109,10 +111,23 @@ fn head_fault(table: &[u8], here: usize) -> Fault
     fields::then(count_in, fields::then(enough, fields::then(few, offsets)))
 }
 
+// Whether a class byte is seen to be without fault: most are, and a chain of fields is slower.
+fn class_is_clear(table: &[u8], here: usize, at: usize) -> bool
+    ensures { λ r. ⌜ (r ≡ true → classFault (now (table .entry)) here at ≡ Clear) ⌝ }
+{
+    if table.len() <= at {
+        return false;
+    }
+    fields::u8_at(table, at) < fields::u16_at(table, here)
+}
+
 // The class byte at a position.
 fn class_fault(table: &[u8], here: usize, at: usize) -> Fault
     ensures { λ r. ⌜ r ≡ classFault (now (table .entry)) here at ⌝ }
 {
+    if class_is_clear(table, here, at) {
+        return Fault::Clear;
+    }
     let inside = fields::in_table(table, at, 1);
     let low = fields::u8_at(table, at) < fields::u16_at(table, here);
     fields::then(inside, fields::ruled(low, Refusal::BadMachine, at))

@@ -122,7 +122,11 @@ pub fn values_fault(table: &[u8], glyphs: usize, kind: Kind, at: usize, base: us
     if let Fault::Bad { refusal: _, at: _ } = fault {
         return fault;
     }
-    // A table has at most 32,768 bytes, so no cluster or list without fault stands further on.
+    // No cluster or list without fault stands past the table, which has at most 32,768 bytes.
+    if table.len() <= 1024 {
+        let mut judged = [0u8; 1024];
+        return glyphs_fault(table, glyphs, kind, at, base, &mut judged);
+    }
     let mut judged = [0u8; 32768];
     glyphs_fault(table, glyphs, kind, at, base, &mut judged)
 }

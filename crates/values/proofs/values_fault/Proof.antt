@@ -1,7 +1,7 @@
 use Rattle.values.specs.Values.{valuesFault}
 use Rattle.fields.specs.Laws.{then-stop, then-go}
 use Rattle.values.proofs.Laws.{none-judged}
-use mathlib.Core.Path.{_≡_, refl, sym, ap, ap₂, _∙_}
+use mathlib.Core.Path.{_≡_, refl, sym, ap, _∙_}
 use borrow.Author.Needs.{needs}
 use Rattle.values.proofs.values_fault.Statement.{statement}
 use Rattle.values.proofs.values_fault.Tie as tie
@@ -23,11 +23,21 @@ slice-aggregate-glyphs-fault : tie.Need-slice-aggregate-glyphs-fault
 slice-aggregate-glyphs-fault c = search needs
 
 glyphs-fault-requires : tie.Need-glyphs-fault-requires
-glyphs-fault-requires c κs = ((search needs, (search needs, (search needs, sym (c .before .before .before .lookup-fault .ensures) ∙ c .before .enum-told2 .given .1))), none-judged _ _ _ 32768)
+glyphs-fault-requires c κs = ((search needs, (search needs, (search needs, sym (c .before .before .before .before .lookup-fault .ensures) ∙ c .before .before .enum-told2 .given .1))), none-judged _ _ _ 1024)
 
 returns-2 : tie.Need-returns-2
 unfolding valuesFault
-returns-2 c = c .before .glyphs-fault .ensures ∙ sym (then-go _ (sym (c .before .before .before .before .before .lookup-fault .ensures) ∙ c .before .before .before .enum-told2 .given .1))
+returns-2 c = c .before .glyphs-fault .ensures ∙ sym (then-go _ (sym (c .before .before .before .before .before .before .lookup-fault .ensures) ∙ c .before .before .before .before .enum-told2 .given .1))
+
+slice-aggregate-glyphs-fault-2 : tie.Need-slice-aggregate-glyphs-fault-2
+slice-aggregate-glyphs-fault-2 c = search needs
+
+glyphs-fault-requires-2 : tie.Need-glyphs-fault-requires-2
+glyphs-fault-requires-2 c κs = ((search needs, (search needs, (search needs, sym (c .before .before .before .before .lookup-fault .ensures) ∙ c .before .before .enum-told2 .given .1))), none-judged _ _ _ 32768)
+
+returns-3 : tie.Need-returns-3
+unfolding valuesFault
+returns-3 c = c .before .glyphs-fault2 .ensures ∙ sym (then-go _ (sym (c .before .before .before .before .before .before .lookup-fault .ensures) ∙ c .before .before .before .before .enum-told2 .given .1))
 
 pub values-fault-spec : {M : Type 1} → statement M
 values-fault-spec =
@@ -39,4 +49,7 @@ values-fault-spec =
     enum-told-2
     slice-aggregate-glyphs-fault
     glyphs-fault-requires
-    returns-2)
+    returns-2
+    slice-aggregate-glyphs-fault-2
+    glyphs-fault-requires-2
+    returns-3)
