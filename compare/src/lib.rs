@@ -5,7 +5,9 @@
 
 pub mod cases;
 pub mod library;
+pub mod parts;
 pub mod questions;
+pub mod sheets;
 pub mod tables;
 
 /// What a comparison finds: nothing, or in which way the two differ.

@@ -2,7 +2,7 @@
 //! cases; with names, only on those cases. Exit status 1 where they differ.
 
 use compare::questions::Questions;
-use compare::{tables, Outcome};
+use compare::{sheets, tables, Outcome};
 use std::process::ExitCode;
 use std::time::{Duration, Instant};
 
@@ -39,7 +39,7 @@ fn asked() -> Result<Asked, String> {
 /// The kinds of cases, each with its comparison.
 type Kind = (&'static str, fn(u64, u64) -> Outcome);
 
-const KINDS: [Kind; 1] = [("table", table_case)];
+const KINDS: [Kind; 2] = [("table", table_case), ("sheet", sheet_case)];
 
 fn table_case(seed: u64, index: u64) -> Outcome {
     let (table, glyphs) = tables::draw(seed, index);
@@ -47,6 +47,15 @@ fn table_case(seed: u64, index: u64) -> Outcome {
     tables::compare(&table, glyphs, &mut asked)?;
     if index % 50 == 0 {
         tables::compare_counts(&table, &mut asked)?;
+    }
+    Ok(())
+}
+
+fn sheet_case(seed: u64, index: u64) -> Outcome {
+    let bytes = sheets::draw(seed, index);
+    sheets::compare(&bytes, &mut Questions::new(seed, index))?;
+    if bytes.len() <= 200 && index % 40 == 0 {
+        sheets::compare_changes(&bytes)?;
     }
     Ok(())
 }

@@ -1,8 +1,9 @@
-//! Tables: the first fault's number, the parts of the meaning, the component lists.
+//! Tables: the first fault's number, the parts of the meaning, the component lists, and the table's sheet.
 
+use crate::library::{self, Asked};
 use crate::questions::{self, Questions};
-use crate::{library, same, Outcome};
-use reference::{generate, Direction, Parts};
+use crate::{parts, same, Outcome};
+use reference::{generate, Direction};
 
 /// The table of a case, and the glyph count that it is read with.
 pub fn draw(seed: u64, index: u64) -> (Vec<u8>, u32) {
@@ -12,50 +13,30 @@ pub fn draw(seed: u64, index: u64) -> (Vec<u8>, u32) {
 /// Compares all that is said of one table.
 pub fn compare(table: &[u8], glyphs: u32, asked: &mut Questions) -> Outcome {
     let second = reference::read_table(table, glyphs);
-    let number = second.as_ref().map_or_else(|fault| fault.number, |_| 0);
-    same("check_table", library::check_table(table, glyphs), number)?;
-    let refused = second.as_ref().err().map(|fault| fault.number);
-    let read = second.as_ref().ok();
-    let count = read.map_or(Err(number), |read| Ok(read.glyph_count()));
-    same("table_count", library::table_count(table, glyphs), count)?;
-    for direction in Direction::BOTH {
-        compare_direction(table, glyphs, direction, read, refused, asked)?;
+    let read = second.as_ref().map_err(|fault| fault.number);
+    same("check_table", library::check_table(table, glyphs), read.err().unwrap_or(0))?;
+    parts::compare("table", Asked::Table(table, glyphs), read, asked)?;
+    for way in Direction::BOTH {
+        for _ in 0..questions::EACH {
+            let (glyph, number) = (asked.glyph(glyphs), asked.action());
+            let library = library::table_components(table, glyphs, way, glyph, number);
+            same("components", library, reference::component_list(table, glyphs, way, glyph.into(), number.into()))?;
+        }
     }
-    Ok(())
+    match read {
+        Ok(read) => compare_sheet(table, glyphs, read, asked),
+        Err(_) => Ok(()),
+    }
 }
 
-fn compare_direction(
-    table: &[u8],
-    glyphs: u32,
-    direction: Direction,
-    read: Option<&reference::Table>,
-    refused: Option<u32>,
-    asked: &mut Questions,
-) -> Outcome {
-    let sizes = read.map(|read| read.sizes(direction));
-    same("table_sizes", library::table_sizes(table, glyphs, direction), sizes.ok_or(refused.unwrap_or(0)))?;
-    let sizes = sizes.flatten();
-    for _ in 0..questions::EACH {
-        let glyph = asked.glyph(glyphs);
-        let class = read.map(|read| read.glyph_class(direction, glyph.into()));
-        same("table_class", library::table_class(table, glyphs, direction, glyph), class.ok_or(refused.unwrap_or(0)))?;
-        let (row, column) = asked.cell(sizes);
-        let cell = read.map(|read| read.cell(direction, row.into(), column.into()));
-        same("table_cell", library::table_cell(table, glyphs, direction, row, column), cell.ok_or(refused.unwrap_or(0)))?;
-        let kind = asked.class();
-        let record = read.map(|read| read.width_record(direction, glyph.into(), kind.into()));
-        let record = record.map(|found| found.map(|found| (u32::from(kind), found)));
-        let library = library::table_record(table, glyphs, direction, glyph, kind);
-        same("table_record", library, record.ok_or(refused.unwrap_or(0)))?;
-        let number = asked.action();
-        let action = read.map(|read| read.action(direction, glyph.into(), number.into()));
-        let library = library::table_action(table, glyphs, direction, glyph, number);
-        same("table_action", library, action.ok_or(refused.unwrap_or(0)))?;
-        let library = library::table_components(table, glyphs, direction, glyph, number);
-        let second = reference::component_list(table, glyphs, direction, glyph.into(), number.into());
-        same("table_components", library, second)?;
+/// A table's sheet, where it is not too long to ask of again and again, is accepted and answers as the table does.
+fn compare_sheet(table: &[u8], glyphs: u32, read: &reference::Table, asked: &mut Questions) -> Outcome {
+    let sheet = reference::write_sheet(table, glyphs).expect("an accepted table");
+    same("check_sheet of a table's sheet", library::check_sheet(&sheet), 0)?;
+    if sheet.len() > 4_000 {
+        return Ok(());
     }
-    Ok(())
+    parts::compare("table's sheet", Asked::Sheet(&sheet), Ok(read), asked)
 }
 
 /// Counts that bear on refusal 2, beside the one that a table was drawn with.

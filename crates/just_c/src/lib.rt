@@ -8,6 +8,7 @@ ghost use Rattle.table.specs.Table.{tableFault};
 ghost use Rattle.table.specs.Means.{meaningOf};
 ghost use Rattle.table_parts.specs.Components.{componentsOf};
 ghost use Rattle.just_c.specs.InC.{checkedNumber, directionIn, countIn, sizesIn, classIn, cellIn, recordIn, noPair, actionIn, actionOut, stretchIn};
+ghost use Rattle.just_c.specs.SheetInC.{SheetNumber, Given};
 use answers::ActionAnswer;
 use answers::CellAnswer;
 use answers::Checked;
@@ -329,4 +330,73 @@ pub extern "C" fn just_table_components(
         offset: from,
         length: to - from,
     }
+}
+
+// Whether bytes are a sheet: 0, or 17.
+#[no_mangle]
+pub extern "C" fn just_check_sheet(sheet: &[u8]) -> u32
+    ensures { λ r. ⌜ SheetNumber (now (sheet .entry)) r ⌝ }
+{
+    match sheet_read::check_sheet(sheet) {
+        Checked::Accepted => 0,
+        Checked::Refused(refusal) => fields::number_of(refusal),
+    }
+}
+
+// The glyph count of a sheet.
+#[no_mangle]
+pub extern "C" fn just_sheet_count(sheet: &[u8]) -> JustCount
+    ensures { λ r. ⌜ Given (now (sheet .entry)) glyphCount countIn r ⌝ }
+{
+    count_out(sheet_calls::ask_count(sheet))
+}
+
+// The row count and the class count of a direction's machine.
+#[no_mangle]
+pub extern "C" fn just_sheet_sizes(sheet: &[u8], direction: u32) -> JustSizes
+    ensures { λ r. ⌜ Given (now (sheet .entry)) (along (directionIn direction) sizes) sizesIn r ⌝ }
+{
+    sizes_out(sheet_calls::ask_sizes(sheet, direction_in(direction)))
+}
+
+// The class of a glyph.
+#[no_mangle]
+pub extern "C" fn just_sheet_class(sheet: &[u8], direction: u32, glyph: u16) -> JustClass
+    ensures { λ r. ⌜ Given (now (sheet .entry)) (along (directionIn direction) (class glyph)) classIn r ⌝ }
+{
+    class_out(sheet_calls::ask_class(sheet, direction_in(direction), glyph))
+}
+
+// What the cell of a row and a class holds.
+#[no_mangle]
+pub extern "C" fn just_sheet_cell(sheet: &[u8], direction: u32, row: u16, class: u16) -> JustCell
+    ensures { λ r. ⌜ Given (now (sheet .entry)) (along (directionIn direction) (cell row class)) cellIn r ⌝ }
+{
+    cell_out(sheet_calls::ask_cell(sheet, direction_in(direction), row, class))
+}
+
+// The width record of a glyph and a class.
+#[no_mangle]
+pub extern "C" fn just_sheet_record(
+    sheet: &[u8],
+    direction: u32,
+    glyph: u16,
+    class: u8,
+) -> JustRecord
+    ensures { λ r. ⌜ Given (now (sheet .entry)) (along (directionIn direction) (width glyph class)) recordIn r ⌝ }
+{
+    record_out(sheet_calls::ask_record(sheet, direction_in(direction), glyph, class))
+}
+
+// The action of a glyph and a number.
+#[no_mangle]
+pub extern "C" fn just_sheet_action(
+    sheet: &[u8],
+    direction: u32,
+    glyph: u16,
+    number: u16,
+) -> JustAction
+    ensures { λ r. ⌜ Given (now (sheet .entry)) (along (directionIn direction) (action glyph number)) actionIn r ⌝ }
+{
+    action_out(sheet_calls::ask_action(sheet, direction_in(direction), glyph, number))
 }

@@ -55,7 +55,7 @@ fn entry_place(table: &[u8], here: usize, number: usize) -> usize
 }
 
 // The entry with a stored number.
-fn entry_at(table: &[u8], here: usize, number: usize) -> Entry
+pub fn entry_at(table: &[u8], here: usize, number: usize) -> Entry
     requires { ⌜ (here < 2 ^ 32) × ((number < 2 ^ 8) × (0 < classCount (now table) here)) ⌝ }
     ensures { λ r. ⌜ r ≡ entryAt (now (table .entry)) here number ⌝ }
 {

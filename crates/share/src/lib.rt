@@ -311,7 +311,7 @@ fn share_sizes(
 }
 
 // A size with the gap's sign.
-fn signed(shrink: bool, size: u64) -> i32
+pub fn signed(shrink: bool, size: u64) -> i32
     requires { ⌜ size < 2147483648 ⌝ }
     ensures { λ r. ⌜ r ≡ signedOf shrink size ⌝ }
 {

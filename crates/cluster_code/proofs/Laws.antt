@@ -1,0 +1,50 @@
+-- Pairs one after the other, and the bytes of a cluster.
+use Prim.Native.Nat.{ℕ, zero, suc, _+_, _-_, _*_, _≤_, _<_}
+use mathlib.Core.Path.{_≡_, refl, sym, ap, ap₂, _∙_}
+use mathlib.Core.Bool.{Bool, true, false}
+use mathlib.Core.List.{List, [], _∷_, _++_, head-eq-of-cons-eq, tail-eq-of-cons-eq}
+use native.Mathlib.Omega.{arith}
+use lib.ListN.{length}
+use Rattle.fields.specs.Field.{u32At, be32}
+use Rattle.lists.specs.Codes.{many, counted}
+use Rattle.lists.proofs.CodeLaws.{many-length}
+use Rattle.parts.specs.declared.Pair.{Pair}
+use Rattle.meaning.specs.Sheet.{pairCode}
+use Rattle.section.specs.Section.{Says}
+use Rattle.cluster.specs.Pairs.{pairAt, pairsAt, clusterAt}
+use Rattle.cluster.proofs.Laws.{pairs-length, cluster-length}
+
+module _ (t : List ℕ) where
+  pub pairs-cons : (n at : ℕ) → 0 < n → pairsAt t n at ≡ pairAt t at ∷ pairsAt t (n - 1) (at + 24)
+  unfolding pairsAt
+  pairs-cons zero at h = absurd (omega arith)
+  pairs-cons (suc n) at h = let e : n ≡ suc n - 1 = omega arith in ap (λ (k : ℕ). pairAt t at ∷ pairsAt t k (at + 24)) e
+
+  pub pairs-none : (n at : ℕ) → n ≤ 0 → pairsAt t n at ≡ []
+  unfolding pairsAt
+  pairs-none zero at h = refl
+  pairs-none (suc n) at h = absurd (omega arith)
+
+  pub same-next : (n a b : ℕ) → 0 < n → pairAt t a ≡ pairAt t b → pairsAt t (n - 1) (a + 24) ≡ pairsAt t (n - 1) (b + 24) → pairsAt t n a ≡ pairsAt t n b
+  same-next n a b h e f = pairs-cons n a h ∙ ap₂ (λ (x : Pair) (l : List Pair). x ∷ l) e f ∙ sym (pairs-cons n b h)
+
+  pub next-same : (n a b : ℕ) → 0 < n → pairsAt t n a ≡ pairsAt t n b
+      → (pairAt t a ≡ pairAt t b) × (pairsAt t (n - 1) (a + 24) ≡ pairsAt t (n - 1) (b + 24))
+  next-same n a b h e =
+      let f = sym (pairs-cons n a h) ∙ e ∙ pairs-cons n b h in
+      (head-eq-of-cons-eq f, tail-eq-of-cons-eq f)
+
+  pub cluster-bytes : (at : ℕ) → length (counted pairCode (clusterAt t at)) ≡ 4 + 24 * u32At t at
+  cluster-bytes at = omega (arith, many-length pairCode 24 (λ x. refl) (clusterAt t at), cluster-length t at)
+
+  -- the count as it was read, then so many pairs
+  pub cluster-code : (at n : ℕ) → n ≡ u32At t at → be32 n ++ many pairCode (pairsAt t n (at + 4)) ≡ counted pairCode (clusterAt t at)
+  unfolding clusterAt
+  cluster-code at n e =
+      ap (λ (k : ℕ). be32 k ++ many pairCode (pairsAt t n (at + 4))) (sym (pairs-length t n (at + 4)))
+      ∙ ap (λ (k : ℕ). counted pairCode (pairsAt t k (at + 4))) e
+
+-- what is left to compare of two pairs
+pub same-flagged : (r : Bool) (x y : Pair) → x .class ≡ y .class → x .before ≡ y .before → x .after ≡ y .after → Says r (x .flags ≡ y .flags) → Says r (x ≡ y)
+same-flagged true x y c b a f = λ i. record { class = c i; before = b i; after = a i; flags = f i }
+same-flagged false x y c b a f = λ e. f (ap (λ (p : Pair). p .flags) e)

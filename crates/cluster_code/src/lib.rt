@@ -1,0 +1,154 @@
+// A width cluster of a table as the sheet writes it (document 01, "The sheet", section 5): how many bytes it takes,
+// whether two positions hold the same one, and storing it into lent bytes. Two clusters are the same when they are
+// written alike, whatever their ignored bits and the signs of their shrink limits.
+ghost use mathlib.Core.Path.{_≡_};
+ghost use mathlib.Core.List.{_++_};
+ghost use Prim.Native.Nat.{_+_, _*_, _<_, _^_};
+ghost use lib.ListN.{length};
+ghost use lib.Seq.{sets};
+ghost use Rattle.fields.specs.Field.{be16, be32};
+ghost use Rattle.lists.specs.Codes.{many, counted};
+ghost use Rattle.meaning.specs.Sheet.{pairCode};
+ghost use Rattle.section.specs.Section.{Says};
+ghost use Rattle.cluster.specs.Pairs.{pairsAt, clusterAt};
+use parts::Flags;
+use parts::Limits;
+use parts::Pair;
+
+fn same_limits(a: Limits, b: Limits) -> bool
+    ensures { λ r. ⌜ Says r (a ≡ b) ⌝ }
+{
+    if a.grow != b.grow {
+        return false;
+    }
+    if a.shrink != b.shrink {
+        return false;
+    }
+    true
+}
+
+fn same_flags(a: Flags, b: Flags) -> bool
+    ensures { λ r. ⌜ Says r (a ≡ b) ⌝ }
+{
+    if a.grow != b.grow {
+        return false;
+    }
+    if a.shrink != b.shrink {
+        return false;
+    }
+    true
+}
+
+fn same_pair(a: Pair, b: Pair) -> bool
+    ensures { λ r. ⌜ Says r (a ≡ b) ⌝ }
+{
+    if a.class != b.class {
+        return false;
+    }
+    if same_limits(a.before, b.before) {
+        if same_limits(a.after, b.after) {
+            return same_flags(a.flags, b.flags);
+        } else {
+            return false;
+        }
+    } else {
+        return false;
+    }
+}
+
+// Whether the `count` pairs from `first` on are the same as those from `second` on.
+fn same_pairs(table: &[u8], first: usize, second: usize, count: usize) -> bool
+    requires { ⌜ (first + 24 * count < 2 ^ 62) × (second + 24 * count < 2 ^ 62) ⌝ }
+    ensures { λ r. ⌜ Says r (pairsAt (now (table .entry)) count first ≡ pairsAt (now (table .entry)) count second) ⌝ }
+{
+    let mut a = first;
+    let mut b = second;
+    let mut left = count;
+    while 0 < left {
+        let x = cluster::pair_at(table, a);
+        let y = cluster::pair_at(table, b);
+        if same_pair(x, y) {
+            a += 24;
+            b += 24;
+            left -= 1;
+        } else {
+            return false;
+        }
+    }
+    true
+}
+
+// Whether two positions hold the same cluster.
+pub fn same_cluster(table: &[u8], first: u16, second: u16) -> bool
+    ensures { λ r. ⌜ Says r (clusterAt (now (table .entry)) first ≡ clusterAt (now (table .entry)) second) ⌝ }
+{
+    let a = first as usize;
+    let b = second as usize;
+    let count = fields::u32_at(table, a);
+    if count == fields::u32_at(table, b) {
+        same_pairs(table, a + 4, b + 4, count)
+    } else {
+        false
+    }
+}
+
+// How many bytes the cluster at a position is written in.
+pub fn cluster_size(table: &[u8], at: u16) -> usize
+    ensures { λ r. ⌜ (r ≡ length (counted pairCode (clusterAt (now (table .entry)) at))) × (r < 2 ^ 40) ⌝ }
+{
+    4 + 24 * fields::u32_at(table, at as usize)
+}
+
+fn put_limits(out: &mut [u8], to: usize, limits: Limits)
+    requires { ⌜ to < 2 ^ 62 ⌝ }
+    ensures { λ r. ⌜ now (out .exit) ≡ sets (now (out .entry)) to (be32 (limits .grow) ++ be32 (limits .shrink)) ⌝ }
+{
+    fields::put_u32(out, to, limits.grow);
+    fields::put_u32(out, to + 4, limits.shrink);
+}
+
+fn put_flags(out: &mut [u8], to: usize, flags: Flags)
+    requires { ⌜ to < 2 ^ 62 ⌝ }
+    ensures { λ r. ⌜ now (out .exit) ≡ sets (now (out .entry)) to (be16 (flags .grow) ++ be16 (flags .shrink)) ⌝ }
+{
+    fields::put_u16(out, to, flags.grow);
+    fields::put_u16(out, to + 2, flags.shrink);
+}
+
+// Stores a pair, in 24 bytes.
+fn put_pair(out: &mut [u8], to: usize, pair: Pair)
+    requires { ⌜ to < 2 ^ 61 ⌝ }
+    ensures { λ r. ⌜ now (out .exit) ≡ sets (now (out .entry)) to (pairCode pair) ⌝ }
+{
+    fields::put_u32(out, to, pair.class);
+    put_limits(out, to + 4, pair.before);
+    put_limits(out, to + 12, pair.after);
+    put_flags(out, to + 20, pair.flags);
+}
+
+// Stores the `count` pairs from `first` on.
+fn put_pairs(table: &[u8], first: usize, count: usize, out: &mut [u8], to: usize)
+    requires { ⌜ (first + 24 * count < 2 ^ 60) × (to + 24 * count < 2 ^ 60) ⌝ }
+    ensures { λ r. ⌜ now (out .exit) ≡ sets (now (out .entry)) to (many pairCode (pairsAt (now (table .entry)) count first)) ⌝ }
+{
+    let mut at = first;
+    let mut end = to;
+    let mut left = count;
+    while 0 < left {
+        put_pair(out, end, cluster::pair_at(table, at));
+        at += 24;
+        end += 24;
+        left -= 1;
+    }
+}
+
+// Stores the cluster at a position.
+pub fn put_cluster(table: &[u8], at: u16, out: &mut [u8], to: usize)
+    requires { ⌜ to < 2 ^ 40 ⌝ }
+    ensures { λ r. ⌜ now (out .exit) ≡ sets (now (out .entry)) to (counted pairCode (clusterAt (now (table .entry)) at)) ⌝ }
+{
+    let place = at as usize;
+    let count = fields::u32_at(table, place);
+    fields::put_u32(out, to, count as u32);
+    put_pairs(table, place + 4, count, out, to + 4);
+}

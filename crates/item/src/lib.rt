@@ -1,0 +1,42 @@
+// The clusters and the action lists of a table by one name (document 01, "The sheet", sections 5 and 7): how many
+// bytes one takes in the sheet, whether two positions hold the same one as written, and storing it into lent bytes.
+ghost use mathlib.Core.Path.{_≡_};
+ghost use Prim.Native.Nat.{_≤_, _<_, _^_};
+ghost use lib.ListN.{length};
+ghost use lib.Seq.{sets};
+ghost use Rattle.section.specs.Section.{Says};
+ghost use Rattle.item.specs.Items.{itemAt, itemCode};
+use values::Kind;
+
+// How many bytes the item at a position is written in.
+pub fn item_size(table: &[u8], kind: Kind, at: u16) -> usize
+    requires { ⌜ length (now table) ≤ 2 ^ 15 ⌝ }
+    ensures { λ r. ⌜ (r ≡ length (itemCode kind (itemAt kind (now (table .entry)) at))) × (r < 2 ^ 52) ⌝ }
+{
+    match kind {
+        Kind::Clusters => cluster_code::cluster_size(table, at),
+        Kind::Lists => list_code::list_size(table, at),
+    }
+}
+
+// Whether two positions hold the same item.
+pub fn same_item(table: &[u8], kind: Kind, first: u16, second: u16) -> bool
+    requires { ⌜ length (now table) ≤ 2 ^ 15 ⌝ }
+    ensures { λ r. ⌜ Says r (itemAt kind (now (table .entry)) first ≡ itemAt kind (now (table .entry)) second) ⌝ }
+{
+    match kind {
+        Kind::Clusters => cluster_code::same_cluster(table, first, second),
+        Kind::Lists => list_code::same_list(table, first, second),
+    }
+}
+
+// Stores the item at a position.
+pub fn put_item(table: &[u8], kind: Kind, at: u16, out: &mut [u8], to: usize)
+    requires { ⌜ (length (now table) ≤ 2 ^ 15) × (to < 2 ^ 40) ⌝ }
+    ensures { λ r. ⌜ now (out .exit) ≡ sets (now (out .entry)) to (itemCode kind (itemAt kind (now (table .entry)) at)) ⌝ }
+{
+    match kind {
+        Kind::Clusters => cluster_code::put_cluster(table, at, out, to),
+        Kind::Lists => list_code::put_list(table, at, out, to),
+    }
+}

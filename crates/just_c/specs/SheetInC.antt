@@ -1,0 +1,22 @@
+-- What the calls for a sheet say in C: of a sheet the part of the meaning that it is written for, of any other bytes the number 17.
+use Prim.Native.Nat.{ℕ}
+use mathlib.Core.Path.{_≡_}
+use mathlib.Core.List.{List}
+use Rattle.meaning.specs.Ask.{Question}
+use Rattle.answers.specs.declared.Checked.{Checked}
+use Rattle.answers.specs.Says.{Reply}
+use Rattle.sheet_read.specs.Check.{SheetChecked}
+use Rattle.sheet_calls.specs.Calls.{SheetReply}
+use Rattle.just_c.specs.InC.{checkedNumber}
+
+-- the number of what the check says: 0 where the bytes are a sheet, 17 where they are not
+pub record SheetNumber (bytes : List ℕ) (r : ℕ) : Type 0 where
+  pub said : Checked
+  pub holds : SheetChecked bytes said
+  pub number : r ≡ checkedNumber said
+
+-- a reply to a question about the bytes, in its struct of C layout
+pub record Given {A : Type 0} (bytes : List ℕ) (q : Question) (out : Reply → A) (r : A) : Type 0 where
+  pub reply : Reply
+  pub holds : SheetReply bytes q reply
+  pub struct : r ≡ out reply

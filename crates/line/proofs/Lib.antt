@@ -1,0 +1,5 @@
+pub mod Tests
+pub mod Gaps
+pub mod Work
+pub mod Outcomes
+pub mod Theorems

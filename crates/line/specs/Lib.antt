@@ -1,0 +1,3 @@
+pub mod Justified
+pub mod Settle
+pub mod Steps

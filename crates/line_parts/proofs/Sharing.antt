@@ -1,0 +1,84 @@
+-- From parts that stand in four lists to a gap that is shared.
+use Prim.Native.Nat.{ℕ, _≤_}
+use mathlib.Core.Path.{_≡_, refl, sym, ap, _∙_}
+use mathlib.Core.Bool.{Bool, true, false, cond}
+use mathlib.Core.List.{List, map}
+use native.Mathlib.Omega.{arith}
+use lib.IntN.{ℤ}
+use lib.ListN.{length, length-map}
+use Rattle.share.specs.Line.{Glyph, glyphsOf, Lent, Parts, lineLeft, lineFits, beforeMoves, afterMoves, signedOf}
+use Rattle.share.proofs.Lines.{glyphsOf-parts, line-sum}
+use Rattle.line_parts.specs.declared.Shared.{Shared}
+use Rattle.line_parts.specs.declared.Shared.the-variants.{Left, Over}
+use Rattle.line_parts.specs.Parts.{Laid, SharedOut}
+
+module _ {ps : List Glyph} {ks us bs cs : List ℕ} (w : Laid ps ks us bs cs) where
+  count : {xs : List ℕ} (f : Glyph → ℕ) → xs ≡ map f ps → length xs ≡ length ps
+  count f e = ap length e ∙ length-map ps f
+
+  pub laid-lent : length ps ≤ 1024 → Lent (length ks) ks us bs cs
+  laid-lent h =
+      let k = count (λ (g : Glyph). g .stage) (w .marks) in
+      record {
+        stages = refl;
+        extras = count (λ (g : Glyph). g .extra) (w .extras) ∙ sym k;
+        first = count (λ (g : Glyph). g .before) (w .first) ∙ sym k;
+        second = count (λ (g : Glyph). g .after) (w .second) ∙ sym k;
+        short = omega arith;
+      }
+
+  pub laid-marks : length ks ≡ length ps
+  laid-marks = count (λ (g : Glyph). g .stage) (w .marks)
+
+  pub laid-extras : length us ≡ length ks
+  laid-extras = count (λ (g : Glyph). g .extra) (w .extras) ∙ sym laid-marks
+
+  pub laid-parts : Parts (length ks) ks bs cs
+  laid-parts =
+      record {
+        stages = refl;
+        first = count (λ (g : Glyph). g .before) (w .first) ∙ sym laid-marks;
+        second = count (λ (g : Glyph). g .after) (w .second) ∙ sym laid-marks;
+      }
+
+  pub laid-glyphs : glyphsOf ks us bs cs ≡ ps
+  laid-glyphs =
+      ap (λ (x : List ℕ). glyphsOf x us bs cs) (w .marks)
+      ∙ ap (λ (x : List ℕ). glyphsOf (map (λ (g : Glyph). g .stage) ps) x bs cs) (w .extras)
+      ∙ ap (λ (x : List ℕ). glyphsOf (map (λ (g : Glyph). g .stage) ps) (map (λ (g : Glyph). g .extra) ps) x cs) (w .first)
+      ∙ ap (λ (x : List ℕ). glyphsOf (map (λ (g : Glyph). g .stage) ps) (map (λ (g : Glyph). g .extra) ps) (map (λ (g : Glyph). g .before) ps) x) (w .second)
+      ∙ glyphsOf-parts ps
+
+  -- refusal 15's test
+  pub laid-fits : {r : Bool} → ((us : List ℕ) → length us ≡ length ks → r ≡ lineFits (glyphsOf ks us bs cs)) → lineFits ps ≡ r
+  laid-fits e = sym (e us laid-extras ∙ ap lineFits laid-glyphs)
+
+-- no more is left than the gap
+pub left-small : (ps : List Glyph) (gap : ℕ) → lineLeft ps gap ≤ gap
+left-small ps gap = omega (arith, line-sum ps gap)
+
+module _ (shrink : Bool) (gap : ℕ) (ps qs : List Glyph) (same : qs ≡ ps) (bs fs : List ℤ) where
+  pub shared-left : {z : ℤ} {bs′ fs′ : List ℤ} → lineFits ps ≡ true → z ≡ signedOf shrink (lineLeft qs gap) → bs′ ≡ map (signedOf shrink) (beforeMoves qs gap)
+      → fs′ ≡ map (signedOf shrink) (afterMoves qs gap) → SharedOut shrink gap ps bs fs (Left z) bs′ fs′
+  shared-left {z} {bs′} {fs′} fits e b f =
+      record {
+        answer =
+            ap Left (e ∙ ap (λ (x : List Glyph). signedOf shrink (lineLeft x gap)) same)
+            ∙ ap (λ (t : Bool). cond t (Left (signedOf shrink (lineLeft ps gap))) Over) (sym fits);
+        before =
+            b
+            ∙ ap (λ (x : List Glyph). map (signedOf shrink) (beforeMoves x gap)) same
+            ∙ ap (λ (t : Bool). cond t (map (signedOf shrink) (beforeMoves ps gap)) bs) (sym fits);
+        after =
+            f
+            ∙ ap (λ (x : List Glyph). map (signedOf shrink) (afterMoves x gap)) same
+            ∙ ap (λ (t : Bool). cond t (map (signedOf shrink) (afterMoves ps gap)) fs) (sym fits);
+      }
+
+pub shared-over : (shrink : Bool) (gap : ℕ) (ps : List Glyph) (bs fs : List ℤ) → lineFits ps ≡ false → SharedOut shrink gap ps bs fs Over bs fs
+shared-over shrink gap ps bs fs e =
+    record {
+      answer = ap (λ (t : Bool). cond t (Left (signedOf shrink (lineLeft ps gap))) Over) (sym e);
+      before = ap (λ (t : Bool). cond t (map (signedOf shrink) (beforeMoves ps gap)) bs) (sym e);
+      after = ap (λ (t : Bool). cond t (map (signedOf shrink) (afterMoves ps gap)) fs) (sym e);
+    }

@@ -1,0 +1,250 @@
+// What a line's call works out before its verdicts (document 01, "The class walk" and "Sharing the gap"), from an
+// accepted table: the classes of the line's glyphs, the part of each glyph, and the movements of its two sides.
+ghost use mathlib.Core.Path.{_≡_};
+ghost use mathlib.Core.Bool.{cond};
+ghost use mathlib.Core.List.{map};
+ghost use Prim.Native.Nat.{ℕ, _≤_, _<_, _^_};
+ghost use lib.ListN.{length};
+ghost use Rattle.fields.specs.declared.Fault.the-variants.{Clear};
+ghost use Rattle.units.specs.Flags.{isUnlimited};
+ghost use Rattle.meaning.specs.Ask.{sideOf};
+ghost use Rattle.cluster.specs.Pairs.{soughtPair};
+ghost use Rattle.table.specs.Table.{tableFault};
+ghost use Rattle.table.specs.Means.{meaningOf};
+ghost use Rattle.walk.specs.Line.{handedOut};
+ghost use Rattle.share.specs.Line.{lineFits, beforeMoves, afterMoves, signedOf};
+ghost use Rattle.lines.specs.Line.{walkOf, recordFor, unitsOf, stageOf, partBy, partOf, partsOf};
+ghost use Rattle.line_parts.specs.Parts.{Known, bareLine, Small, glyphBy, Laid, Room, SharedOut};
+use actions::Spot;
+use cluster::Sought;
+use parts::Direction;
+use units::Ems;
+use walk::Walked;
+
+// A glyph's part in the sharing of the gap: its stage mark, 1 where it is unlimited and else 0, and the factors of
+// its before and its after side, in units.
+pub struct Part {
+    pub mark: u8,
+    pub extra: u8,
+    pub before: u64,
+    pub after: u64,
+}
+
+// The remainder of a gap that was shared, with the gap's sign; or that a stage's total is above the most that it
+// may be.
+pub enum Shared {
+    Left(i32),
+    Over,
+}
+
+// The mark of a glyph that takes no part.
+const APART: u8 = 255;
+
+// The walk of a line by the machine of a direction; with no machine, every class 0 and no entry taken.
+pub fn line_walk(
+    table: &[u8],
+    count: u32,
+    direction: Direction,
+    glyphs: &[u16],
+    starts: bool,
+    ends: bool,
+) -> Walked
+    requires { ⌜ (tableFault (now table) count ≡ Clear) × (length (now glyphs) ≤ 1024) ⌝ }
+    requires { ⌜ Known count (now glyphs) ⌝ }
+    ensures { λ r. ⌜ r ≡ handedOut (walkOf (sideOf direction (meaningOf (now (table .entry)) count) .machine) (bareLine (now (glyphs .entry)) starts ends)) ⌝ }
+{
+    let offset = table_parts::machine_in(table, direction);
+    if offset == 0 {
+        return Walked {
+            ends: true,
+            count: 0,
+            classes: [0u8; 1024],
+        };
+    }
+    let here = offset + 8;
+    let rows = machine::row_count(table, here);
+    let kinds = walk::line_kinds(table, here, glyphs);
+    let n = glyphs.len();
+    walk::walk_line(table, here, rows, &kinds[..n], starts, ends)
+}
+
+// limit × size / 65,536, rounded down.
+fn units_of(limit: u32, size: u32) -> u64
+    requires { ⌜ limit ≤ 2 ^ 31 ⌝ }
+    ensures { λ r. ⌜ r ≡ unitsOf limit size ⌝ }
+{
+    let factor = units::factor(Ems(limit as i64), size);
+    factor.0 as u64
+}
+
+// The stage mark that grow or shrink flags give.
+fn stage_of(flags: u16) -> u8
+    ensures { λ r. ⌜ r ≡ stageOf flags ⌝ }
+{
+    let priority = units::priority(flags);
+    if priority == 3 { APART } else { priority }
+}
+
+// 1 for unlimited flags.
+fn extra_of(flags: u16) -> u8
+    ensures { λ r. ⌜ r ≡ cond (isUnlimited flags) 1 0 ⌝ }
+{
+    if units::is_unlimited(flags) { 1 } else { 0 }
+}
+
+// A glyph's part by the flags and limits of one direction of the gap.
+fn part_by(size: u32, flags: u16, before: u32, after: u32) -> Part
+    requires { ⌜ (before ≤ 2 ^ 31) × (after ≤ 2 ^ 31) ⌝ }
+    ensures { λ r. ⌜ glyphBy r ≡ partBy size flags before after ⌝ }
+{
+    Part {
+        mark: stage_of(flags),
+        extra: extra_of(flags),
+        before: units_of(before, size),
+        after: units_of(after, size),
+    }
+}
+
+// The part of a glyph with this width record, or with none.
+fn part_of(shrink: bool, size: u32, sought: Sought) -> Part
+    requires { ⌜ Small (soughtPair sought) ⌝ }
+    ensures { λ r. ⌜ glyphBy r ≡ partOf shrink size (soughtPair sought) ⌝ }
+{
+    let Sought::Record(pair) = sought else {
+        return Part {
+            mark: APART,
+            extra: 0,
+            before: 0,
+            after: 0,
+        };
+    };
+    if shrink {
+        part_by(size, pair.flags.shrink, pair.before.shrink, pair.after.shrink)
+    } else {
+        part_by(size, pair.flags.grow, pair.before.grow, pair.after.grow)
+    }
+}
+
+// A glyph's width record for its class.
+fn record_for(table: &[u8], count: u32, direction: Direction, glyph: u16, class: u8) -> Sought
+    requires { ⌜ tableFault (now table) count ≡ Clear ⌝ }
+    ensures { λ r. ⌜ (soughtPair r ≡ recordFor (sideOf direction (meaningOf (now (table .entry)) count)) glyph class) × Small (soughtPair r) ⌝ }
+{
+    match table_parts::cluster_spot(table, count, direction, glyph) {
+        Spot::At(at) => cluster::record_of(table, at, class),
+        Spot::Nowhere => Sought::Nothing,
+    }
+}
+
+// The parts of a line's glyphs, each of the four in a slice of its own.
+fn lay_parts(
+    table: &[u8],
+    count: u32,
+    direction: Direction,
+    shrink: bool,
+    size: u32,
+    glyphs: &[u16],
+    classes: &[u8],
+    marks: &mut [u8],
+    extras: &mut [u8],
+    first: &mut [u64],
+    second: &mut [u64],
+)
+    requires { ⌜ (tableFault (now table) count ≡ Clear) × (length (now classes) ≡ length (now glyphs)) ⌝ }
+    requires { ⌜ Room (length (now glyphs)) (now marks) (now extras) (now first) (now second) ⌝ }
+    ensures { λ r. ⌜ Laid (partsOf (sideOf direction (meaningOf (now (table .entry)) count)) shrink size (now (glyphs .entry)) (now (classes .entry))) (now (marks .exit)) (now (extras .exit)) (now (first .exit)) (now (second .exit)) ⌝ }
+{
+    let mut i = 0;
+    while i < glyphs.len() {
+        let sought = record_for(table, count, direction, glyphs[i], classes[i]);
+        let part = part_of(shrink, size, sought);
+        marks[i] = part.mark;
+        extras[i] = part.extra;
+        first[i] = part.before;
+        second[i] = part.after;
+        i += 1;
+    }
+}
+
+// The gap, given as its size, shared over the sides of a line's glyphs, unless refusal 15 bars it; the first four
+// lent slices are room for the parts.
+fn share_parts(
+    table: &[u8],
+    count: u32,
+    direction: Direction,
+    shrink: bool,
+    gap: u64,
+    size: u32,
+    glyphs: &[u16],
+    classes: &[u8],
+    marks: &mut [u8],
+    extras: &mut [u8],
+    first: &mut [u64],
+    second: &mut [u64],
+    before: &mut [i32],
+    after: &mut [i32],
+) -> Shared
+    requires { ⌜ (tableFault (now table) count ≡ Clear) × (length (now classes) ≡ length (now glyphs)) ⌝ }
+    requires { ⌜ Room (length (now glyphs)) (now marks) (now extras) (now first) (now second) ⌝ }
+    requires { ⌜ (length (now before) ≡ length (now glyphs)) × (length (now after) ≡ length (now glyphs)) × (length (now glyphs) ≤ 1024) × (gap ≤ 1073741823) ⌝ }
+    ensures { λ r. ⌜ SharedOut shrink gap (partsOf (sideOf direction (meaningOf (now (table .entry)) count)) shrink size (now (glyphs .entry)) (now (classes .entry))) (now (before .entry)) (now (after .entry)) r (now (before .exit)) (now (after .exit)) ⌝ }
+{
+    lay_parts(
+        table,
+        count,
+        direction,
+        shrink,
+        size,
+        glyphs,
+        classes,
+        marks,
+        extras,
+        first,
+        second,
+    );
+    if share::totals_fit(marks, first, second) {
+        let left = share::share_line(shrink, gap, marks, extras, first, second, before, after);
+        return Shared::Left(share::signed(shrink, left));
+    }
+    Shared::Over
+}
+
+// The same over a room of its own: the signed movements of each glyph into `before` and `after`.
+pub fn share_glyphs(
+    table: &[u8],
+    count: u32,
+    direction: Direction,
+    shrink: bool,
+    gap: u64,
+    size: u32,
+    glyphs: &[u16],
+    classes: &[u8],
+    before: &mut [i32],
+    after: &mut [i32],
+) -> Shared
+    requires { ⌜ (tableFault (now table) count ≡ Clear) × (length (now classes) ≡ length (now glyphs)) ⌝ }
+    requires { ⌜ (length (now before) ≡ length (now glyphs)) × (length (now after) ≡ length (now glyphs)) × (length (now glyphs) ≤ 1024) × (gap ≤ 1073741823) ⌝ }
+    ensures { λ r. ⌜ SharedOut shrink gap (partsOf (sideOf direction (meaningOf (now (table .entry)) count)) shrink size (now (glyphs .entry)) (now (classes .entry))) (now (before .entry)) (now (after .entry)) r (now (before .exit)) (now (after .exit)) ⌝ }
+{
+    let n = glyphs.len();
+    let mut marks = [0u8; 1024];
+    let mut extras = [0u8; 1024];
+    let mut first = [0u64; 1024];
+    let mut second = [0u64; 1024];
+    share_parts(
+        table,
+        count,
+        direction,
+        shrink,
+        gap,
+        size,
+        glyphs,
+        classes,
+        &mut marks[..n],
+        &mut extras[..n],
+        &mut first[..n],
+        &mut second[..n],
+        before,
+        after,
+    )
+}

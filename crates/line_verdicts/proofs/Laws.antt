@@ -1,0 +1,394 @@
+-- What is left of a line's verdicts at a cursor, and how a step takes one of them; and of an accepted table, that the list of a glyph can be passed.
+use Prim.Native.Nat.{ℕ, zero, suc, _+_, _-_, _*_, _≤_, _<_, _^_}
+use mathlib.Core.Path.{_≡_, refl, sym, ap, ap₂, _∙_, subst}
+use mathlib.Core.Bool.{Bool, true, false, cond}
+use mathlib.Core.Option.{none}
+use mathlib.Core.List.{List, [], _∷_, _++_, append-assoc}
+use native.Mathlib.Omega.{arith}
+use native.Mathlib.Numerals.{add-one}
+use lib.IntN.{ℤ, pos, _+ℤ_}
+use lib.ListN.{length, getD, getElem?, drop, length-append}
+use lib.Seq.{drop-cons}
+use Rattle.fields.specs.declared.Fault.the-variants.{Clear}
+use Rattle.fields.specs.Field.{u32At, Bytes}
+use Rattle.fields.specs.Laws.{then-first, then-second}
+use Rattle.fields.specs.Walk.{walk}
+use Rattle.parts.specs.declared.Direction.{Direction}
+use Rattle.parts.specs.declared.Direction.the-variants.{Horizontal, Vertical}
+use Rattle.parts.specs.declared.Verdict.{Verdict}
+use Rattle.meaning.specs.Meaning.{Action, Side}
+use Rattle.meaning.specs.Ask.{sideOf}
+use Rattle.actions.specs.declared.Spot.{Spot}
+use Rattle.actions.specs.declared.Spot.the-variants.{At, Nowhere}
+use Rattle.actions.specs.Faults.{actionFault, actionsFault, listFault}
+use Rattle.actions.specs.Actions.{actionAt, actionsAt, listAt, Below}
+use Rattle.actions.proofs.Laws.{place-at, place-none, action-ok, action-inside, list-count, list-length}
+use Rattle.values.specs.Values.{listHere}
+use Rattle.verdict.specs.declared.Fires.{Fires}
+use Rattle.verdict.specs.declared.Fires.the-variants.{No, Plain, Substitutes}
+use Rattle.verdict.specs.Verdict.{firesOf}
+use Rattle.table.specs.Table.{tableFault}
+use Rattle.table.specs.Means.{directionOf, meaningOf}
+use Rattle.table.proofs.Laws.{short}
+use Rattle.table_parts.specs.Places.{directionAt, listSpot, numbered, actionSpot}
+use Rattle.table_parts.proofs.Asked.{lists-are}
+use Rattle.table_parts.proofs.Laws.{list-clear, action-clear}
+use Rattle.lines.specs.Line.{recordIf, firings, verdictsFrom}
+use Rattle.line_verdicts.specs.declared.Cursor.{Cursor}
+use Rattle.line_verdicts.specs.declared.Step.{Step}
+use Rattle.line_verdicts.specs.Cursor.{firesIn, firesAt, Moved, classAt, growthAt, verdictsAt, listLeft, leftAt, startCursor, given, stepOf, nothingAt, pastOf, judgedAt, Serves, Begins, InList, Here, InLine, Fits}
+
+-- ---- an accepted table
+
+module _ (t : List ℕ) (n : ℕ) (d : Direction) where
+  side-is : sideOf d (meaningOf t n) ≡ directionOf t n (directionAt t d)
+  unfolding meaningOf
+  side-is = go d
+    where
+      go : (e : Direction) → sideOf e (meaningOf t n) ≡ directionOf t n (directionAt t e)
+      go Horizontal = refl
+      go Vertical = refl
+
+  -- a glyph's actions stand where they are found
+  pub list-here : (g : ℕ) (s : Spot) → s ≡ listSpot t n d g → getD (sideOf d (meaningOf t n) .lists) g [] ≡ listHere t s
+  list-here g s e = ap (λ (x : Side). getD (x .lists) g []) side-is ∙ lists-are t n d g ∙ ap (listHere t) (sym e)
+
+  -- the action at a spot is the one that is asked for
+  pub fires-there : (g k p : ℕ) (class : ℕ) (growth : ℤ) (size : ℕ) → At p ≡ actionSpot t n d g k
+      → firesOf (actionAt t p) class growth size ≡ firesAt (sideOf d (meaningOf t n)) g k class growth size
+  unfolding firesAt actionSpot
+  fires-there g k p class growth size e = go (listSpot t n d g) refl e
+    where
+      go : (s : Spot) → s ≡ listSpot t n d g → At p ≡ numbered t k s
+          → firesOf (actionAt t p) class growth size ≡ firesIn (getElem? (getD (sideOf d (meaningOf t n) .lists) g []) k) class growth size
+      go (At q) w f =
+          sym (ap (λ (l : List Action). firesIn (getElem? l k) class growth size) (list-here g (At q) w)
+          ∙ ap (λ (o : _). firesIn o class growth size) (place-at t q k p (sym f)))
+      go Nowhere w f = let z : _≡_ {A = ℕ} 0 1 = cc in absurd (omega arith)
+
+  pub fires-none : (g k : ℕ) (class : ℕ) (growth : ℤ) (size : ℕ) → Nowhere ≡ actionSpot t n d g k
+      → No ≡ firesAt (sideOf d (meaningOf t n)) g k class growth size
+  unfolding firesAt actionSpot
+  fires-none g k class growth size e = go (listSpot t n d g) refl e
+    where
+      go : (s : Spot) → s ≡ listSpot t n d g → Nowhere ≡ numbered t k s
+          → No ≡ firesIn (getElem? (getD (sideOf d (meaningOf t n) .lists) g []) k) class growth size
+      go (At q) w f =
+          sym (ap (λ (l : List Action). firesIn (getElem? l k) class growth size) (list-here g (At q) w)
+          ∙ ap (λ (o : _). firesIn o class growth size) (place-none t q k (sym f)))
+      go Nowhere w f = sym (ap (λ (l : List Action). firesIn (getElem? l k) class growth size) (list-here g Nowhere w))
+
+  module _ (ok : tableFault t n ≡ Clear) where
+    pub table-short : length t ≤ 32768
+    unfolding tableFault
+    table-short = short t n (then-first _ _ ok)
+
+    -- the action that is found can be read whole
+    pub spot-whole : Bytes t → (g k p : ℕ) → At p ≡ actionSpot t n d g k → (p < 2 ^ 62) × (length (actionAt t p .content) ≤ 76)
+    spot-whole w g k p e =
+        let f = action-clear t n d ok g k p (sym e) in
+        (omega (arith, action-inside t n p f, table-short), action-ok t n p w f .2)
+
+    -- a glyph's list that is found, and one that is not there
+    pub begins-there : (g q place m : ℕ) → At q ≡ listSpot t n d g → m ≡ u32At t q
+        → Begins t (getD (sideOf d (meaningOf t n) .lists) g []) place (record { next = place + 1; number = 0; left = m; at = q + 4 })
+    unfolding listFault listAt
+    begins-there g q place m e f =
+        let clear = list-clear t n d ok g q (sym e) in
+        record {
+          next = refl;
+          number = refl;
+          actions = ap (λ (k : ℕ). actionsAt t k (q + 4)) f ∙ sym (list-here g (At q) e);
+          serves =
+              record {
+                font = n;
+                short = table-short;
+                clear = ap (λ (k : ℕ). actionsFault t n k (q + 4)) f ∙ then-second _ _ (then-second _ _ clear);
+                few = omega (arith, list-count t n q clear);
+                begun = λ z. absurd (omega arith);
+                within = omega arith;
+              };
+        }
+
+    pub begins-none : (g place : ℕ) → Nowhere ≡ listSpot t n d g
+        → Begins t (getD (sideOf d (meaningOf t n) .lists) g []) place (record { next = place + 1; number = 0; left = 0; at = 0 })
+    unfolding actionsAt walk
+    begins-none g place e =
+        record {
+          next = refl;
+          number = refl;
+          actions = sym (list-here g Nowhere e);
+          serves = record { font = n; short = table-short; clear = refl; few = omega arith; begun = λ z. refl; within = omega arith };
+        }
+
+    -- every list is short
+    pub lists-few : (g : ℕ) → length (getD (sideOf d (meaningOf t n) .lists) g []) ≤ 64
+    lists-few g = go (listSpot t n d g) refl
+      where
+        go : (s : Spot) → s ≡ listSpot t n d g → length (getD (sideOf d (meaningOf t n) .lists) g []) ≤ 64
+        go (At q) e = omega (arith, ap length (list-here g (At q) e), list-length t q, list-count t n q (list-clear t n d ok g q (sym e)))
+        go Nowhere e = omega (arith, ap (λ (l : List Action). length l) (list-here g Nowhere e))
+
+pub spot-below : (n p : ℕ) (s : Spot) → Below n s → s ≡ At p → p < n
+spot-below n p s h e = subst (Below n) e h
+
+-- ---- the action at hand
+
+module _ (t : List ℕ) (c : Cursor) (p : ℕ) (s : Serves t p c) (h : 0 < c .left) where
+  first-clear : (m at : ℕ) → 0 < m → actionsFault t (s .font) m at ≡ Clear → actionFault t (s .font) at ≡ Clear
+  unfolding walk
+  first-clear zero at h e = absurd (omega arith)
+  first-clear (suc m) at h e = then-first _ _ e
+
+  rest-clear : (m at : ℕ) → 0 < m → actionsFault t (s .font) m at ≡ Clear → actionsFault t (s .font) (m - 1) (at + u32At t (at + 4)) ≡ Clear
+  unfolding walk
+  rest-clear zero at h e = absurd (omega arith)
+  rest-clear (suc m) at h e = let d : suc m - 1 ≡ m = omega arith in rw d (then-second _ _ e)
+
+  pub hand-inside : c .at + 8 ≤ length t
+  hand-inside = action-inside t (s .font) (c .at) (first-clear (c .left) (c .at) h (s .clear))
+
+  pub hand-whole : Bytes t → length (actionAt t (c .at) .content) ≤ 76
+  hand-whole w = action-ok t (s .font) (c .at) w (first-clear (c .left) (c .at) h (s .clear)) .2
+
+  pub hand-begun : 0 < c .next
+  hand-begun = go (c .next) refl
+    where
+      go : (k : ℕ) → k ≡ c .next → 0 < k
+      go zero e = absurd (omega (arith, s .begun (sym e)))
+      go (suc k) e = omega arith
+
+  pub serves-past : Serves t p (pastOf t c)
+  serves-past =
+      record {
+        font = s .font;
+        short = s .short;
+        clear = rest-clear (c .left) (c .at) h (s .clear);
+        few = omega (arith, s .few);
+        begun = λ z. omega (arith, s .begun z);
+        within = s .within;
+      }
+
+-- ---- a step in the list at hand
+
+differ : _≡_ {A = Bool} true false → ⊥
+differ z = let q : _≡_ {A = ℕ} 0 1 = ap (λ (b : Bool). cond b 0 1) z in omega arith
+
+given-is : (f : Fires) (place number : ℕ) (c : Cursor) → given (stepOf f place number c) ≡ recordIf f place number
+given-is No place number c = refl
+given-is Plain place number c = refl
+given-is Substitutes place number c = refl
+
+step-next : (f : Fires) (place number : ℕ) (c : Cursor) → stepOf f place number c .next ≡ c
+step-next No place number c = refl
+step-next Plain place number c = refl
+step-next Substitutes place number c = refl
+
+module _ (t : List ℕ) (class : ℕ) (growth : ℤ) (size : ℕ) where
+  split : (place number left at : ℕ) → 0 < left
+      → firings place class size growth number (actionsAt t left at)
+      ≡ recordIf (firesOf (actionAt t at) class growth size) place number ++ firings place class size growth (number + 1) (actionsAt t (left - 1) (at + u32At t (at + 4)))
+  unfolding firings actionsAt
+  split place number zero at h = absurd (omega arith)
+  split place number (suc m) at h = let d : suc m - 1 ≡ m = omega arith in simp (d, add-one)
+
+  module _ (c : Cursor) (r : Step) (e : r ≡ judgedAt t class growth size c) where
+    pub judged-next : r .next ≡ pastOf t c
+    unfolding judgedAt
+    judged-next = ap (λ (x : Step). x .next) e ∙ step-next (firesOf (actionAt t (c .at)) class growth size) (c .next - 1) (c .number) (pastOf t c)
+
+    pub judged-splits : 0 < c .left → listLeft t class growth size c ≡ given r ++ listLeft t class growth size (r .next)
+    unfolding listLeft judgedAt
+    judged-splits h =
+        split (c .next - 1) (c .number) (c .left) (c .at) h
+        ∙ sym (ap₂ _++_ (ap given e ∙ given-is (firesOf (actionAt t (c .at)) class growth size) (c .next - 1) (c .number) (pastOf t c)) (ap (listLeft t class growth size) judged-next))
+
+  -- nothing is left of a list that was passed
+  pub list-spent : (c : Cursor) → c .left ≡ 0 → listLeft t class growth size c ≡ []
+  unfolding listLeft firings actionsAt
+  list-spent c e = ap (λ (k : ℕ). firings (c .next - 1) class size growth (c .number) (actionsAt t k (c .at))) e
+
+  -- of a list that was begun all is left
+  pub list-begun : (c : Cursor) (place : ℕ) (l : List Action) → c .next - 1 ≡ place → c .number ≡ 0 → actionsAt t (c .left) (c .at) ≡ l
+      → listLeft t class growth size c ≡ firings place class size growth 0 l
+  unfolding listLeft
+  list-begun c place l e f g =
+      ap (λ (p : ℕ). firings p class size growth (c .number) (actionsAt t (c .left) (c .at))) e
+      ∙ ap₂ (λ (k : ℕ) (m : List Action). firings place class size growth k m) f g
+
+  -- a step after actions that did not fire
+  pub list-found : (p : ℕ) (c₀ c : Cursor) (r : Step) → listLeft t class growth size c₀ ≡ listLeft t class growth size c → c .next ≡ c₀ .next
+      → Serves t p c → 0 < c .left → r ≡ judgedAt t class growth size c → r .found ≡ true → InList t p class growth size c₀ r
+  list-found p c₀ c r w k s h e f =
+      record {
+        splits = w ∙ judged-splits c r e h;
+        stays = ap (λ (x : Cursor). x .next) (judged-next c r e) ∙ k;
+        serves = subst (Serves t p) (sym (judged-next c r e)) (serves-past t c p s h);
+        spent = λ g. absurd (differ (sym f ∙ g));
+      }
+
+  -- an action that did not fire is passed
+  pub list-pass : (c₀ c : Cursor) (r : Step) → listLeft t class growth size c₀ ≡ listLeft t class growth size c → 0 < c .left
+      → r ≡ judgedAt t class growth size c → r .found ≡ false → listLeft t class growth size c₀ ≡ listLeft t class growth size (r .next)
+  list-pass c₀ c r w h e f = w ∙ judged-splits c r e h ∙ ap (λ (b : Bool). cond b (r .verdict ∷ []) [] ++ listLeft t class growth size (r .next)) f
+
+  -- the list is at its end
+  pub list-end : (p : ℕ) (c₀ c : Cursor) (r : Step) → listLeft t class growth size c₀ ≡ listLeft t class growth size c → c .next ≡ c₀ .next
+      → Serves t p c → c .left ≡ 0 → r ≡ nothingAt c → InList t p class growth size c₀ r
+  list-end p c₀ c r w k s h e =
+      subst (InList t p class growth size c₀) (sym e) (record { splits = w; stays = k; serves = s; spent = λ g. h })
+
+-- ---- in the line
+
+drop-past : (xs : List ℕ) (k : ℕ) → length xs ≤ k → drop k xs ≡ []
+drop-past [] zero h = refl
+drop-past [] (suc k) h = refl
+drop-past (x ∷ xs) zero h = absurd (omega arith)
+drop-past (x ∷ xs) (suc k) h = drop-past xs k (omega arith)
+
+pub places : {t : List ℕ} {p : ℕ} {c : Cursor} (q : ℕ) → Serves t p c → c .next ≤ q → Serves t q c
+places q s h = record { font = s .font; short = s .short; clear = s .clear; few = s .few; begun = s .begun; within = h }
+
+pub in-places : (t : List ℕ) (p class : ℕ) (growth growth′ : ℤ) (size : ℕ) (c : Cursor) (r : Step) → growth ≡ growth′ → Serves t p c
+    → InList t 65536 class growth size c r → InList t p class growth′ size c r
+in-places t p class growth growth′ size c r e s i =
+    subst (λ (g : ℤ). InList t p class g size c r) e
+    (record { splits = i .splits; stays = i .stays; serves = places p (i .serves) (omega (arith, i .stays, s .within)); spent = i .spent })
+
+module _ (t : List ℕ) (s : Side) (l : Moved) (glyphs : List ℕ) where
+  -- nothing is taken: all are left
+  pub all-left : verdictsFrom s (l .size) 0 glyphs (l .classes) (l .before) (l .after) ≡ leftAt t s l glyphs startCursor
+  unfolding leftAt listLeft firings actionsAt verdictsAt
+  all-left = refl
+
+  -- what is left of the list at hand, then the glyphs after it
+  line-left : (c : Cursor) (k : ℕ) → c .next ≡ k
+      → leftAt t s l glyphs c ≡ listLeft t (classAt l (k - 1)) (growthAt l (k - 1)) (l .size) c ++ verdictsAt s l glyphs k
+  unfolding leftAt
+  line-left c k e = ap (λ (j : ℕ). listLeft t (classAt l (j - 1)) (growthAt l (j - 1)) (l .size) c ++ verdictsAt s l glyphs j) e
+
+  -- nothing is left of the list at hand
+  pub line-spent : (c : Cursor) → c .left ≡ 0 → leftAt t s l glyphs c ≡ verdictsAt s l glyphs (c .next)
+  line-spent c e = line-left c (c .next) refl ∙ ap (λ (vs : List Verdict). vs ++ verdictsAt s l glyphs (c .next)) (list-spent t _ _ _ c e)
+
+  -- a verdict was found in the list at hand, or none
+  here-splits : (c : Cursor) (r : Step) → Here t l c r → leftAt t s l glyphs c ≡ given r ++ leftAt t s l glyphs (r .next)
+  here-splits c r i =
+      line-left c (c .next) refl
+      ∙ ap (λ (vs : List Verdict). vs ++ verdictsAt s l glyphs (c .next)) (i .splits)
+      ∙ append-assoc (given r) _ _
+      ∙ ap (λ (vs : List Verdict). given r ++ vs) (sym (line-left (r .next) (c .next) (i .stays)))
+
+  pub line-found : (c₀ c : Cursor) (r : Step) → leftAt t s l glyphs c₀ ≡ leftAt t s l glyphs c → Here t l c r → length (l .classes) ≡ length glyphs → r .found ≡ true
+      → InLine t s l glyphs (length glyphs) c₀ r
+  line-found c₀ c r w i e f =
+      record {
+        splits = w ∙ here-splits c r i;
+        serves = subst (λ (p : ℕ). Serves t p (r .next)) e (i .serves);
+        spent = λ g. absurd (differ (sym f ∙ g));
+      }
+
+  pub line-pass : (c : Cursor) (r : Step) → Here t l c r → r .found ≡ false → leftAt t s l glyphs c ≡ verdictsAt s l glyphs (c .next)
+  line-pass c r i f =
+      here-splits c r i
+      ∙ ap (λ (b : Bool). cond b (r .verdict ∷ []) [] ++ leftAt t s l glyphs (r .next)) f
+      ∙ line-spent (r .next) (i .spent f)
+      ∙ ap (verdictsAt s l glyphs) (i .stays)
+
+  module _ (fits : Fits l glyphs) where
+    verdicts-next : (k : ℕ) → k < length glyphs
+        → verdictsAt s l glyphs k ≡ firings k (classAt l k) (l .size) (growthAt l k) 0 (getD (s .lists) (getD glyphs k 0) []) ++ verdictsAt s l glyphs (k + 1)
+    unfolding verdictsAt verdictsFrom
+    verdicts-next k h =
+        let hc : k < length (l .classes) = omega (arith, fits .classes) in
+        let hb : k < length (l .before) = omega (arith, fits .before) in
+        let ha : k < length (l .after) = omega (arith, fits .after) in
+        rw (drop-cons glyphs k 0 h, drop-cons (l .classes) k 0 hc, drop-cons (l .before) k (pos 0) hb, drop-cons (l .after) k (pos 0) ha, add-one k)
+
+    -- the glyph at a place is begun
+    pub line-begun : (k : ℕ) (c : Cursor) → k < length glyphs → Begins t (getD (s .lists) (getD glyphs k 0) []) k c
+        → verdictsAt s l glyphs k ≡ leftAt t s l glyphs c
+    line-begun k c h b =
+        let p : k + 1 - 1 ≡ k = omega arith in
+        let q : c .next - 1 ≡ k = omega (arith, b .next) in
+        verdicts-next k h
+        ∙ sym (line-left c (k + 1) (b .next)
+        ∙ ap (λ (j : ℕ). listLeft t (classAt l j) (growthAt l j) (l .size) c ++ verdictsAt s l glyphs (k + 1)) p
+        ∙ ap (λ (vs : List Verdict). vs ++ verdictsAt s l glyphs (k + 1)) (list-begun t (classAt l k) (growthAt l k) (l .size) c k _ q (b .number) (b .actions)))
+
+  verdicts-end : (k : ℕ) → length glyphs ≤ k → verdictsAt s l glyphs k ≡ []
+  unfolding verdictsAt verdictsFrom
+  verdicts-end k h = ap (λ (gs : List ℕ). verdictsFrom s (l .size) k gs (drop k (l .classes)) (drop k (l .before)) (drop k (l .after))) (drop-past glyphs k h)
+
+  pub line-end : (c₀ : Cursor) (r : Step) (k : ℕ) → leftAt t s l glyphs c₀ ≡ verdictsAt s l glyphs k → length glyphs ≡ k → length t ≤ 32768
+      → r ≡ nothingAt (record { next = k; number = 0; left = 0; at = 0 }) → InLine t s l glyphs (length glyphs) c₀ r
+  unfolding walk
+  line-end c₀ r k w h short e =
+      subst (InLine t s l glyphs (length glyphs) c₀) (sym e)
+      (record {
+        splits = w ∙ sym (line-spent (record { next = k; number = 0; left = 0; at = 0 }) refl);
+        serves = record { font = 0; short = short; clear = refl; few = omega arith; begun = λ z. refl; within = omega (arith, h) };
+        spent = λ g. line-spent (record { next = k; number = 0; left = 0; at = 0 }) refl ∙ verdicts-end k (omega (arith, h));
+      })
+
+  pub start-serves : length t ≤ 32768 → Serves t (length glyphs) startCursor
+  unfolding walk
+  start-serves short = record { font = 0; short = short; clear = refl; few = omega arith; begun = λ z. refl; within = omega arith }
+
+-- ---- how many there are
+
+one-most : (f : Fires) (place number : ℕ) → length (recordIf f place number) ≤ 1
+one-most No place number = omega arith
+one-most Plain place number = omega arith
+one-most Substitutes place number = omega arith
+
+firings-few : (place class size : ℕ) (growth : ℤ) (number : ℕ) (l : List Action) → length (firings place class size growth number l) ≤ length l
+unfolding firings
+firings-few place class size growth number [] = omega arith
+firings-few place class size growth number (a ∷ rest) =
+    omega (
+      arith,
+      length-append (recordIf (firesOf a class growth size) place number) (firings place class size growth (suc number) rest),
+      one-most (firesOf a class growth size) place number,
+      firings-few place class size growth (suc number) rest,
+    )
+
+-- no more than 64 to a glyph
+pub verdicts-few : (s : Side) (size place : ℕ) (gs cs : List ℕ) (bs fs : List ℤ) → ((g : ℕ) → length (getD (s .lists) g []) ≤ 64)
+    → length (verdictsFrom s size place gs cs bs fs) ≤ 64 * length gs
+unfolding verdictsFrom
+verdicts-few s size place [] cs bs fs h = omega arith
+verdicts-few s size place (g ∷ gs) [] bs fs h = omega arith
+verdicts-few s size place (g ∷ gs) (c ∷ cs) [] fs h = omega arith
+verdicts-few s size place (g ∷ gs) (c ∷ cs) (b ∷ bs) [] h = omega arith
+verdicts-few s size place (g ∷ gs) (c ∷ cs) (b ∷ bs) (f ∷ fs) h =
+    omega (
+      arith,
+      length-append (firings place c size (b +ℤ f) 0 (getD (s .lists) g [])) (verdictsFrom s size (suc place) gs cs bs fs),
+      firings-few place c size (b +ℤ f) 0 (getD (s .lists) g []),
+      h g,
+      verdicts-few s size (suc place) gs cs bs fs h,
+    )
+
+-- what was counted, what a step found and what is left after it are all of them
+module _ (t : List ℕ) (s : Side) (l : Moved) (glyphs : List ℕ) where
+  pub count-first : (p : ℕ) (c : Cursor) (r : Step) → c ≡ startCursor → InLine t s l glyphs p c r
+      → length (verdictsFrom s (l .size) 0 glyphs (l .classes) (l .before) (l .after)) ≡ 0 + length (given r ++ leftAt t s l glyphs (r .next))
+  count-first p c r e i =
+      let w : verdictsFrom s (l .size) 0 glyphs (l .classes) (l .before) (l .after) ≡ given r ++ leftAt t s l glyphs (r .next) =
+      all-left t s l glyphs ∙ ap (leftAt t s l glyphs) (sym e) ∙ i .splits
+      in omega (arith, ap (λ (vs : List Verdict). length vs) w)
+
+  found-one : (r : Step) → r .found ≡ true → length (given r ++ leftAt t s l glyphs (r .next)) ≡ 1 + length (leftAt t s l glyphs (r .next))
+  found-one r f = ap (λ (b : Bool). length (cond b (r .verdict ∷ []) [] ++ leftAt t s l glyphs (r .next))) f ∙ one-more (length (leftAt t s l glyphs (r .next)))
+    where
+      one-more : (k : ℕ) → suc k ≡ 1 + k
+      one-more k = omega arith
+
+  pub count-less : (p : ℕ) (r r′ : Step) → r .found ≡ true → InLine t s l glyphs p (r .next) r′
+      → length (given r ++ leftAt t s l glyphs (r .next)) ≡ 1 + length (given r′ ++ leftAt t s l glyphs (r′ .next))
+  count-less p r r′ f i = found-one r f ∙ ap (λ (vs : List Verdict). 1 + length vs) (i .splits)
+
+  pub count-end : (r : Step) → r .found ≡ false → leftAt t s l glyphs (r .next) ≡ [] → length (given r ++ leftAt t s l glyphs (r .next)) ≡ 0
+  count-end r f e =
+      ap (λ (b : Bool). length (cond b (r .verdict ∷ []) [] ++ leftAt t s l glyphs (r .next))) f ∙ ap (λ (vs : List Verdict). length vs) e

@@ -1,0 +1,48 @@
+use Rattle.line_verdicts.proofs.Laws.{begins-there, begins-none, spot-below}
+use native.Mathlib.Omega.{arith}
+use mathlib.Core.Path.{sym, _∙_}
+use borrow.Author.Needs.{needs}
+use Rattle.line_verdicts.proofs.begin.Statement.{statement}
+use Rattle.line_verdicts.proofs.begin.Tie as tie
+
+list-spot-requires : tie.Need-list-spot-requires
+list-spot-requires c κs = search needs
+
+enum-known-at : tie.Need-enum-known-at
+enum-known-at c = search needs
+
+enum-told : tie.Need-enum-told
+enum-told c = search needs
+
+add-t8 : tie.Need-add-t8
+add-t8 c = search needs
+
+returns : tie.Need-returns
+returns c = let a = c .before .before .before .before .args in begins-none (a .table .now) (a .count) (a .direction) (c .before .before .before .before .pre .0) (a .glyph) (a .place) (sym (c .enum-told .given .1) ∙ c .before .before .list-spot .ensures .0)
+
+add-t9 : tie.Need-add-t9
+add-t9 c = search needs
+
+u32-at-requires : tie.Need-u32-at-requires
+u32-at-requires c κs = search needs
+
+add-t11 : tie.Need-add-t11
+add-t11 c = record { fits = omega (arith, spot-below _ _ _ (c .before .before .before .before .list-spot .ensures .1) (c .before .before .at .given .1)) }
+
+returns-2 : tie.Need-returns-2
+returns-2 c = let a = c .before .before .before .before .before .before .args in
+    begins-there (a .table .now) (a .count) (a .direction) (c .before .before .before .before .before .before .pre .0) (a .glyph) (c .before .before .at .given .0 .0) (a .place) (c .u32-at .result) (sym (c .before .before .at .given .1) ∙ c .before .before .before .before .list-spot .ensures .0) (c .u32-at .ensures .0)
+
+pub begin-spec : {M : Type 1} → statement M
+begin-spec =
+    tie.close
+    (tie.spec
+    list-spot-requires
+    enum-known-at
+    enum-told
+    add-t8
+    returns
+    add-t9
+    u32-at-requires
+    add-t11
+    returns-2)

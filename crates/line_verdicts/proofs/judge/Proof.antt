@@ -1,0 +1,60 @@
+use Rattle.line_verdicts.proofs.Laws.{hand-inside, hand-whole, hand-begun}
+use Rattle.line_verdicts.specs.Cursor.{stepOf, judgedAt}
+use Rattle.verdict.specs.declared.Fires.{Fires}
+use native.Mathlib.Omega.{arith}
+use Prim.Native.Nat.{ℕ, _+_, _-_}
+use mathlib.Core.Path.{ap₂, _∙_}
+use borrow.Author.Needs.{needs}
+use Rattle.line_verdicts.proofs.judge.Statement.{statement}
+use Rattle.line_verdicts.proofs.judge.Tie as tie
+
+fires-here-requires : tie.Need-fires-here-requires
+fires-here-requires c κs = let a = c .before .args in let s = c .before .pre in
+    (omega (arith, hand-inside (a .table .now) (a .cursor) 65536 (s .0) (s .1), s .0 .short), hand-whole (a .table .now) (a .cursor) 65536 (s .0) (s .1) (λ i. c .shared-slice-known .given i .fits))
+
+add-step-of : tie.Need-add-step-of
+add-step-of c = search needs
+
+sub-step-of : tie.Need-sub-step-of
+sub-step-of c = search needs
+
+add-u32-at : tie.Need-add-u32-at
+add-u32-at c = let a = c .before .before .args in let s = c .before .before .pre in
+    record { fits = omega (arith, hand-inside (a .table .now) (a .cursor) 65536 (s .0) (s .1), s .0 .short) }
+
+u32-at-requires : tie.Need-u32-at-requires
+u32-at-requires c κs = search needs
+
+add-t16 : tie.Need-add-t16
+add-t16 c = let a = c .before .before .before .args in let s = c .before .before .before .pre in
+    record { fits = omega (arith, hand-inside (a .table .now) (a .cursor) 65536 (s .0) (s .1), s .0 .short, c .u32-at .ensures .1) }
+
+sub-step-of-2 : tie.Need-sub-step-of-2
+sub-step-of-2 c = let a = c .before .before .before .args in let s = c .before .before .before .pre in hand-begun (a .table .now) (a .cursor) 65536 (s .0) (s .1)
+
+cast-step-of : tie.Need-cast-step-of
+cast-step-of c = search needs
+
+step-of-requires : tie.Need-step-of-requires
+step-of-requires c κs = search needs
+
+returns : tie.Need-returns
+unfolding judgedAt
+returns c = let a = c .before .before .before .before .args in
+    c .step-of .ensures
+    ∙ ap₂ (λ (f : Fires) (k : ℕ). stepOf f (a .cursor .next - 1) (a .cursor .number) (record { next = a .cursor .next; number = a .cursor .number + 1; left = a .cursor .left - 1; at = a .cursor .at + k })) (c .before .before .fires-here .ensures) (c .before .u32-at .ensures .0)
+
+pub judge-spec : {M : Type 1} → statement M
+judge-spec =
+    tie.close
+    (tie.spec
+    fires-here-requires
+    add-step-of
+    sub-step-of
+    add-u32-at
+    u32-at-requires
+    add-t16
+    sub-step-of-2
+    cast-step-of
+    step-of-requires
+    returns)

@@ -1,0 +1,299 @@
+// Which actions of a line's glyphs fire (document 01, "Verdicts"), one verdict after the other, by place and then in
+// list order, and how many there are. The decision works on plain numbers. The table is one that was accepted.
+ghost use mathlib.Core.Path.{_≡_};
+ghost use Prim.Native.Nat.{_≤_, _<_, _^_};
+ghost use mathlib.Core.List.{[]};
+ghost use lib.IntN.{pos, _+ℤ_};
+ghost use lib.ListN.{length, getD};
+ghost use Rattle.fields.specs.declared.Fault.the-variants.{Clear};
+ghost use Rattle.meaning.specs.Ask.{sideOf};
+ghost use Rattle.actions.specs.Actions.{actionAt};
+ghost use Rattle.verdict.specs.Verdict.{firesOf};
+ghost use Rattle.table.specs.Table.{tableFault};
+ghost use Rattle.table.specs.Means.{meaningOf};
+ghost use Rattle.lines.specs.Line.{verdictsFrom};
+ghost use Rattle.line_verdicts.specs.Cursor.{firesAt, moved, startCursor, stepOf, nothingAt, judgedAt, Serves, Begins, InList, Here, InLine, Ready};
+use actions::Spot;
+use parts::Direction;
+use parts::Verdict;
+use units::Units;
+use verdict::Fires;
+
+// How far a line's verdicts have been taken: the glyphs before `next` are begun; of the last of them `left` actions
+// are to be judged, the first of which stands at `at` and has `number` in its list.
+pub struct Cursor {
+    pub next: usize,
+    pub number: u16,
+    pub left: usize,
+    pub at: usize,
+}
+
+// The next verdict, if one was found, and the cursor past it.
+pub struct Step {
+    pub found: bool,
+    pub verdict: Verdict,
+    pub next: Cursor,
+}
+
+// Whether the action at `at` fires for a glyph of a class, at its growth and the point size.
+fn fires_here(table: &[u8], at: usize, class: u8, growth: Units, size: u32) -> Fires
+    requires { ⌜ (at < 2 ^ 62) × (length (actionAt (now table) at .content) ≤ 76) ⌝ }
+    ensures { λ r. ⌜ r ≡ firesOf (actionAt (now (table .entry)) at) class (growth .0) size ⌝ }
+{
+    verdict::action_fires(actions::action_at(table, at), class, growth, size)
+}
+
+// Whether the action of a glyph with a number fires; there may be none.
+pub fn fires_at(
+    table: &[u8],
+    count: u32,
+    direction: Direction,
+    size: u32,
+    glyph: u16,
+    class: u8,
+    growth: Units,
+    number: u16,
+) -> Fires
+    requires { ⌜ tableFault (now table) count ≡ Clear ⌝ }
+    ensures { λ r. ⌜ r ≡ firesAt (sideOf direction (meaningOf (now (table .entry)) count)) glyph number class (growth .0) size ⌝ }
+{
+    match table_parts::action_spot(table, count, direction, glyph, number) {
+        Spot::At(at) => fires_here(table, at, class, growth, size),
+        Spot::Nowhere => Fires::No,
+    }
+}
+
+// What a glyph grows by: its two movements.
+fn growth_at(before: &[i32], after: &[i32], place: usize) -> Units
+    requires { ⌜ (place < length (now before)) × (place < length (now after)) ⌝ }
+    ensures { λ r. ⌜ r .0 ≡ getD (now (before .entry)) place (pos 0) +ℤ getD (now (after .entry)) place (pos 0) ⌝ }
+{
+    let first = before[place];
+    let second = after[place];
+    Units((first as i64) + (second as i64))
+}
+
+// Nothing is taken.
+pub fn start() -> Cursor
+    ensures { λ r. ⌜ r ≡ startCursor ⌝ }
+{
+    Cursor {
+        next: 0,
+        number: 0,
+        left: 0,
+        at: 0,
+    }
+}
+
+// The step past an action that was judged.
+fn step_of(fires: Fires, place: u16, number: u16, next: Cursor) -> Step
+    ensures { λ r. ⌜ r ≡ stepOf fires place number next ⌝ }
+{
+    match fires {
+        Fires::No => Step {
+            found: false,
+            verdict: Verdict {
+                place,
+                action: number,
+                substitutes: false,
+            },
+            next,
+        },
+        Fires::Plain => Step {
+            found: true,
+            verdict: Verdict {
+                place,
+                action: number,
+                substitutes: false,
+            },
+            next,
+        },
+        Fires::Substitutes => Step {
+            found: true,
+            verdict: Verdict {
+                place,
+                action: number,
+                substitutes: true,
+            },
+            next,
+        },
+    }
+}
+
+// A step that found nothing.
+fn nothing_at(next: Cursor) -> Step
+    ensures { λ r. ⌜ r ≡ nothingAt next ⌝ }
+{
+    let verdict = Verdict {
+        place: 0,
+        action: 0,
+        substitutes: false,
+    };
+    Step {
+        found: false,
+        verdict,
+        next,
+    }
+}
+
+// The action at hand is judged for a glyph of a class and a growth, and passed.
+fn judge(table: &[u8], class: u8, growth: Units, size: u32, cursor: Cursor) -> Step
+    requires { ⌜ Serves (now table) 65536 cursor × (0 < cursor .left) ⌝ }
+    ensures { λ r. ⌜ r ≡ judgedAt (now (table .entry)) class (growth .0) size cursor ⌝ }
+{
+    let next = cursor.next;
+    let number = cursor.number;
+    let left = cursor.left;
+    let at = cursor.at;
+    let fires = fires_here(table, at, class, growth, size);
+    let past = Cursor {
+        next,
+        number: number + 1,
+        left: left - 1,
+        at: at + fields::u32_at(table, at + 4),
+    };
+    step_of(fires, (next - 1) as u16, number, past)
+}
+
+// The next firing of the list at hand.
+fn next_in_list(table: &[u8], class: u8, growth: Units, size: u32, cursor: Cursor) -> Step
+    requires { ⌜ Serves (now table) 65536 cursor ⌝ }
+    ensures { λ r. ⌜ InList (now (table .entry)) 65536 class (growth .0) size cursor r ⌝ }
+{
+    let mut at_hand = cursor;
+    while 0 < at_hand.left {
+        let step = judge(table, class, growth, size, at_hand);
+        if step.found {
+            return step;
+        }
+        at_hand = step.next;
+    }
+    nothing_at(at_hand)
+}
+
+// The same, the class and the movements of the line's glyphs being given.
+fn next_here(
+    table: &[u8],
+    size: u32,
+    classes: &[u8],
+    before: &[i32],
+    after: &[i32],
+    cursor: Cursor,
+) -> Step
+    requires { ⌜ Serves (now table) (length (now classes)) cursor × (length (now classes) ≤ 1024) ⌝ }
+    requires { ⌜ (length (now before) ≡ length (now classes)) × (length (now after) ≡ length (now classes)) ⌝ }
+    ensures { λ r. ⌜ Here (now (table .entry)) (moved size (now (classes .entry)) (now (before .entry)) (now (after .entry))) cursor r ⌝ }
+{
+    let next = cursor.next;
+    if cursor.left == 0 {
+        return nothing_at(cursor);
+    }
+    let place = next - 1;
+    next_in_list(
+        table,
+        classes[place],
+        growth_at(before, after, place),
+        size,
+        cursor,
+    )
+}
+
+// The list of a glyph is at hand, found once.
+fn begin(table: &[u8], count: u32, direction: Direction, glyph: u16, place: usize) -> Cursor
+    requires { ⌜ (tableFault (now table) count ≡ Clear) × (place < 1024) ⌝ }
+    ensures { λ r. ⌜ Begins (now (table .entry)) (getD (sideOf direction (meaningOf (now (table .entry)) count) .lists) glyph []) place r ⌝ }
+{
+    let Spot::At(at) = table_parts::list_spot(table, count, direction, glyph) else {
+        return Cursor {
+            next: place + 1,
+            number: 0,
+            left: 0,
+            at: 0,
+        };
+    };
+    Cursor {
+        next: place + 1,
+        number: 0,
+        left: fields::u32_at(table, at),
+        at: at + 4,
+    }
+}
+
+// The next verdict of a line at or past a cursor.
+pub fn next_verdict<'a>(
+    table: &'a [u8],
+    count: u32,
+    direction: Direction,
+    size: u32,
+    glyphs: &'a [u16],
+    classes: &'a [u8],
+    before: &'a [i32],
+    after: &'a [i32],
+    cursor: Cursor,
+) -> Step
+    requires { ⌜ Ready (now table) count (moved size (now classes) (now before) (now after)) (now glyphs) × Serves (now table) (length (now glyphs)) cursor ⌝ }
+    ensures { λ r. ⌜ InLine (now (table .entry)) (sideOf direction (meaningOf (now (table .entry)) count)) (moved size (now (classes .entry)) (now (before .entry)) (now (after .entry))) (now (glyphs .entry)) (length (now (glyphs .entry))) cursor r ⌝ }
+{
+    let here = next_here(table, size, classes, before, after, cursor);
+    if here.found {
+        return here;
+    }
+    let mut next = cursor.next;
+    while next < glyphs.len() {
+        let begun = begin(table, count, direction, glyphs[next], next);
+        let step = next_here(table, size, classes, before, after, begun);
+        if step.found {
+            return step;
+        }
+        next += 1;
+    }
+    nothing_at(Cursor {
+        next,
+        number: 0,
+        left: 0,
+        at: 0,
+    })
+}
+
+// How many verdicts a line has.
+pub fn count_verdicts<'a>(
+    table: &'a [u8],
+    count: u32,
+    direction: Direction,
+    size: u32,
+    glyphs: &'a [u16],
+    classes: &'a [u8],
+    before: &'a [i32],
+    after: &'a [i32],
+) -> usize
+    requires { ⌜ Ready (now table) count (moved size (now classes) (now before) (now after)) (now glyphs) ⌝ }
+    ensures { λ r. ⌜ r ≡ length (verdictsFrom (sideOf direction (meaningOf (now (table .entry)) count)) size 0 (now (glyphs .entry)) (now (classes .entry)) (now (before .entry)) (now (after .entry))) ⌝ }
+{
+    let mut total: usize = 0;
+    let mut step = next_verdict(
+        table,
+        count,
+        direction,
+        size,
+        glyphs,
+        classes,
+        before,
+        after,
+        start(),
+    );
+    while step.found {
+        total += 1;
+        step = next_verdict(
+            table,
+            count,
+            direction,
+            size,
+            glyphs,
+            classes,
+            before,
+            after,
+            step.next,
+        );
+    }
+    total
+}

@@ -1,0 +1,190 @@
+-- Bytes and actions one after the other, and the bytes of an action and of a list.
+use Prim.Native.Nat.{ℕ, zero, suc, _+_, _-_, _*_, _≤_, _<_, _^_}
+use mathlib.Core.Path.{_≡_, refl, sym, ap, ap₂, _∙_, subst}
+use mathlib.Core.Bool.{Bool, true, false}
+use mathlib.Core.List.{List, [], _∷_, _++_, head-eq-of-cons-eq, tail-eq-of-cons-eq}
+use native.Mathlib.Omega.{arith}
+use native.Mathlib.Decide.{ℕ-discrete, decLt}
+use native.Mathlib.Numerals.{add-one}
+use lib.ListN.{length, getD, length-append}
+use borrow.Author.Tests.{eq-eqb, ne-eqb}
+use Rattle.fields.specs.Field.{u16At, u32At, be16, be32}
+use Rattle.fields.specs.Laws.{u32At-past}
+use Rattle.lists.specs.Codes.{many, counted}
+use Rattle.lists.specs.Sections.{byte}
+use Rattle.lists.specs.Upto.{from}
+use Rattle.meaning.specs.Meaning.{Action}
+use Rattle.meaning.specs.Sheet.{actionCode}
+use Rattle.section.specs.Section.{Says}
+use Rattle.actions.specs.Faults.{dataSize}
+use Rattle.actions.specs.Actions.{bytesAt, contentAt, actionAt, actionsAt, listAt}
+use Rattle.actions.proofs.Copies.{bytes-length}
+use Rattle.actions.proofs.Laws.{list-length}
+
+pub many-byte : (bs : List ℕ) → many byte bs ≡ bs
+many-byte [] = refl
+many-byte (b ∷ bs) = ap (λ (l : List ℕ). b ∷ l) (many-byte bs)
+
+module _ (t : List ℕ) where
+  -- ---- bytes
+
+  pub bytes-cons : (n at : ℕ) → 0 < n → bytesAt t at n ≡ getD t at 0 ∷ bytesAt t (at + 1) (n - 1)
+  unfolding bytesAt from
+  bytes-cons zero at h = absurd (omega arith)
+  bytes-cons (suc n) at h =
+      let e : n ≡ suc n - 1 = omega arith in
+      ap₂ (λ (k p : ℕ). getD t at 0 ∷ bytesAt t p k) e (sym (add-one at))
+
+  pub bytes-none : (n at : ℕ) → n ≤ 0 → bytesAt t at n ≡ []
+  unfolding bytesAt from
+  bytes-none zero at h = refl
+  bytes-none (suc n) at h = absurd (omega arith)
+
+  pub same-byte : (n a b : ℕ) → 0 < n → getD t a 0 ≡ getD t b 0 → bytesAt t (a + 1) (n - 1) ≡ bytesAt t (b + 1) (n - 1) → bytesAt t a n ≡ bytesAt t b n
+  same-byte n a b h e f = bytes-cons n a h ∙ ap₂ (λ (x : ℕ) (l : List ℕ). x ∷ l) e f ∙ sym (bytes-cons n b h)
+
+  pub byte-same : (n a b : ℕ) → 0 < n → bytesAt t a n ≡ bytesAt t b n → (getD t a 0 ≡ getD t b 0) × (bytesAt t (a + 1) (n - 1) ≡ bytesAt t (b + 1) (n - 1))
+  byte-same n a b h e =
+      let f = sym (bytes-cons n a h) ∙ e ∙ bytes-cons n b h in
+      (head-eq-of-cons-eq f, tail-eq-of-cons-eq f)
+
+  -- ---- the data of an action
+
+  module _ (at kind : ℕ) where
+    pub content-0 : kind ≡ 0 → contentAt t at kind ≡ bytesAt t (at + 8) (12 + 2 * u16At t (at + 18))
+    unfolding contentAt
+    content-0 e = simp (eq-eqb kind 0 e)
+
+    pub content-5 : kind ≡ 5 → contentAt t at kind ≡ 0 ∷ 0 ∷ bytesAt t (at + 10) 2
+    unfolding contentAt
+    content-5 e = simp e
+
+    pub content-other : (kind ≡ 0 → ⊥) → (kind ≡ 5 → ⊥) → contentAt t at kind ≡ bytesAt t (at + 8) (dataSize kind)
+    unfolding contentAt
+    content-other z f = simp (ne-eqb kind 0 z, ne-eqb kind 5 f)
+
+    pub size-0 : (n : ℕ) → kind ≡ 0 → n ≡ u16At t (at + 18) → 12 + 2 * n ≡ length (contentAt t at kind)
+    size-0 n z e = omega (arith, ap length (content-0 z), bytes-length t (at + 8) (12 + 2 * u16At t (at + 18)))
+
+    pub size-other : (s : ℕ) → (kind ≡ 0 → ⊥) → s ≡ dataSize kind → s ≡ length (contentAt t at kind)
+    unfolding contentAt bytesAt from
+    size-other s z e = go (ℕ-discrete kind 5)
+      where
+        go : Dec (kind ≡ 5) → s ≡ length (contentAt t at kind)
+        go (yes p) = e ∙ ap dataSize p ∙ ap (λ (k : ℕ). length (contentAt t at k)) (sym p)
+        go (no p) = e ∙ sym (bytes-length t (at + 8) (dataSize kind)) ∙ ap length (sym (content-other z p))
+
+    -- data that is not of type 5 stands in the table as it is written
+    pub content-plain : (kind ≡ 5 → ⊥) → contentAt t at kind ≡ bytesAt t (at + 8) (length (contentAt t at kind))
+    content-plain f = go (ℕ-discrete kind 0)
+      where
+        go : Dec (kind ≡ 0) → contentAt t at kind ≡ bytesAt t (at + 8) (length (contentAt t at kind))
+        go (yes z) =
+            content-0 z
+            ∙ ap (bytesAt t (at + 8)) (sym (ap length (content-0 z) ∙ bytes-length t (at + 8) (12 + 2 * u16At t (at + 18))))
+        go (no z) =
+            content-other z f ∙ ap (bytesAt t (at + 8)) (sym (ap length (content-other z f) ∙ bytes-length t (at + 8) (dataSize kind)))
+
+  -- ---- actions
+
+  pub actions-cons : (n at : ℕ) → 0 < n → actionsAt t n at ≡ actionAt t at ∷ actionsAt t (n - 1) (at + u32At t (at + 4))
+  unfolding actionsAt
+  actions-cons zero at h = absurd (omega arith)
+  actions-cons (suc n) at h = let e : n ≡ suc n - 1 = omega arith in ap (λ (k : ℕ). actionAt t at ∷ actionsAt t k (at + u32At t (at + 4))) e
+
+  pub actions-none : (n at : ℕ) → n ≤ 0 → actionsAt t n at ≡ []
+  unfolding actionsAt
+  actions-none zero at h = refl
+  actions-none (suc n) at h = absurd (omega arith)
+
+  -- the next action stands near, where a length was read as `k`
+  pub near : (at k : ℕ) → length t ≤ 2 ^ 15 → at < 2 ^ 33 → k ≡ u32At t (at + 4) → k < 2 ^ 32 → at + k < 2 ^ 33
+  near at k l h e f = go (decLt at (length t))
+    where
+      go : Dec (at < length t) → at + k < 2 ^ 33
+      go (yes p) = omega arith
+      go (no p) = let z : length t ≤ at + 4 = omega (arith, p) in omega (arith, u32At-past t (at + 4) z)
+
+  pub same-next : (n a b j k : ℕ) → 0 < n → actionAt t a ≡ actionAt t b → j ≡ u32At t (a + 4) → k ≡ u32At t (b + 4)
+      → actionsAt t (n - 1) (a + j) ≡ actionsAt t (n - 1) (b + k) → actionsAt t n a ≡ actionsAt t n b
+  same-next n a b j k h e ej ek f =
+      actions-cons n a h
+      ∙ ap₂ (λ (x : Action) (l : List Action). x ∷ l) e
+      (ap (λ (i : ℕ). actionsAt t (n - 1) (a + i)) (sym ej) ∙ f ∙ ap (λ (i : ℕ). actionsAt t (n - 1) (b + i)) ek)
+      ∙ sym (actions-cons n b h)
+
+  pub next-same : (n a b j k : ℕ) → 0 < n → j ≡ u32At t (a + 4) → k ≡ u32At t (b + 4) → actionsAt t n a ≡ actionsAt t n b
+      → actionsAt t (n - 1) (a + j) ≡ actionsAt t (n - 1) (b + k)
+  next-same n a b j k h ej ek e =
+      ap (λ (i : ℕ). actionsAt t (n - 1) (a + i)) ej
+      ∙ tail-eq-of-cons-eq (sym (actions-cons n a h) ∙ e ∙ actions-cons n b h)
+      ∙ ap (λ (i : ℕ). actionsAt t (n - 1) (b + i)) (sym ek)
+
+  pub first-same : (n a b : ℕ) → 0 < n → actionsAt t n a ≡ actionsAt t n b → actionAt t a ≡ actionAt t b
+  first-same n a b h e = head-eq-of-cons-eq (sym (actions-cons n a h) ∙ e ∙ actions-cons n b h)
+
+  -- ---- bytes of actions
+
+  pub action-bytes : (at k : ℕ) → k ≡ u16At t (at + 2) → length (actionCode (actionAt t at)) ≡ 8 + length (contentAt t at k)
+  unfolding actionAt
+  action-bytes at k e =
+      omega (arith, ap length (many-byte (contentAt t at (u16At t (at + 2)))), ap (λ (j : ℕ). length (contentAt t at j)) e)
+
+  -- class, type, length and data as they were read
+  pub action-code : (at c k s : ℕ) → c ≡ u16At t at → k ≡ u16At t (at + 2) → s ≡ length (contentAt t at k)
+      → be16 c ++ (be16 k ++ (be32 s ++ contentAt t at k)) ≡ actionCode (actionAt t at)
+  unfolding actionAt
+  action-code at c k s ec ek es =
+      ap (λ (j : ℕ). be16 c ++ (be16 k ++ (be32 j ++ contentAt t at k))) es
+      ∙ ap (λ (l : List ℕ). be16 c ++ (be16 k ++ (be32 (length (contentAt t at k)) ++ l))) (sym (many-byte (contentAt t at k)))
+      ∙ ap₂ (λ (i j : ℕ). be16 i ++ (be16 j ++ counted byte (contentAt t at j))) ec ek
+
+  pub many-cons : (n at j : ℕ) → 0 < n → j ≡ u32At t (at + 4)
+      → many actionCode (actionsAt t n at) ≡ actionCode (actionAt t at) ++ many actionCode (actionsAt t (n - 1) (at + j))
+  many-cons n at j h e =
+      ap (many actionCode) (actions-cons n at h)
+      ∙ ap (λ (i : ℕ). actionCode (actionAt t at) ++ many actionCode (actionsAt t (n - 1) (at + i))) (sym e)
+
+  pub size-cons : (n at j : ℕ) → 0 < n → j ≡ u32At t (at + 4)
+      → length (many actionCode (actionsAt t n at)) ≡ length (actionCode (actionAt t at)) + length (many actionCode (actionsAt t (n - 1) (at + j)))
+  size-cons n at j h e =
+      ap length (many-cons n at j h e) ∙ length-append (actionCode (actionAt t at)) (many actionCode (actionsAt t (n - 1) (at + j)))
+
+  pub size-none : (n at : ℕ) → n ≤ 0 → length (many actionCode (actionsAt t n at)) ≡ 0
+  size-none n at h = ap (λ (l : List Action). length (many actionCode l)) (actions-none n at h)
+
+  -- the count as it was read, then so many actions
+  pub list-code : (at n : ℕ) → n ≡ u32At t at → be32 n ++ many actionCode (actionsAt t n (at + 4)) ≡ counted actionCode (listAt t at)
+  unfolding listAt
+  list-code at n e =
+      ap (λ (k : ℕ). be32 n ++ many actionCode (actionsAt t k (at + 4))) e
+      ∙ ap (λ (k : ℕ). be32 k ++ many actionCode (actionsAt t (u32At t at) (at + 4))) (e ∙ sym (list-length t at))
+
+  pub list-bytes : (at n : ℕ) → n ≡ u32At t at → length (counted actionCode (listAt t at)) ≡ 4 + length (many actionCode (actionsAt t n (at + 4)))
+  list-bytes at n e = omega (arith, ap length (list-code at n e))
+
+-- what is left to compare of two actions
+pub same-held : (t : List ℕ) (r : Bool) (a b k : ℕ) → u16At t a ≡ u16At t b → k ≡ u16At t (a + 2) → k ≡ u16At t (b + 2)
+    → Says r (contentAt t a k ≡ contentAt t b k) → Says r (actionAt t a ≡ actionAt t b)
+unfolding actionAt
+same-held t true a b k c ka kb e =
+    ap₂ (λ (x y : ℕ). record { class = x; kind = y; content = contentAt t a y }) c (sym ka)
+    ∙ ap (λ (l : List ℕ). record { class = u16At t b; kind = k; content = l }) e
+    ∙ ap (λ (y : ℕ). record { class = u16At t b; kind = y; content = contentAt t b y }) kb
+same-held t false a b k c ka kb f =
+    λ e. f (ap (contentAt t a) ka ∙ ap (λ (x : Action). x .content) e ∙ ap (contentAt t b) (sym kb))
+
+-- the data of two actions of one type, compared as it is written
+module _ (t : List ℕ) (r : Bool) (a b k : ℕ) where
+  pub same-5 : k ≡ 5 → Says r (bytesAt t (a + 10) 2 ≡ bytesAt t (b + 10) 2) → Says r (contentAt t a k ≡ contentAt t b k)
+  same-5 e s = go r s
+    where
+      go : (r : Bool) → Says r (bytesAt t (a + 10) 2 ≡ bytesAt t (b + 10) 2) → Says r (contentAt t a k ≡ contentAt t b k)
+      go true f = content-5 t a k e ∙ ap (λ (l : List ℕ). 0 ∷ 0 ∷ l) f ∙ sym (content-5 t b k e)
+      go false f = λ g. f (tail-eq-of-cons-eq (tail-eq-of-cons-eq (sym (content-5 t a k e) ∙ g ∙ content-5 t b k e)))
+
+  pub same-plain : (s : ℕ) → (k ≡ 5 → ⊥) → s ≡ length (contentAt t a k) → s ≡ length (contentAt t b k)
+      → Says r (bytesAt t (a + 8) s ≡ bytesAt t (b + 8) s) → Says r (contentAt t a k ≡ contentAt t b k)
+  same-plain s n ea eb f =
+      subst (λ (l : List ℕ). Says r (l ≡ contentAt t b k)) (ap (bytesAt t (a + 8)) ea ∙ sym (content-plain t a k n))
+      (subst (λ (l : List ℕ). Says r (bytesAt t (a + 8) s ≡ l)) (ap (bytesAt t (b + 8)) eb ∙ sym (content-plain t b k n)) f)

@@ -1,0 +1,225 @@
+// An action list of a table as the sheet writes it (document 01, "The sheet", section 7): how many bytes it takes,
+// whether two positions hold the same one, and storing it into lent bytes. Two lists are the same when they are
+// written alike, whatever their padding and the flags of their type 5 actions.
+ghost use mathlib.Core.Path.{_≡_};
+ghost use Prim.Native.Nat.{_+_, _*_, _≤_, _<_, _^_};
+ghost use lib.ListN.{length};
+ghost use lib.Seq.{sets};
+ghost use Rattle.lists.specs.Codes.{many, counted};
+ghost use Rattle.meaning.specs.Sheet.{actionCode};
+ghost use Rattle.section.specs.Section.{Says};
+ghost use Rattle.actions.specs.Faults.{dataSize};
+ghost use Rattle.actions.specs.Actions.{bytesAt, contentAt, actionAt, actionsAt, listAt};
+
+// How many bytes of data a type has, type 0's glyphs left out.
+fn data_size(kind: usize) -> usize
+    ensures { λ r. ⌜ (r ≡ dataSize kind) × (r ≤ 16) ⌝ }
+{
+    if kind == 0 {
+        return 12;
+    }
+    if kind == 1 {
+        return 2;
+    }
+    if kind == 2 {
+        return 8;
+    }
+    if kind == 3 {
+        return 0;
+    }
+    if kind == 4 {
+        return 16;
+    }
+    4
+}
+
+// How many bytes of data the action at `at` has, of type `kind`.
+fn content_size(table: &[u8], at: usize, kind: usize) -> usize
+    requires { ⌜ at < 2 ^ 62 ⌝ }
+    ensures { λ r. ⌜ (r ≡ length (contentAt (now (table .entry)) at kind)) × (r < 2 ^ 18) ⌝ }
+{
+    if kind == 0 {
+        return 12 + 2 * fields::u16_at(table, at + 18);
+    }
+    data_size(kind)
+}
+
+// Whether the `count` bytes from `first` on are the same as those from `second` on.
+fn same_bytes(table: &[u8], first: usize, second: usize, count: usize) -> bool
+    requires { ⌜ (first + count < 2 ^ 62) × (second + count < 2 ^ 62) ⌝ }
+    ensures { λ r. ⌜ Says r (bytesAt (now (table .entry)) first count ≡ bytesAt (now (table .entry)) second count) ⌝ }
+{
+    let mut a = first;
+    let mut b = second;
+    let mut left = count;
+    while 0 < left {
+        if fields::u8_at(table, a) == fields::u8_at(table, b) {
+            a += 1;
+            b += 1;
+            left -= 1;
+        } else {
+            return false;
+        }
+    }
+    true
+}
+
+// Whether two actions of one type have the same data.
+fn same_content(table: &[u8], first: usize, second: usize, kind: usize) -> bool
+    requires { ⌜ (first < 2 ^ 60) × (second < 2 ^ 60) ⌝ }
+    ensures { λ r. ⌜ Says r (contentAt (now (table .entry)) first kind ≡ contentAt (now (table .entry)) second kind) ⌝ }
+{
+    // the flags are ignored
+    if kind == 5 {
+        return same_bytes(table, first + 10, second + 10, 2);
+    }
+    let size = content_size(table, first, kind);
+    if size == content_size(table, second, kind) {
+        return same_bytes(table, first + 8, second + 8, size);
+    }
+    false
+}
+
+fn same_action(table: &[u8], first: usize, second: usize) -> bool
+    requires { ⌜ (first < 2 ^ 60) × (second < 2 ^ 60) ⌝ }
+    ensures { λ r. ⌜ Says r (actionAt (now (table .entry)) first ≡ actionAt (now (table .entry)) second) ⌝ }
+{
+    if fields::u16_at(table, first) != fields::u16_at(table, second) {
+        return false;
+    }
+    let kind = fields::u16_at(table, first + 2);
+    if kind != fields::u16_at(table, second + 2) {
+        return false;
+    }
+    same_content(table, first, second, kind)
+}
+
+// Whether the `count` actions from `first` on are the same as those from `second` on. Past the table an action's
+// length is 0, so no action stands much further on.
+fn same_actions(table: &[u8], first: usize, second: usize, count: usize) -> bool
+    requires { ⌜ (length (now table) ≤ 2 ^ 15) × ((first < 2 ^ 33) × (second < 2 ^ 33)) ⌝ }
+    ensures { λ r. ⌜ Says r (actionsAt (now (table .entry)) count first ≡ actionsAt (now (table .entry)) count second) ⌝ }
+{
+    let mut a = first;
+    let mut b = second;
+    let mut left = count;
+    while 0 < left {
+        if same_action(table, a, b) {
+            a += fields::u32_at(table, a + 4);
+            b += fields::u32_at(table, b + 4);
+            left -= 1;
+        } else {
+            return false;
+        }
+    }
+    true
+}
+
+// Whether two positions hold the same list.
+pub fn same_list(table: &[u8], first: u16, second: u16) -> bool
+    requires { ⌜ length (now table) ≤ 2 ^ 15 ⌝ }
+    ensures { λ r. ⌜ Says r (listAt (now (table .entry)) first ≡ listAt (now (table .entry)) second) ⌝ }
+{
+    let a = first as usize;
+    let b = second as usize;
+    let count = fields::u32_at(table, a);
+    if count == fields::u32_at(table, b) {
+        same_actions(table, a + 4, b + 4, count)
+    } else {
+        false
+    }
+}
+
+// How many bytes the action at `at` is written in.
+fn action_size(table: &[u8], at: usize) -> usize
+    requires { ⌜ at < 2 ^ 60 ⌝ }
+    ensures { λ r. ⌜ (r ≡ length (actionCode (actionAt (now (table .entry)) at))) × (r < 2 ^ 19) ⌝ }
+{
+    8 + content_size(table, at, fields::u16_at(table, at + 2))
+}
+
+// How many bytes the list at a position is written in.
+pub fn list_size(table: &[u8], place: u16) -> usize
+    requires { ⌜ length (now table) ≤ 2 ^ 15 ⌝ }
+    ensures { λ r. ⌜ (r ≡ length (counted actionCode (listAt (now (table .entry)) place))) × (r < 2 ^ 52) ⌝ }
+{
+    let mut at = place as usize + 4;
+    let mut left = fields::u32_at(table, place as usize);
+    let mut size: usize = 4;
+    while 0 < left {
+        size += action_size(table, at);
+        at += fields::u32_at(table, at + 4);
+        left -= 1;
+    }
+    size
+}
+
+// Stores `count` bytes of the table.
+fn put_bytes(table: &[u8], first: usize, count: usize, out: &mut [u8], to: usize)
+    requires { ⌜ (first + count < 2 ^ 62) × (to + count < 2 ^ 62) ⌝ }
+    ensures { λ r. ⌜ now (out .exit) ≡ sets (now (out .entry)) to (bytesAt (now (table .entry)) first count) ⌝ }
+{
+    let mut at = first;
+    let mut end = to;
+    let mut left = count;
+    while 0 < left {
+        fields::put_u8(out, end, fields::u8_at(table, at) as u8);
+        at += 1;
+        end += 1;
+        left -= 1;
+    }
+}
+
+// Stores the data of the action at `at`, of type `kind`.
+fn put_content(table: &[u8], at: usize, kind: usize, out: &mut [u8], to: usize)
+    requires { ⌜ (at < 2 ^ 60) × (to < 2 ^ 60) ⌝ }
+    ensures { λ r. ⌜ now (out .exit) ≡ sets (now (out .entry)) to (contentAt (now (table .entry)) at kind) ⌝ }
+{
+    if kind == 5 {
+        // the flags are ignored, and written as zero
+        fields::put_u16(out, to, 0);
+        put_bytes(table, at + 10, 2, out, to + 2);
+    } else {
+        put_bytes(table, at + 8, content_size(table, at, kind), out, to);
+    }
+}
+
+// Stores the action at `at`.
+fn put_action(table: &[u8], at: usize, out: &mut [u8], to: usize)
+    requires { ⌜ (at < 2 ^ 60) × (to < 2 ^ 59) ⌝ }
+    ensures { λ r. ⌜ now (out .exit) ≡ sets (now (out .entry)) to (actionCode (actionAt (now (table .entry)) at)) ⌝ }
+{
+    let kind = fields::u16_at(table, at + 2);
+    let size = content_size(table, at, kind);
+    fields::put_u16(out, to, fields::u16_at(table, at) as u16);
+    fields::put_u16(out, to + 2, kind as u16);
+    fields::put_u32(out, to + 4, size as u32);
+    put_content(table, at, kind, out, to + 8);
+}
+
+// Stores the `count` actions from `first` on.
+fn put_actions(table: &[u8], first: usize, count: usize, out: &mut [u8], to: usize)
+    requires { ⌜ (length (now table) ≤ 2 ^ 15) × ((first < 2 ^ 33) × (to + 2 ^ 19 * count < 2 ^ 59)) ⌝ }
+    ensures { λ r. ⌜ now (out .exit) ≡ sets (now (out .entry)) to (many actionCode (actionsAt (now (table .entry)) count first)) ⌝ }
+{
+    let mut at = first;
+    let mut end = to;
+    let mut left = count;
+    while 0 < left {
+        put_action(table, at, out, end);
+        end += action_size(table, at);
+        at += fields::u32_at(table, at + 4);
+        left -= 1;
+    }
+}
+
+// Stores the list at a position.
+pub fn put_list(table: &[u8], at: u16, out: &mut [u8], to: usize)
+    requires { ⌜ (length (now table) ≤ 2 ^ 15) × (to < 2 ^ 40) ⌝ }
+    ensures { λ r. ⌜ now (out .exit) ≡ sets (now (out .entry)) to (counted actionCode (listAt (now (table .entry)) at)) ⌝ }
+{
+    let place = at as usize;
+    let count = fields::u32_at(table, place);
+    fields::put_u32(out, to, count as u32);
+    put_actions(table, place + 4, count, out, to + 4);
+}

@@ -1,0 +1,4 @@
+pub mod StoreWalk
+pub mod Relent
+pub mod Laws
+pub mod Settled

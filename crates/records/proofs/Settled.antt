@@ -1,0 +1,161 @@
+-- What a line's call settles, before its verdicts are stored, lets them be stored, and with them gives the call's outcome.
+use Prim.Native.Nat.{ℕ, _≤_}
+use mathlib.Core.Path.{_≡_, refl, ap, _∙_, subst}
+use mathlib.Core.Bool.{Bool, true, false, _&&_}
+use mathlib.Core.List.{List, _++_}
+use native.Mathlib.Omega.{arith}
+use lib.IntN.{ℤ}
+use lib.ListN.{length, drop}
+use lib.Seq.{take-all}
+use lib.Dec.{eqb}
+use borrow.Author.Tests.{leb-true, eqb-true}
+use Rattle.fields.specs.declared.Fault.{Fault}
+use Rattle.fields.specs.declared.Fault.the-variants.{Clear, Bad}
+use Rattle.fields.specs.declared.Refusal.the-variants.{UnequalLengths, LongLine, ShortRoom}
+use Rattle.fields.specs.Laws.{then-first, then-second, rule-holds}
+use Rattle.parts.specs.declared.Direction.{Direction}
+use Rattle.parts.specs.declared.Verdict.{Verdict}
+use Rattle.meaning.specs.Meaning.{Side}
+use Rattle.meaning.specs.Ask.{sideOf}
+use Rattle.table.specs.Table.{tableFault}
+use Rattle.table.specs.Means.{meaningOf}
+use Rattle.lines.specs.Line.{Line, walkOf, classesOf, beforeOf, afterOf, verdictsFrom, verdictsOf}
+use Rattle.line.specs.declared.Settled.{Settled}
+use Rattle.line.specs.Justified.{Outcome, Lent, equalLengths, lineFault, settled, justified}
+use Rattle.line.specs.Settle.{lineBy, lentBy, Settlement, settlementIs, settlementIn}
+use Rattle.line_verdicts.specs.Cursor.{Fits, moved}
+use Rattle.records.specs.Stored.{lineVerdicts, filledWith, Storable}
+use Rattle.records.specs.Outcome.{outcomeIs, Settles}
+
+and-first : (a b : Bool) → a && b ≡ true → a ≡ true
+and-first true b e = refl
+and-first false b e = e
+
+and-second : (a b : Bool) → a && b ≡ true → b ≡ true
+and-second true b e = e
+and-second false b e = absurd (never e)
+  where
+    never : _≡_ {A = Bool} false true → ⊥
+    never z = let q : _≡_ {A = ℕ} 0 1 = cc in omega arith
+
+-- all of them are stored
+pub stored-all : (vs ys : List Verdict) → filledWith vs (length vs) ys ≡ vs ++ drop (length vs) ys
+unfolding filledWith
+stored-all vs ys = ap (λ (l : List Verdict). l ++ drop (length vs) ys) (take-all (length vs) vs (omega arith))
+
+module _ (t : List ℕ) (n : ℕ) (l : Line) (cs : List ℕ) (bs fs : List ℤ) (ys : List Verdict) where
+  abbrev b : Lent
+  b = lentBy cs bs fs ys
+
+  abbrev s : Side
+  s = sideOf (l .direction) (meaningOf t n)
+
+  abbrev vs : List ℕ → List ℤ → List ℤ → List Verdict
+  vs = lineVerdicts t n (l .direction) (l .size) (l .glyphs)
+
+  -- the verdicts of the classes and movements that are settled
+  same-verdicts : (cs′ : List ℕ) (bs′ fs′ : List ℤ) → cs′ ≡ classesOf (walkOf (s .machine) l) → bs′ ≡ beforeOf s l → fs′ ≡ afterOf s l
+      → vs cs′ bs′ fs′ ≡ verdictsOf s l
+  unfolding lineVerdicts verdictsOf
+  same-verdicts cs′ bs′ fs′ e f g = λ i. verdictsFrom s (l .size) 0 (l .glyphs) (e i) (f i) (g i)
+
+  module _ (clear : lineFault t n l b ≡ Clear) where
+    accepted : tableFault t n ≡ Clear
+    unfolding lineFault
+    accepted = then-first _ _ clear
+
+    rest-equal : equalLengths l b ≡ true
+    unfolding lineFault
+    rest-equal = rule-holds _ UnequalLengths 0 (then-first _ _ (then-second _ _ clear))
+
+    has-room : length (verdictsOf s l) ≤ length ys
+    unfolding lineFault
+    has-room = leb-true _ _ (rule-holds _ ShortRoom 0
+        (then-second _ _ (then-second _ _ (then-second _ _ (then-second _ _ (then-second _ _ (then-second _ _ (then-second _ _ (then-second _ _ clear)))))))))
+
+    few : length (l .glyphs) ≤ 1024
+    unfolding lineFault
+    few = leb-true _ _ (rule-holds _ LongLine 0 (then-first _ _ (then-second _ _ (then-second _ _ clear))))
+
+    lengths : (cs′ : List ℕ) (bs′ fs′ : List ℤ) → length cs′ ≡ length cs → length bs′ ≡ length bs → length fs′ ≡ length fs
+        → Fits (moved (l .size) cs′ bs′ fs′) (l .glyphs)
+    lengths cs′ bs′ fs′ lc lb lf =
+        let u : ℕ = length (l .glyphs) in
+        let w3 = and-first (eqb (length (l .advances)) u && eqb (length cs) u && eqb (length bs) u) (eqb (length fs) u) rest-equal in
+        let w2 = and-first (eqb (length (l .advances)) u && eqb (length cs) u) (eqb (length bs) u) w3 in
+        record {
+          few = few;
+          classes = lc ∙ eqb-true _ _ (and-second (eqb (length (l .advances)) u) (eqb (length cs) u) w2);
+          before = lb ∙ eqb-true _ _ (and-second (eqb (length (l .advances)) u && eqb (length cs) u) (eqb (length bs) u) w3);
+          after = lf ∙ eqb-true _ _ (and-second (eqb (length (l .advances)) u && eqb (length cs) u && eqb (length bs) u) (eqb (length fs) u) rest-equal);
+        }
+
+  module _ (r : Settled) (cs′ : List ℕ) (bs′ fs′ : List ℤ) where
+    module _ (o : Outcome) (e : settlementIs r cs′ bs′ fs′ ≡ settlementIn o) where
+      stored-is : r .stored ≡ settlementIn o .stored
+      stored-is = ap (λ (x : Settlement). x .stored) e
+
+      classes-are : cs′ ≡ o .lent .classes
+      classes-are = ap (λ (x : Settlement). x .classes) e
+
+      before-are : bs′ ≡ o .lent .before
+      before-are = ap (λ (x : Settlement). x .before) e
+
+      after-are : fs′ ≡ o .lent .after
+      after-are = ap (λ (x : Settlement). x .after) e
+
+      answer-is : r .answer ≡ o .answer
+      answer-is = ap (λ (x : Settlement). x .answer) e
+
+    -- the verdicts can be stored
+    pub settled-storable : settlementIs r cs′ bs′ fs′ ≡ settlementIn (justified t n l b) → length cs′ ≡ length cs → length bs′ ≡ length bs → length fs′ ≡ length fs
+        → Storable t n (l .direction) (l .size) (l .glyphs) cs′ bs′ fs′ (r .stored) (length ys)
+    unfolding justified
+    settled-storable e lc lb lf = go (lineFault t n l b) refl e
+      where
+        go : (f : Fault) → lineFault t n l b ≡ f → settlementIs r cs′ bs′ fs′ ≡ settlementIn (settled f s l b)
+            → Storable t n (l .direction) (l .size) (l .glyphs) cs′ bs′ fs′ (r .stored) (length ys)
+        go (Bad q at) p w =
+            let z : r .stored ≡ 0 = stored-is (settled (Bad q at) s l b) w in
+            record { room = omega arith; most = omega arith; ready = λ h. absurd (omega arith) }
+        go Clear p w =
+            let o : Outcome = settled Clear s l b in
+            let z : r .stored ≡ length (verdictsOf s l) = stored-is o w in
+            let v : length (vs cs′ bs′ fs′) ≡ length (verdictsOf s l) = ap (λ (x : List Verdict). length x) (same-verdicts cs′ bs′ fs′ (classes-are o w) (before-are o w) (after-are o w)) in
+            record {
+              room = omega (arith, has-room p);
+              most = omega arith;
+              ready = λ h. record { accepted = accepted p; fits = lengths p cs′ bs′ fs′ lc lb lf };
+            }
+
+    -- and with them the outcome is the call's
+    pub settled-outcome : (zs : List Verdict) → settlementIs r cs′ bs′ fs′ ≡ settlementIn (justified t n l b) → zs ≡ filledWith (vs cs′ bs′ fs′) (r .stored) ys
+        → outcomeIs (r .answer) cs′ bs′ fs′ zs ≡ justified t n l b
+    unfolding justified filledWith
+    settled-outcome zs e f = go (lineFault t n l b) e
+      where
+        go : (g : Fault) → settlementIs r cs′ bs′ fs′ ≡ settlementIn (settled g s l b) → outcomeIs (r .answer) cs′ bs′ fs′ zs ≡ settled g s l b
+        go (Bad q at) w =
+            let o : Outcome = settled (Bad q at) s l b in
+            let z : r .stored ≡ 0 = stored-is o w in
+            let h : zs ≡ ys = f ∙ ap (λ (k : ℕ). filledWith (vs cs′ bs′ fs′) k ys) z in
+            λ i. outcomeIs (answer-is o w i) (classes-are o w i) (before-are o w i) (after-are o w i) (h i)
+        go Clear w =
+            let o : Outcome = settled Clear s l b in
+            let z : r .stored ≡ length (verdictsOf s l) = stored-is o w in
+            let v : vs cs′ bs′ fs′ ≡ verdictsOf s l = same-verdicts cs′ bs′ fs′ (classes-are o w) (before-are o w) (after-are o w) in
+            let h : zs ≡ verdictsOf s l ++ drop (length (verdictsOf s l)) ys = f ∙ (λ i. filledWith (v i) (z i) ys) ∙ stored-all (verdictsOf s l) ys in
+            λ i. outcomeIs (answer-is o w i) (classes-are o w i) (before-are o w i) (after-are o w i) (h i)
+
+-- what is settled, at the list of verdicts that is lent
+pub settles-at : (t : List ℕ) (n : ℕ) (l : Line) (cs : List ℕ) (bs fs : List ℤ) (ys : List Verdict) (r : Settled) (cs′ : List ℕ) (bs′ fs′ : List ℤ)
+    → Settles t n l (length ys) cs bs fs r cs′ bs′ fs′ → settlementIs r cs′ bs′ fs′ ≡ settlementIn (justified t n l (lentBy cs bs fs ys))
+unfolding Settles
+settles-at t n l cs bs fs ys r cs′ bs′ fs′ e = e ys refl
+
+-- the target as the machine holds it
+pub settles-by : (t : List ℕ) (n : ℕ) (d : Direction) (starts ends : Bool) (size : ℕ) (gs : List ℕ) (advances : List ℤ) {x y : ℤ} (room : ℕ) (cs : List ℕ) (bs fs : List ℤ) (r : Settled)
+    (cs′ : List ℕ) (bs′ fs′ : List ℤ) → x ≡ y → Settles t n (lineBy d starts ends size gs advances x) room cs bs fs r cs′ bs′ fs′
+    → Settles t n (lineBy d starts ends size gs advances y) room cs bs fs r cs′ bs′ fs′
+settles-by t n d starts ends size gs advances room cs bs fs r cs′ bs′ fs′ e h =
+    subst (λ (z : ℤ). Settles t n (lineBy d starts ends size gs advances z) room cs bs fs r cs′ bs′ fs′) e h

@@ -1,0 +1,111 @@
+-- The runs of a list from a stretch of equal elements on, and the bytes of runs.
+use Prim.Native.Nat.{ℕ, zero, suc, _+_, _-_, _*_, _≤_, _<_}
+use mathlib.Core.Path.{_≡_, refl, sym, ap, ap₂, _∙_, subst}
+use mathlib.Core.Logic.{ite}
+use mathlib.Core.List.{List, [], _∷_, _++_}
+use native.Mathlib.Decide.{ℕ-discrete}
+use native.Mathlib.Omega.{arith}
+use native.Mathlib.Nat.{add-zero}
+use lib.ListN.{length, drop, getD, replicate, length-drop, drop-of-length-le}
+use lib.Seq.{drop-cons, getD-drop}
+use Rattle.fields.specs.Field.{be16, be32}
+use Rattle.lists.specs.Codes.{many, counted}
+use Rattle.lists.specs.Runs.{Run, push, runs, OkRuns}
+use Rattle.lists.specs.Sections.{runCode, runLessCode, runSection}
+use Rattle.lists.proofs.RunsLaws.{Apart, runs-ok, runs-skips, runs-block}
+use Rattle.lists.proofs.CodeLaws.{many-length}
+use Rattle.run_code.specs.RunCode.{lessCode, runBytes, RunTo}
+
+-- ---- a stretch of equal elements
+
+more : {A : Type 0} (k : ℕ) (v : A) (ys : List A) → replicate k v ++ (v ∷ ys) ≡ replicate (suc k) v ++ ys
+more zero v ys = refl
+more (suc k) v ys = ap (λ (l : List _). v ∷ l) (more k v ys)
+
+-- the loop's start and its turn
+pub stretch-one : (xs : List ℕ) (i j v : ℕ) → i < length xs → v ≡ getD xs i 0 → j ≡ i + 1 → drop i xs ≡ replicate (j - i) v ++ drop j xs
+stretch-one xs i j v h ev e =
+    let k : j - i ≡ 1 = omega arith in
+    let f : suc i ≡ j = omega arith in
+    drop-cons xs i 0 h ∙ ap₂ (λ (x m : ℕ). x ∷ drop m xs) (sym ev) f ∙ ap (λ (m : ℕ). replicate m v ++ drop j xs) (sym k)
+
+pub stretch-more : (xs : List ℕ) (i j v : ℕ) → i < j → j < length xs → getD xs j 0 ≡ v → drop i xs ≡ replicate (j - i) v ++ drop j xs
+    → drop i xs ≡ replicate (j + 1 - i) v ++ drop (j + 1) xs
+stretch-more xs i j v hi h ev e =
+    let k : suc (j - i) ≡ j + 1 - i = omega arith in
+    let f : suc j ≡ j + 1 = omega arith in
+    e ∙ ap (λ (l : List ℕ). replicate (j - i) v ++ l) (drop-cons xs j 0 h ∙ ap₂ (λ (x m : ℕ). x ∷ drop m xs) ev f)
+    ∙ more (j - i) v (drop (j + 1) xs) ∙ ap (λ (m : ℕ). replicate m v ++ drop (j + 1) xs) k
+
+-- ---- the runs from index i on
+
+module _ (skip : ℕ) where
+  -- the first run of a list that does not begin with v does not touch with v
+  head-apart : (ys : List ℕ) (j v : ℕ) → (v ≡ skip → ⊥) → (0 < length ys → getD ys 0 0 ≡ v → ⊥) → Apart j v (runs ℕ-discrete skip j ys)
+  head-apart [] j v hs h = tt
+  head-apart (y ∷ ys) j v hs h = go (ℕ-discrete y skip) (runs ℕ-discrete skip (suc j) ys) (runs-ok ℕ-discrete skip ys (suc j + length ys) (suc j) refl)
+    where
+      later : (rs : List (Run ℕ)) → OkRuns skip (suc j + length ys) (suc j) skip rs → Apart j v rs
+      later [] o = tt
+      later (r ∷ rs) o = λ e f. omega (arith, o .0)
+
+      two : (d : Dec (y ≡ skip)) (r : Run ℕ) (rs : List (Run ℕ)) (a : Dec (r .first ≡ suc j)) (b : Dec (r .value ≡ y))
+          → Apart j v (ite a (ite b (record { first = j; last = r .last; value = y } ∷ rs) (record { first = j; last = j; value = y } ∷ r ∷ rs)) (record { first = j; last = j; value = y } ∷ r ∷ rs))
+      two d r rs (yes p) (yes q) = λ e f. h (omega arith) f
+      two d r rs (yes p) (no q) = λ e f. h (omega arith) f
+      two d r rs (no p) b = λ e f. h (omega arith) f
+
+      put : (rs : List (Run ℕ)) → Apart j v (push ℕ-discrete j y rs)
+      put [] = λ e f. h (omega arith) f
+      put (r ∷ rs) = two (ℕ-discrete y skip) r rs (ℕ-discrete (r .first) (suc j)) (ℕ-discrete (r .value) y)
+
+      go : (d : Dec (y ≡ skip)) (rs : List (Run ℕ)) → OkRuns skip (suc j + length ys) (suc j) skip rs → Apart j v (ite d rs (push ℕ-discrete j y rs))
+      go (yes p) rs o = later rs o
+      go (no p) rs o = put rs
+
+  pub runs-skipped : (xs : List ℕ) (i r : ℕ) → RunTo xs i r → getD xs i 0 ≡ skip
+      → runs ℕ-discrete skip i (drop i xs) ≡ runs ℕ-discrete skip r (drop r xs)
+  runs-skipped xs i r t e =
+      let k : i + (r - i) ≡ r = omega (arith, t .0) in
+      ap (runs ℕ-discrete skip i) (t .2 ∙ ap (λ (v : ℕ). replicate (r - i) v ++ drop r xs) e)
+      ∙ runs-skips ℕ-discrete skip (r - i) i (drop r xs) ∙ ap (λ (m : ℕ). runs ℕ-discrete skip m (drop r xs)) k
+
+  pub runs-taken : (xs : List ℕ) (i r : ℕ) → RunTo xs i r → (getD xs i 0 ≡ skip → ⊥)
+      → runs ℕ-discrete skip i (drop i xs) ≡ record { first = i; last = r - 1; value = getD xs i 0 } ∷ runs ℕ-discrete skip r (drop r xs)
+  runs-taken xs i r t h =
+      let v : ℕ = getD xs i 0 in
+      let k : r - i ≡ suc (r - 1 - i) = omega (arith, t .0) in
+      let m : suc (r - 1) ≡ r = omega (arith, t .0) in
+      let g : getD (drop r xs) 0 0 ≡ getD xs r 0 = getD-drop r xs 0 0 ∙ ap (λ (q : ℕ). getD xs q 0) (add-zero r) in
+      let a : Apart r v (runs ℕ-discrete skip r (drop r xs)) =
+      head-apart (drop r xs) r v h (λ z e. t .3 (omega (arith, length-drop r xs)) (sym g ∙ e)) in
+      ap (runs ℕ-discrete skip i) (t .2 ∙ ap (λ (q : ℕ). replicate q v ++ drop r xs) k)
+      ∙ runs-block ℕ-discrete skip (r - 1 - i) i (r - 1) v (drop r xs) (omega (arith, t .0)) h
+      (subst (λ (q : ℕ). Apart q v (runs ℕ-discrete skip q (drop r xs))) (sym m) a)
+      ∙ ap (λ (q : ℕ). record { first = i; last = r - 1; value = v } ∷ runs ℕ-discrete skip q (drop r xs)) m
+
+  pub runs-done : (xs : List ℕ) (i : ℕ) → length xs ≤ i → runs ℕ-discrete skip i (drop i xs) ≡ []
+  runs-done xs i h = ap (runs ℕ-discrete skip i) (drop-of-length-le xs h)
+
+-- ---- runs as bytes
+
+pub run-bytes : (skip less : ℕ) (xs : List ℕ) → length (runBytes skip less xs) ≡ 4 + 6 * length (runs ℕ-discrete skip 0 xs)
+unfolding runBytes
+run-bytes skip less xs = omega (arith, many-length (lessCode less) 6 (λ r. refl) (runs ℕ-discrete skip 0 xs))
+
+many-same : {A : Type 0} (f g : A → List ℕ) → ((x : A) → f x ≡ g x) → (xs : List A) → many f xs ≡ many g xs
+many-same f g e [] = refl
+many-same f g e (x ∷ xs) = ap₂ (λ (a b : List ℕ). a ++ b) (e x) (many-same f g e xs)
+
+less-none : (r : Run ℕ) → lessCode 0 r ≡ runCode r
+less-none r = let e : r .value - 0 ≡ r .value = omega arith in ap (λ (v : ℕ). be16 (r .first) ++ be16 (r .last) ++ be16 v) e
+
+-- the section of document 01 that it is
+pub class-runs : (xs : List ℕ) → runBytes 1 0 xs ≡ runSection 1 xs
+unfolding runBytes
+class-runs xs =
+    ap (λ (l : List ℕ). be32 (length (runs ℕ-discrete 1 0 xs)) ++ l) (many-same (lessCode 0) runCode less-none (runs ℕ-discrete 1 0 xs))
+
+pub number-runs : (xs : List ℕ) → runBytes 0 1 xs ≡ counted runLessCode (runs ℕ-discrete 0 0 xs)
+unfolding runBytes
+number-runs xs = refl

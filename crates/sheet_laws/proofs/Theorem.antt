@@ -1,0 +1,83 @@
+-- Demand 3 holds.
+use Prim.Native.Nat.{ℕ}
+use mathlib.Core.Path.{_≡_, refl, sym, ap, _∙_, subst}
+use mathlib.Core.List.{List}
+use native.Mathlib.Omega.{arith}
+use Rattle.fields.specs.declared.Fault.{Fault}
+use Rattle.fields.specs.Field.{Bytes}
+use Rattle.meaning.specs.Meaning.{Meaning}
+use Rattle.meaning.specs.Limits.{Valid}
+use Rattle.meaning.specs.Sheet.{write, IsSheet}
+use Rattle.meaning.specs.Ask.{Question, glyphCount, along, sizes, class, cell, width, action, Answer, ask}
+use Rattle.meaning.specs.Same.{Asked, Same}
+use Rattle.meaning.proofs.SheetLaws.{is-sheet, one-meaning}
+use Rattle.meaning.proofs.AskLaws.{bytes-answers, same-bytes}
+use Rattle.answers.specs.declared.Checked.{Checked}
+use Rattle.answers.specs.declared.Checked.the-variants.{Accepted as Taken, Refused}
+use Rattle.answers.specs.Says.{Reply, given, unlessBad}
+use Rattle.table.specs.Table.{tableFault, Accepted}
+use Rattle.table.specs.Means.{meaningOf}
+use Rattle.table_laws.proofs.Valid.{valid-meaning}
+use Rattle.sheet_read.specs.Check.{SheetChecked}
+use Rattle.sheet_parts.specs.Parts.{Answers}
+use Rattle.sheet_laws.specs.Outcomes.{Outcomes, Parts, Calls, replyTo, Alike}
+use Rattle.sheet_laws.specs.Demand3.{SheetOf, Sheet, Demand3}
+
+-- an outcome's reply is the part of the meaning that the bytes are written for
+answers : (s : List ℕ) (o : Outcomes) → Parts s o → (q : Question) → Asked q → Answers s q (replyTo o q)
+answers s o h glyphCount a = h .count
+answers s o h (along d sizes) a = h .sizes d
+answers s o h (along d (class g)) a = h .class d g a
+answers s o h (along d (cell r c)) a = h .cell d r c (a .0) (a .1)
+answers s o h (along d (width g c)) a = h .width d g c (a .0) (a .1)
+answers s o h (along d (action g k)) a = h .action d g k (a .0) (a .1) .answer
+
+accepted-checks : (s : List ℕ) → IsSheet s → (c : Checked) → SheetChecked s c → c ≡ Taken
+accepted-checks s i Taken h = refl
+accepted-checks s i (Refused r) h = absurd (h .1 i)
+
+sheet : (t s : List ℕ) (n : ℕ) → Bytes t → Accepted t n → SheetOf t n s → IsSheet s
+sheet t s n b a e = subst IsSheet e (is-sheet (meaningOf t n) (valid-meaning t n b a))
+
+-- a table that is accepted refuses no question
+unbarred : (t : List ℕ) (n : ℕ) (q : Question) → Accepted t n → given (ask (meaningOf t n) q) ≡ unlessBad (tableFault t n) (ask (meaningOf t n) q)
+unfolding Accepted
+unbarred t n q a = ap (λ (f : Fault). unlessBad f (ask (meaningOf t n) q)) (sym a)
+
+one-given : (a b : Answer) → given a ≡ given b → a ≡ b
+one-given a b e = cc
+
+read-alike : (s s′ : List ℕ) → IsSheet s → IsSheet s′ → (o o′ : Outcomes) → Parts s o → Parts s′ o′ → Alike o o′ → s ≡ s′
+unfolding IsSheet
+read-alike s s′ (m, v, e) (m′, v′, e′) o o′ h h′ same =
+    sym e
+    ∙ same-bytes m m′ v v′ (λ q a. one-given (ask m q) (ask m′ q) (sym (answers s o h q a m v e) ∙ same q a ∙ answers s′ o′ h′ q a m′ v′ e′))
+    ∙ e′
+
+read-back : (s : List ℕ) → IsSheet s
+    → (m : Meaning) × Valid m × (write m ≡ s) × ((m′ : Meaning) → Valid m′ → write m′ ≡ s → m ≡ m′)
+    × ((o : Outcomes) → Parts s o → (q : Question) → Asked q → replyTo o q ≡ given (ask m q))
+unfolding IsSheet
+read-back s (m, v, e) = (m, v, e, (λ m′ v′ e′. one-meaning s m m′ v v′ e e′), (λ o h q a. answers s o h q a m v e))
+
+pub demand-3 : Demand3
+demand-3 =
+    record {
+      same-tables = λ t u s s′ n b b′ a a′ e e′. (
+        (λ i. bytes-answers (meaningOf t n) (meaningOf u n) (valid-meaning t n b a) (valid-meaning u n b′ a′) (e ∙ i ∙ sym e′)),
+        (λ h. sym e ∙ same-bytes (meaningOf t n) (meaningOf u n) (valid-meaning t n b a) (valid-meaning u n b′ a′) h ∙ e′),
+      );
+      table-accepted = λ t s n b a e c h. accepted-checks s (sheet t s n b a e) c h;
+      table-answers = λ t s n b a e o h q k. answers s o h q k (meaningOf t n) (valid-meaning t n b a) e ∙ unbarred t n q a;
+      sheet-answers = read-back;
+      same-sheets = read-alike;
+      calls-parts = λ s o h.
+          record {
+            count = h .replies glyphCount tt .answer;
+            sizes = λ d. h .replies (along d sizes) tt .answer;
+            class = λ d g a. h .replies (along d (class g)) a .answer;
+            cell = λ d r c a b. h .replies (along d (cell r c)) (a, b) .answer;
+            width = λ d g c a b. h .replies (along d (width g c)) (a, b) .answer;
+            action = λ d g k a b. record { answer = h .actions d g k a b .reply .answer; room = h .actions d g k a b .room };
+          };
+    }

@@ -1,0 +1,45 @@
+-- Demand 3, as far as the sheet's reader and the reader of tables reach: a table's sheet is here what document 01, "The sheet", writes for the table's
+-- meaning.
+use Prim.Native.Nat.{ℕ}
+use mathlib.Core.Path.{_≡_}
+use mathlib.Core.List.{List}
+use Rattle.fields.specs.Field.{Bytes}
+use Rattle.meaning.specs.Meaning.{Meaning}
+use Rattle.meaning.specs.Limits.{Valid}
+use Rattle.meaning.specs.Sheet.{write}
+use Rattle.meaning.specs.Ask.{Question, ask}
+use Rattle.meaning.specs.Same.{Asked, Same}
+use Rattle.answers.specs.declared.Checked.{Checked}
+use Rattle.answers.specs.declared.Checked.the-variants.{Accepted as Taken}
+use Rattle.answers.specs.Says.{given, unlessBad}
+use Rattle.table.specs.Table.{tableFault, Accepted}
+use Rattle.table.specs.Means.{meaningOf}
+use Rattle.sheet_read.specs.Check.{SheetChecked}
+use Rattle.sheet_laws.specs.Outcomes.{Outcomes, Parts, Calls, replyTo, Alike}
+
+-- s is the sheet of the table t read with N
+abbrev pub SheetOf : List ℕ → ℕ → List ℕ → Type 0
+SheetOf t n s = write (meaningOf t n) ≡ s
+
+-- s is a sheet: some outcome of the check accepts it
+abbrev pub Sheet : List ℕ → Type 0
+Sheet s = SheetChecked s Taken
+
+pub record Demand3 : Type 0 where
+  -- the sheets of two accepted tables read with the same glyph count are equal exactly when the tables mean the same: equal sheets, equal answers to
+  -- every question; equal answers to the questions that a call can be asked, equal sheets
+  pub same-tables : (t u s s′ : List ℕ) (n : ℕ) → Bytes t → Bytes u → Accepted t n → Accepted u n → SheetOf t n s → SheetOf u n s′
+      → (s ≡ s′ → (q : Question) → ask (meaningOf t n) q ≡ ask (meaningOf u n) q) × (Same (meaningOf t n) (meaningOf u n) → s ≡ s′)
+  -- a table's sheet is accepted, whatever outcome the check has
+  pub table-accepted : (t s : List ℕ) (n : ℕ) → Bytes t → Accepted t n → SheetOf t n s → (c : Checked) → SheetChecked s c → c ≡ Taken
+  -- it reads back to the table's meaning: whichever part is asked for, the reader's answer is the table's
+  pub table-answers : (t s : List ℕ) (n : ℕ) → Bytes t → Accepted t n → SheetOf t n s → (o : Outcomes) → Parts s o
+      → (q : Question) → Asked q → replyTo o q ≡ unlessBad (tableFault t n) (ask (meaningOf t n) q)
+  -- every accepted sheet is written for one meaning, and reads back to it
+  pub sheet-answers : (s : List ℕ) → Sheet s
+      → (m : Meaning) × Valid m × (write m ≡ s) × ((m′ : Meaning) → Valid m′ → write m′ ≡ s → m ≡ m′)
+      × ((o : Outcomes) → Parts s o → (q : Question) → Asked q → replyTo o q ≡ given (ask m q))
+  -- no other accepted sheet has that meaning: two that give the same answers are equal
+  pub same-sheets : (s s′ : List ℕ) → Sheet s → Sheet s′ → (o o′ : Outcomes) → Parts s o → Parts s′ o′ → Alike o o′ → s ≡ s′
+  -- the calls that judge the bytes first promise no less
+  pub calls-parts : (s : List ℕ) (o : Outcomes) → Calls s o → Parts s o

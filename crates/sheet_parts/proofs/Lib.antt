@@ -1,0 +1,4 @@
+pub mod MachineLaws
+pub mod RecordLaws
+pub mod ActionLaws
+pub mod PoolLaws

@@ -1,0 +1,199 @@
+// The parts of a sheet's meaning (document 01, "The sheet"), asked for one at a time, of bytes that were accepted as a
+// sheet before. Any other bytes may be handed in, and are read as if they were one; what is answered then is left free.
+use answers::ActionAnswer;
+use answers::CellAnswer;
+use answers::ClassAnswer;
+use answers::CountAnswer;
+use answers::RecordAnswer;
+use answers::SizesAnswer;
+use answers::Sought;
+use parts::Direction;
+use parts::Entry;
+use parts::HeldAction;
+ghost use mathlib.Core.Path.{_≡_};
+ghost use Prim.Native.Nat.{_%_, _<_, _≤_, _^_};
+ghost use lib.ListN.{length};
+ghost use Rattle.section.specs.Section.{Says};
+ghost use Rattle.answers.specs.Says.{noAction};
+ghost use Rattle.sheet_parts.specs.Places.{HasMachine, CellIn, RecordIn, ActionIn};
+ghost use Rattle.sheet_parts.specs.Parts.{CountOf, SizesOf, ClassOf, CellOf, RecordOf, ActionOf};
+
+// N.
+pub fn glyph_count(bytes: &[u8]) -> CountAnswer
+    ensures { λ r. ⌜ CountOf (now (bytes .entry)) r ⌝ }
+{
+    CountAnswer::Count(fields::u32_at(bytes, 0) as u32)
+}
+
+// Whether section 1 at a position has a machine.
+fn has_machine(bytes: &[u8], at: usize) -> bool
+    ensures { λ r. ⌜ Says r (HasMachine (now (bytes .entry)) at) ⌝ }
+{
+    if bytes.len() < at {
+        return false;
+    }
+    if bytes.len() - at < 12 {
+        return false;
+    }
+    if fields::u32_at(bytes, at) == 0 {
+        return false;
+    }
+    true
+}
+
+// A size fits 16 bits.
+fn narrow(size: usize) -> u16
+    ensures { λ r. ⌜ r ≡ size % 2 ^ 16 ⌝ }
+{
+    (size % 65536) as u16
+}
+
+// S and class count.
+pub fn sizes_of(bytes: &[u8], direction: Direction) -> SizesAnswer
+    ensures { λ r. ⌜ SizesOf (now (bytes .entry)) direction r ⌝ }
+{
+    let at = sheet_walk::side_at(bytes, direction);
+    if !has_machine(bytes, at) {
+        return SizesAnswer::Nothing;
+    }
+    let rows = fields::u32_at(bytes, at + 4);
+    let classes = fields::u32_at(bytes, at + 8);
+    SizesAnswer::Sizes {
+        rows: narrow(rows),
+        classes: narrow(classes),
+    }
+}
+
+// A glyph's class.
+pub fn class_of(bytes: &[u8], direction: Direction, glyph: u16) -> ClassAnswer
+    ensures { λ r. ⌜ ClassOf (now (bytes .entry)) direction glyph r ⌝ }
+{
+    if fields::u32_at(bytes, 0) <= glyph as usize {
+        return ClassAnswer::Nothing;
+    }
+    let at = sheet_walk::side_at(bytes, direction);
+    if !has_machine(bytes, at) {
+        return ClassAnswer::Nothing;
+    }
+    let runs = sheet_walk::classes_at(bytes, at);
+    let class = sheet_walk::value_of(bytes, runs, glyph as usize, 0, 1);
+    // A class fits 8 bits.
+    ClassAnswer::Class((class % 256) as u8)
+}
+
+// The cell with a number, counted row by row, of sections 3 and 4 at a position.
+fn cell_in(bytes: &[u8], at: usize, cell: usize) -> CellAnswer
+    requires { ⌜ cell < 2 ^ 62 ⌝ }
+    ensures { λ r. ⌜ CellIn (now (bytes .entry)) at cell r ⌝ }
+{
+    if !section::has_items(bytes, at, 4) {
+        return CellAnswer::Nothing;
+    }
+    let cells = at + 4 + 4 * fields::u32_at(bytes, at);
+    if bytes.len() - cells < cell + 5 {
+        return CellAnswer::Nothing;
+    }
+    let number = fields::u8_at(bytes, cells + 4 + cell);
+    if bytes.len() - at - 4 < 4 * number + 4 {
+        return CellAnswer::Nothing;
+    }
+    let place = at + 4 + 4 * number;
+    CellAnswer::Cell(Entry {
+        row: fields::u16_at(bytes, place) as u16,
+        flags: fields::u16_at(bytes, place + 2) as u16,
+    })
+}
+
+// The cell of a row and a class.
+pub fn cell_of(bytes: &[u8], direction: Direction, row: u16, class: u16) -> CellAnswer
+    ensures { λ r. ⌜ CellOf (now (bytes .entry)) direction row class r ⌝ }
+{
+    let at = sheet_walk::side_at(bytes, direction);
+    if !has_machine(bytes, at) {
+        return CellAnswer::Nothing;
+    }
+    let rows = fields::u32_at(bytes, at + 4);
+    let classes = fields::u32_at(bytes, at + 8);
+    if rows <= row as usize {
+        return CellAnswer::Nothing;
+    }
+    if classes <= class as usize {
+        return CellAnswer::Nothing;
+    }
+    let entries = sheet_walk::entries_at(bytes, at);
+    cell_in(bytes, entries, row as usize * classes + class as usize)
+}
+
+// The record of a class in the cluster at a position, which stands there as in a table.
+fn record_in(bytes: &[u8], at: usize, class: u8) -> RecordAnswer
+    ensures { λ r. ⌜ RecordIn (now (bytes .entry)) at class r ⌝ }
+{
+    if bytes.len() < at {
+        return RecordAnswer::Nothing;
+    }
+    match cluster::record_of(&bytes[at..], 0, class) {
+        cluster::Sought::Record(pair) => RecordAnswer::Record(pair),
+        cluster::Sought::Nothing => RecordAnswer::Nothing,
+    }
+}
+
+// The width record of a glyph and a class.
+pub fn record_of(bytes: &[u8], direction: Direction, glyph: u16, class: u8) -> RecordAnswer
+    ensures { λ r. ⌜ RecordOf (now (bytes .entry)) direction glyph class r ⌝ }
+{
+    let at = sheet_walk::clusters_at(bytes, direction);
+    let runs = sheet_walk::cluster_place(bytes, at, fields::u32_at(bytes, at));
+    let number = sheet_walk::value_of(bytes, runs, glyph as usize, 1, 0);
+    if number == 0 {
+        return RecordAnswer::Nothing;
+    }
+    let place = sheet_walk::cluster_place(bytes, at, number - 1);
+    record_in(bytes, place, class)
+}
+
+// An answer without an action: all zeros stand in its place.
+pub fn no_action(sought: Sought) -> ActionAnswer
+    ensures { λ r. ⌜ r ≡ record { sought = sought; action = noAction } ⌝ }
+{
+    ActionAnswer {
+        sought,
+        action: HeldAction {
+            class: 0,
+            kind: 0,
+            size: 0,
+            bytes: [0u8; 76],
+        },
+    }
+}
+
+// The action with a number in the list at a position. Its fields and its data stand there as in a table.
+fn action_in(bytes: &[u8], at: usize, number: usize) -> ActionAnswer
+    ensures { λ r. ⌜ ActionIn (now (bytes .entry)) at number r ⌝ }
+{
+    if fields::u32_at(bytes, at) <= number {
+        return no_action(Sought::Nothing);
+    }
+    let place = sheet_walk::action_place(bytes, at, number);
+    if bytes.len() < place {
+        return no_action(Sought::Nothing);
+    }
+    let action = actions::action_at(&bytes[place..], 0);
+    ActionAnswer {
+        sought: Sought::Found,
+        action,
+    }
+}
+
+// The action of a glyph and a number.
+pub fn action_of(bytes: &[u8], direction: Direction, glyph: u16, number: u16) -> ActionAnswer
+    ensures { λ r. ⌜ ActionOf (now (bytes .entry)) direction glyph number r ⌝ }
+{
+    let at = sheet_walk::lists_at(bytes, direction);
+    let runs = sheet_walk::list_place(bytes, at, fields::u32_at(bytes, at));
+    let list = sheet_walk::value_of(bytes, runs, glyph as usize, 1, 0);
+    if list == 0 {
+        return no_action(Sought::Nothing);
+    }
+    let place = sheet_walk::list_place(bytes, at, list - 1);
+    action_in(bytes, place, number as usize)
+}

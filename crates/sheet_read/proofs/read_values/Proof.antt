@@ -1,0 +1,49 @@
+-- `sheet_read::read_values` meets its contract. The lists are read after the clusters. Assumes nothing.
+use Rattle.section.specs.Section.{Parses}
+use Rattle.lists.specs.Codes.{Found}
+use mathlib.Core.Path.{subst}
+use Rattle.sheet_read.proofs.SideLaws.{values-none, values-parse}
+use Rattle.sheet_clusters.specs.Clusters.{OkClusters}
+use Rattle.meaning.proofs.SheetLaws.{clusterBytes}
+use borrow.Author.Needs.{needs}
+use Rattle.sheet_read.proofs.read_values.Statement.{statement}
+use Rattle.sheet_read.proofs.read_values.Tie as tie
+
+read-clusters-requires : tie.Need-read-clusters-requires
+read-clusters-requires c κs = search needs
+
+enum-known-found : tie.Need-enum-known-found
+enum-known-found c = search needs
+
+read-lists-requires : tie.Need-read-lists-requires
+read-lists-requires c κs = search needs
+
+enum-told : tie.Need-enum-told
+enum-told c = search needs
+
+returns : tie.Need-returns
+returns c =
+    let a = c .before .before .before .before .before .before .args in
+    let s = a .bytes .now in
+    let n = a .glyphs in
+    let q = c .before .before .found .given .0 .0 in
+    let f : Found clusterBytes (OkClusters n) s (a .at) q = subst (Parses clusterBytes (OkClusters n) s (a .at)) (c .before .before .found .given .1) (c .before .before .before .before .read-clusters .ensures) in
+    values-parse n (c .before .before .before .before .before .before .pre) s (a .at) q f (c .read-lists .result) (c .read-lists .ensures)
+
+returns-2 : tie.Need-returns-2
+returns-2 c =
+    let a = c .before .before .before .before .args in
+    let s = a .bytes .now in
+    let n = a .glyphs in
+    values-none n (c .before .before .before .before .pre) s (a .at) (subst (Parses clusterBytes (OkClusters n) s (a .at)) (c .enum-told .given .1) (c .before .before .read-clusters .ensures))
+
+pub read-values-spec : {M : Type 1} → statement M
+read-values-spec =
+    tie.close
+    (tie.spec
+    read-clusters-requires
+    enum-known-found
+    read-lists-requires
+    enum-told
+    returns
+    returns-2)

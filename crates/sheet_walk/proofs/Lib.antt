@@ -1,0 +1,4 @@
+pub mod PassLaws
+pub mod PoolLaws
+pub mod SideLaws
+pub mod LookUpLaws

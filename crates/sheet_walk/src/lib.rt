@@ -1,0 +1,195 @@
+// Where the parts of a sheet stand (document 01, "The sheet"): sections are passed over by their counts, clusters and
+// action lists one by one. Any bytes may be handed in; only of a sheet is it known what stands at the place.
+use parts::Direction;
+ghost use mathlib.Core.Path.{_≡_};
+ghost use mathlib.Core.List.{[]};
+ghost use Prim.Native.Nat.{_+_, _*_, _≤_, _^_};
+ghost use lib.ListN.{length};
+ghost use Rattle.lists.specs.Codes.{itemsAt};
+ghost use Rattle.meaning.specs.Limits.{OkMaybe, Valid};
+ghost use Rattle.meaning.specs.Sheet.{actionCode, write};
+ghost use Rattle.meaning.proofs.SheetLaws.{machineBytes, clusterBytes, listBytes, WideAction, FewPairs, FewActions};
+ghost use Rattle.sheet_clusters.specs.Clusters.{clusterCode, OkClusters};
+ghost use Rattle.sheet_action.specs.Action.{listCode};
+ghost use Rattle.sheet_lists.specs.Lists.{OkLists};
+ghost use Rattle.sheet_walk.specs.Passes.{Passes, ItemsEnd, Reaches, ByGlyphs, afterSizes, afterClasses, sideOn, clustersOn, listsOn};
+ghost use Rattle.sheet_walk.specs.LookUp.{runMore, lookUp, ValueIn};
+
+// Where a section of items of `width` bytes ends.
+fn after_items(bytes: &[u8], at: usize, width: usize) -> usize
+    requires { ⌜ width ≤ 2 ^ 16 ⌝ }
+    ensures { λ r. ⌜ ItemsEnd width (now (bytes .entry)) at r ⌝ }
+{
+    if !section::has_items(bytes, at, width) {
+        return bytes.len();
+    }
+    at + 4 + width * fields::u32_at(bytes, at)
+}
+
+// Where an action ends: after its class and its type stands its data, bytes after their count.
+fn after_action(bytes: &[u8], at: usize) -> usize
+    ensures { λ r. ⌜ Passes actionCode (λ x. []) WideAction (now (bytes .entry)) at r ⌝ }
+{
+    if !section::has_items(bytes, at, 0) {
+        return bytes.len();
+    }
+    after_items(bytes, at + 4, 1)
+}
+
+// Where the action with a number begins, of the list at a position; for the list's count, where the list ends.
+pub fn action_place(bytes: &[u8], at: usize, number: usize) -> usize
+    ensures { λ r. ⌜ Reaches actionCode WideAction number (now (bytes .entry)) at r ⌝ }
+{
+    if !section::has_items(bytes, at, 0) {
+        return bytes.len();
+    }
+    let mut place = at + 4;
+    let mut left = number;
+    while 0 < left {
+        if bytes.len() <= place {
+            return place;
+        }
+        place = after_action(bytes, place);
+        left -= 1;
+    }
+    place
+}
+
+// Where the list with a number begins, of the section of action lists at a position; for the count of lists, where the
+// section ends.
+pub fn list_place(bytes: &[u8], at: usize, number: usize) -> usize
+    ensures { λ r. ⌜ Reaches listCode FewActions number (now (bytes .entry)) at r ⌝ }
+{
+    if !section::has_items(bytes, at, 0) {
+        return bytes.len();
+    }
+    let mut place = at + 4;
+    let mut left = number;
+    while 0 < left {
+        if bytes.len() <= place {
+            return place;
+        }
+        place = action_place(bytes, place, fields::u32_at(bytes, place));
+        left -= 1;
+    }
+    place
+}
+
+// Where the cluster with a number begins, of the section of clusters at a position; for the count of clusters, where
+// the section ends.
+pub fn cluster_place(bytes: &[u8], at: usize, number: usize) -> usize
+    ensures { λ r. ⌜ Reaches clusterCode FewPairs number (now (bytes .entry)) at r ⌝ }
+{
+    if !section::has_items(bytes, at, 0) {
+        return bytes.len();
+    }
+    let mut place = at + 4;
+    let mut left = number;
+    while 0 < left {
+        if bytes.len() <= place {
+            return place;
+        }
+        place = after_items(bytes, place, 24);
+        left -= 1;
+    }
+    place
+}
+
+// Where sections 5 and 6 end: the clusters, and their runs.
+fn after_clusters(bytes: &[u8], at: usize) -> usize
+    ensures { λ r. ⌜ Passes clusterBytes (λ x. []) (ByGlyphs OkClusters) (now (bytes .entry)) at r ⌝ }
+{
+    let runs = cluster_place(bytes, at, fields::u32_at(bytes, at));
+    after_items(bytes, runs, 6)
+}
+
+// Where sections 7 and 8 end: the action lists, and their runs.
+fn after_lists(bytes: &[u8], at: usize) -> usize
+    ensures { λ r. ⌜ Passes listBytes (λ x. []) (ByGlyphs OkLists) (now (bytes .entry)) at r ⌝ }
+{
+    let runs = list_place(bytes, at, fields::u32_at(bytes, at));
+    after_items(bytes, runs, 6)
+}
+
+// Where section 2 begins, after the machine's sizes at a position.
+pub fn classes_at(bytes: &[u8], at: usize) -> usize
+    ensures { λ r. ⌜ Passes machineBytes afterSizes (ByGlyphs OkMaybe) (now (bytes .entry)) at r ⌝ }
+{
+    after_items(bytes, at, 8)
+}
+
+// Where section 3 begins, after the machine's sizes at a position and every glyph's class.
+pub fn entries_at(bytes: &[u8], at: usize) -> usize
+    ensures { λ r. ⌜ Passes machineBytes afterClasses (ByGlyphs OkMaybe) (now (bytes .entry)) at r ⌝ }
+{
+    after_items(bytes, classes_at(bytes, at), 6)
+}
+
+// Where section 4 ends: the machine, or none.
+fn after_machine(bytes: &[u8], at: usize) -> usize
+    ensures { λ r. ⌜ Passes machineBytes (λ x. []) (ByGlyphs OkMaybe) (now (bytes .entry)) at r ⌝ }
+{
+    let cells = after_items(bytes, entries_at(bytes, at), 4);
+    after_items(bytes, cells, 1)
+}
+
+// Where a direction begins.
+pub fn side_at(bytes: &[u8], direction: Direction) -> usize
+    ensures { λ r. ⌜ Passes write (sideOn direction) Valid (now (bytes .entry)) 0 r ⌝ }
+{
+    match direction {
+        Direction::Horizontal => 4,
+        Direction::Vertical => {
+            let clusters = after_machine(bytes, 4);
+            let lists = after_clusters(bytes, clusters);
+            after_lists(bytes, lists)
+        }
+    }
+}
+
+// Where section 5 of a direction begins.
+pub fn clusters_at(bytes: &[u8], direction: Direction) -> usize
+    ensures { λ r. ⌜ Passes write (clustersOn direction) Valid (now (bytes .entry)) 0 r ⌝ }
+{
+    after_machine(bytes, side_at(bytes, direction))
+}
+
+// Where section 7 of a direction begins.
+pub fn lists_at(bytes: &[u8], direction: Direction) -> usize
+    ensures { λ r. ⌜ Passes write (listsOn direction) Valid (now (bytes .entry)) 0 r ⌝ }
+{
+    after_clusters(bytes, clusters_at(bytes, direction))
+}
+
+// Of `count` runs from a position on, the value of the one that a glyph is in, with `more` added; `skip` for a glyph in
+// none of them.
+fn look_up(bytes: &[u8], at: usize, count: usize, glyph: usize, more: usize, skip: usize) -> usize
+    requires { ⌜ (at + 6 * count ≤ length (now bytes)) × (more ≤ 1) ⌝ }
+    ensures { λ r. ⌜ r ≡ lookUp skip glyph (itemsAt (runMore more) 6 (now (bytes .entry)) at count) ⌝ }
+{
+    let mut place = at;
+    let mut left = count;
+    while 0 < left {
+        if glyph < fields::u16_at(bytes, place) {
+            return skip;
+        }
+        if glyph <= fields::u16_at(bytes, place + 2) {
+            return fields::u16_at(bytes, place + 4) + more;
+        }
+        place += 6;
+        left -= 1;
+    }
+    skip
+}
+
+// The value of a glyph in the section of runs at a position, with `more` added: 1 for runs of numbers, which are
+// written less one. `skip` is the value of the glyphs that are in no run.
+pub fn value_of(bytes: &[u8], at: usize, glyph: usize, more: usize, skip: usize) -> usize
+    requires { ⌜ more ≤ 1 ⌝ }
+    ensures { λ r. ⌜ ValueIn more skip (now (bytes .entry)) at glyph r ⌝ }
+{
+    if !section::has_items(bytes, at, 6) {
+        return skip;
+    }
+    look_up(bytes, at + 4, fields::u32_at(bytes, at), glyph, more, skip)
+}
