@@ -119,7 +119,12 @@ fn part_of(shrink: bool, size: u32, sought: Sought) -> Part
         };
     };
     if shrink {
-        part_by(size, pair.flags.shrink, pair.before.shrink, pair.after.shrink)
+        part_by(
+            size,
+            pair.flags.shrink,
+            pair.before.shrink,
+            pair.after.shrink,
+        )
     } else {
         part_by(size, pair.flags.grow, pair.before.grow, pair.after.grow)
     }
