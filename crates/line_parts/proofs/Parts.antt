@@ -1,5 +1,5 @@
 -- The parts of a line's glyphs: factors, limits of width records, and four lists that are filled glyph by glyph.
-use Prim.Native.Nat.{ℕ, zero, suc, _+_, _*_, _/_, _≤_, _<_, _^_}
+use Prim.Native.Nat.{ℕ, zero, suc, _+_, _*_, _≤_, _<_, _^_}
 use mathlib.Core.Path.{_≡_, refl, sym, ap, _∙_, subst}
 use mathlib.Core.Bool.{Bool, true, false, cond}
 use mathlib.Core.Option.{Option, none, some}
@@ -24,11 +24,11 @@ use Rattle.units.specs.Fixed.{roundedDown, factorOf}
 use Rattle.units.specs.Flags.{isUnlimited, priorityOf}
 use Rattle.units.proofs.Rounding.{near-pos}
 use Rattle.lists.specs.Codes.{All}
+use Rattle.lists.proofs.ListLaws.{all-getD}
 use Rattle.meaning.specs.Meaning.{Side}
 use Rattle.meaning.specs.Limits.{OkPair, OkCluster, OkSide, Valid}
 use Rattle.meaning.specs.Ask.{sideOf, recordOf}
 use Rattle.actions.specs.declared.Spot.{Spot}
-use Rattle.cluster.specs.Pairs.{soughtPair}
 use Rattle.values.specs.Values.{clusterHere}
 use Rattle.table.specs.Table.{tableFault, Accepted}
 use Rattle.table.specs.Means.{meaningOf}
@@ -66,11 +66,6 @@ record-small c (p ∷ ps) w = go (eqb (p .class) c) (record-small c ps (w .1))
     go true h = (w .0 .1, w .0 .2)
     go false h = h
 
-cluster-at : (cs : List (List Pair)) → All OkCluster cs → (g : ℕ) → All OkPair (getD cs g [])
-cluster-at [] w g = tt
-cluster-at (c ∷ cs) w zero = w .0 .1
-cluster-at (c ∷ cs) w (suc g) = cluster-at cs (w .1) g
-
 module _ (t : List ℕ) (n : ℕ) (d : Direction) (bytes : Bytes t) (ok : tableFault t n ≡ Clear) where
   pub side-ok : OkSide n (sideOf d (meaningOf t n))
   unfolding Accepted meaningOf
@@ -85,7 +80,7 @@ module _ (t : List ℕ) (n : ℕ) (d : Direction) (bytes : Bytes t) (ok : tableF
 
   pub record-limits : (g c : ℕ) → Small (recordFor (sideOf d (meaningOf t n)) g c)
   record-limits g c =
-      record-small c (getD (sideOf d (meaningOf t n) .clusters) g []) (cluster-at (sideOf d (meaningOf t n) .clusters) (side-ok .clusters) g)
+      record-small c (getD (sideOf d (meaningOf t n) .clusters) g []) (all-getD OkCluster (sideOf d (meaningOf t n) .clusters) [] g (omega arith, tt, tt) (side-ok .clusters) .1)
 
 pub record-is : (t : List ℕ) (n : ℕ) (d : Direction) (g c : ℕ) {s : Spot} → s ≡ clusterSpot t n d g
     → recordOf c (clusterHere t s) ≡ recordFor (sideOf d (meaningOf t n)) g c

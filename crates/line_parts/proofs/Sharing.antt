@@ -8,7 +8,6 @@ use lib.IntN.{ℤ}
 use lib.ListN.{length, length-map}
 use Rattle.share.specs.Line.{Glyph, glyphsOf, Lent, Parts, lineLeft, lineFits, beforeMoves, afterMoves, signedOf}
 use Rattle.share.proofs.Lines.{glyphsOf-parts, line-sum}
-use Rattle.line_parts.specs.declared.Shared.{Shared}
 use Rattle.line_parts.specs.declared.Shared.the-variants.{Left, Over}
 use Rattle.line_parts.specs.Parts.{Laid, SharedOut}
 

@@ -2,8 +2,7 @@
 // accepted table: the classes of the line's glyphs, the part of each glyph, and the movements of its two sides.
 ghost use mathlib.Core.Path.{_≡_};
 ghost use mathlib.Core.Bool.{cond};
-ghost use mathlib.Core.List.{map};
-ghost use Prim.Native.Nat.{ℕ, _≤_, _<_, _^_};
+ghost use Prim.Native.Nat.{_≤_, _^_};
 ghost use lib.ListN.{length};
 ghost use Rattle.fields.specs.declared.Fault.the-variants.{Clear};
 ghost use Rattle.units.specs.Flags.{isUnlimited};
@@ -12,7 +11,6 @@ ghost use Rattle.cluster.specs.Pairs.{soughtPair};
 ghost use Rattle.table.specs.Table.{tableFault};
 ghost use Rattle.table.specs.Means.{meaningOf};
 ghost use Rattle.walk.specs.Line.{handedOut};
-ghost use Rattle.share.specs.Line.{lineFits, beforeMoves, afterMoves, signedOf};
 ghost use Rattle.lines.specs.Line.{walkOf, recordFor, unitsOf, stageOf, partBy, partOf, partsOf};
 ghost use Rattle.line_parts.specs.Parts.{Known, bareLine, Small, glyphBy, Laid, Room, SharedOut};
 use actions::Spot;
@@ -23,7 +21,7 @@ use walk::Walked;
 
 // A glyph's part in the sharing of the gap: its stage mark, 1 where it is unlimited and else 0, and the factors of
 // its before and its after side, in units.
-pub struct Part {
+struct Part {
     pub mark: u8,
     pub extra: u8,
     pub before: u64,

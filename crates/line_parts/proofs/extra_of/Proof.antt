@@ -1,20 +1,15 @@
-use mathlib.Core.Path.{sym, ap, _∙_}
+-- `line_parts::extra_of` meets its contract.
+use mathlib.Core.Path.{sym, _∙_}
 use borrow.Author.Needs.{needs}
 use Rattle.line_parts.proofs.extra_of.Statement.{statement}
 use Rattle.line_parts.proofs.extra_of.Tie as tie
-use Rattle.line_parts.proofs.extra_of.Reads as reads
-use Rattle.line_parts.proofs.extra_of.Lts as lts
-use Rattle.units.proofs.is_unlimited.Reads as is-unlimited-reads
 
--- src/lib.rt:92:8
 is-unlimited-requires : tie.Need-is-unlimited-requires
 is-unlimited-requires c κs = search needs
 
--- src/lib.rt:89:1
 returns : tie.Need-returns
 returns c = simp (sym (c .before .is-unlimited .ensures) ∙ c .if1 .taken)
 
--- src/lib.rt:89:1
 returns-2 : tie.Need-returns-2
 returns-2 c = simp (sym (c .before .is-unlimited .ensures) ∙ c .if1 .left)
 

@@ -1,8 +1,9 @@
+-- `line_parts::lay_parts` meets its contract.
 use native.Mathlib.Omega.{arith}
-use lib.ListN.{length, drop, getD}
+use lib.ListN.{length, drop}
 use Prim.Native.Nat.{ℕ, _-_, _≤_, suc}
 use mathlib.Core.List.{_∷_}
-use mathlib.Core.Path.{_≡_, sym, ap, _∙_, subst}
+use mathlib.Core.Path.{sym, ap, _∙_, subst}
 use Rattle.share.specs.Line.{Glyph}
 use Rattle.table.specs.Means.{meaningOf}
 use Rattle.meaning.specs.Ask.{sideOf}
@@ -11,10 +12,6 @@ use Rattle.line_parts.specs.Parts.{glyphBy, Room}
 use Rattle.line_parts.proofs.Parts.{parts-length, parts-next, Filling, filling-start, filling-on, filling-end}
 use Rattle.line_parts.proofs.lay_parts.Statement.{statement}
 use Rattle.line_parts.proofs.lay_parts.Tie as tie
-use Rattle.line_parts.proofs.lay_parts.Reads as reads
-use Rattle.line_parts.proofs.lay_parts.Lts as lts
-use Rattle.line_parts.proofs.part_of.Reads as part-of-reads
-use Rattle.line_parts.proofs.record_for.Reads as record-for-reads
 
 abbrev Inv-loop : tie.InvT-loop
 Inv-loop table count direction shrink size glyphs classes marks₀ extras₀ first₀ second₀ i₀ marks extras first second i = (i ≤ length glyphs) × Filling (partsOf (sideOf direction (meaningOf table count)) shrink size glyphs classes) i marks extras first second
@@ -22,85 +19,112 @@ Inv-loop table count direction shrink size glyphs classes marks₀ extras₀ fir
 abbrev μ-loop : tie.MeasureT-loop
 μ-loop table count direction shrink size glyphs classes marks₀ extras₀ first₀ second₀ i₀ marks extras first second i = length glyphs - i
 
--- src/lib.rt:158:5
 loop-holds : tie.Need-loop-holds Inv-loop μ-loop
-loop-holds c = let a = c .before .before .before .before .before .before .before .args in let s = sideOf (a .direction) (meaningOf (a .table .now) (a .count)) in (omega arith, filling-start _ _ _ _ _ (subst (λ (n : ℕ). Room n (a .marks .now) (a .extras .now) (a .first .now) (a .second .now)) (sym (parts-length s (a .shrink) (a .size) (a .glyphs .now) (a .classes .now) (c .before .before .before .before .before .before .before .pre .0 .1))) (c .before .before .before .before .before .before .before .pre .1)))
+loop-holds c =
+    let a = c .before .before .before .before .before .before .before .args in
+    let s = sideOf (a .direction) (meaningOf (a .table .now) (a .count)) in
+    (omega arith, filling-start _ _ _ _ _ (subst (λ (n : ℕ). Room n (a .marks .now) (a .extras .now) (a .first .now) (a .second .now)) (sym (parts-length s (a .shrink) (a .size) (a .glyphs .now) (a .classes .now) (c .before .before .before .before .before .before .before .pre .0 .1))) (c .before .before .before .before .before .before .before .pre .1)))
 
--- src/lib.rt:159:58
 mul-record-for : tie.Need-mul-record-for Inv-loop μ-loop
 mul-record-for c = omega arith
 
--- src/lib.rt:159:58
 shared-slice-read-record-for : tie.Need-shared-slice-read-record-for Inv-loop μ-loop
 shared-slice-read-record-for c = omega arith
 
--- src/lib.rt:159:69
 shared-slice-read-record-for-2 : tie.Need-shared-slice-read-record-for-2 Inv-loop μ-loop
 shared-slice-read-record-for-2 c = omega arith
 
--- src/lib.rt:159:13
 record-for-requires : tie.Need-record-for-requires Inv-loop μ-loop
 record-for-requires c κs = c .before .before .before .before .before .before .before .before .before .before .before .pre .0 .0
 
--- src/lib.rt:160:13
 part-of-requires : tie.Need-part-of-requires Inv-loop μ-loop
 part-of-requires c κs = c .record-for .ensures .1
 
--- src/lib.rt:161:9
 slice-write-marks : tie.Need-slice-write-marks Inv-loop μ-loop
-slice-write-marks c = let a = c .before .before .before .before .before .before .before .before .before .before .before .before .before .args in let q = parts-length (sideOf (a .direction) (meaningOf (a .table .now) (a .count))) (a .shrink) (a .size) (a .glyphs .now) (a .classes .now) (c .before .before .before .before .before .before .before .before .before .before .before .before .before .pre .0 .1) in let w = c .before .before .before .before .before .loop .inv .1 .room .marks in omega arith
+slice-write-marks c =
+    let a = c .before .before .before .before .before .before .before .before .before .before .before .before .before .args in
+    let q = parts-length (sideOf (a .direction) (meaningOf (a .table .now) (a .count))) (a .shrink) (a .size) (a .glyphs .now) (a .classes .now) (c .before .before .before .before .before .before .before .before .before .before .before .before .before .pre .0 .1) in
+    let w = c .before .before .before .before .before .loop .inv .1 .room .marks in
+    omega arith
 
--- src/lib.rt:162:9
 slice-write-extras : tie.Need-slice-write-extras Inv-loop μ-loop
-slice-write-extras c = let a = c .before .before .before .before .before .before .before .before .before .before .before .before .before .args in let q = parts-length (sideOf (a .direction) (meaningOf (a .table .now) (a .count))) (a .shrink) (a .size) (a .glyphs .now) (a .classes .now) (c .before .before .before .before .before .before .before .before .before .before .before .before .before .pre .0 .1) in let w = c .before .before .before .before .before .loop .inv .1 .room .extras in omega arith
+slice-write-extras c =
+    let a = c .before .before .before .before .before .before .before .before .before .before .before .before .before .args in
+    let q = parts-length (sideOf (a .direction) (meaningOf (a .table .now) (a .count))) (a .shrink) (a .size) (a .glyphs .now) (a .classes .now) (c .before .before .before .before .before .before .before .before .before .before .before .before .before .pre .0 .1) in
+    let w = c .before .before .before .before .before .loop .inv .1 .room .extras in
+    omega arith
 
--- src/lib.rt:163:9
 mul-first : tie.Need-mul-first Inv-loop μ-loop
 mul-first c = omega arith
 
--- src/lib.rt:163:9
 slice-write-first : tie.Need-slice-write-first Inv-loop μ-loop
-slice-write-first c = let a = c .before .before .before .before .before .before .before .before .before .before .before .before .before .args in let q = parts-length (sideOf (a .direction) (meaningOf (a .table .now) (a .count))) (a .shrink) (a .size) (a .glyphs .now) (a .classes .now) (c .before .before .before .before .before .before .before .before .before .before .before .before .before .pre .0 .1) in let w = c .before .before .before .before .before .loop .inv .1 .room .first in omega arith
+slice-write-first c =
+    let a = c .before .before .before .before .before .before .before .before .before .before .before .before .before .args in
+    let q = parts-length (sideOf (a .direction) (meaningOf (a .table .now) (a .count))) (a .shrink) (a .size) (a .glyphs .now) (a .classes .now) (c .before .before .before .before .before .before .before .before .before .before .before .before .before .pre .0 .1) in
+    let w = c .before .before .before .before .before .loop .inv .1 .room .first in
+    omega arith
 
--- src/lib.rt:164:9
 mul-second : tie.Need-mul-second Inv-loop μ-loop
 mul-second c = omega arith
 
--- src/lib.rt:164:9
 slice-write-second : tie.Need-slice-write-second Inv-loop μ-loop
-slice-write-second c = let a = c .before .before .before .before .before .before .before .before .before .before .before .before .before .args in let q = parts-length (sideOf (a .direction) (meaningOf (a .table .now) (a .count))) (a .shrink) (a .size) (a .glyphs .now) (a .classes .now) (c .before .before .before .before .before .before .before .before .before .before .before .before .before .pre .0 .1) in let w = c .before .before .before .before .before .loop .inv .1 .room .second in omega arith
+slice-write-second c =
+    let a = c .before .before .before .before .before .before .before .before .before .before .before .before .before .args in
+    let q = parts-length (sideOf (a .direction) (meaningOf (a .table .now) (a .count))) (a .shrink) (a .size) (a .glyphs .now) (a .classes .now) (c .before .before .before .before .before .before .before .before .before .before .before .before .before .pre .0 .1) in
+    let w = c .before .before .before .before .before .loop .inv .1 .room .second in
+    omega arith
 
--- src/lib.rt:165:9
 add-i : tie.Need-add-i Inv-loop μ-loop
 add-i c = omega arith
 
--- src/lib.rt:158:5
 loop-less : tie.Need-loop-less Inv-loop μ-loop
 loop-less c = omega arith
 
--- src/lib.rt:158:5
 loop-again : tie.Need-loop-again Inv-loop μ-loop
-loop-again c = let a = c .before .before .before .before .before .before .before .before .before .before .before .before .before .args in let l = c .before .before .before .before .before .loop in let s = sideOf (a .direction) (meaningOf (a .table .now) (a .count)) in let q = parts-length s (a .shrink) (a .size) (a .glyphs .now) (a .classes .now) (c .before .before .before .before .before .before .before .before .before .before .before .before .before .pre .0 .1) in (omega arith, filling-on (glyphBy (c .part-of .result)) (l .inv .1) (omega arith) (parts-next s (a .shrink) (a .size) (a .glyphs .now) (a .classes .now) (l .i) (c .before .before .before .before .before .before .before .before .before .before .before .before .before .pre .0 .1) (omega arith) ∙ ap (λ (g : Glyph). g ∷ drop (suc (l .i)) (partsOf s (a .shrink) (a .size) (a .glyphs .now) (a .classes .now))) (sym (c .part-of .ensures ∙ ap (partOf (a .shrink) (a .size)) (c .before .record-for .ensures .0)))))
+loop-again c =
+    let a = c .before .before .before .before .before .before .before .before .before .before .before .before .before .args in
+    let l = c .before .before .before .before .before .loop in
+    let s = sideOf (a .direction) (meaningOf (a .table .now) (a .count)) in
+    let q = parts-length s (a .shrink) (a .size) (a .glyphs .now) (a .classes .now) (c .before .before .before .before .before .before .before .before .before .before .before .before .before .pre .0 .1) in
+    (omega arith, filling-on (glyphBy (c .part-of .result)) (l .inv .1) (omega arith) (parts-next s (a .shrink) (a .size) (a .glyphs .now) (a .classes .now) (l .i) (c .before .before .before .before .before .before .before .before .before .before .before .before .before .pre .0 .1) (omega arith) ∙ ap (λ (g : Glyph). g ∷ drop (suc (l .i)) (partsOf s (a .shrink) (a .size) (a .glyphs .now) (a .classes .now))) (sym (c .part-of .ensures ∙ ap (partOf (a .shrink) (a .size)) (c .before .record-for .ensures .0)))))
 
--- src/lib.rt:140:1
 same-length : tie.Need-same-length Inv-loop μ-loop
-same-length c = let a = c .before .before .before .before .before .before .before .before .before .args in let q = parts-length (sideOf (a .direction) (meaningOf (a .table .now) (a .count))) (a .shrink) (a .size) (a .glyphs .now) (a .classes .now) (c .before .before .before .before .before .before .before .before .before .pre .0 .1) in let w = c .before .loop .inv .1 .room .marks in let v = c .before .before .before .before .before .before .before .before .before .pre .1 .marks in omega arith
+same-length c =
+    let a = c .before .before .before .before .before .before .before .before .before .args in
+    let q = parts-length (sideOf (a .direction) (meaningOf (a .table .now) (a .count))) (a .shrink) (a .size) (a .glyphs .now) (a .classes .now) (c .before .before .before .before .before .before .before .before .before .pre .0 .1) in
+    let w = c .before .loop .inv .1 .room .marks in
+    let v = c .before .before .before .before .before .before .before .before .before .pre .1 .marks in
+    omega arith
 
--- src/lib.rt:140:1
 same-length-2 : tie.Need-same-length-2 Inv-loop μ-loop
-same-length-2 c = let a = c .before .before .before .before .before .before .before .before .before .args in let q = parts-length (sideOf (a .direction) (meaningOf (a .table .now) (a .count))) (a .shrink) (a .size) (a .glyphs .now) (a .classes .now) (c .before .before .before .before .before .before .before .before .before .pre .0 .1) in let w = c .before .loop .inv .1 .room .extras in let v = c .before .before .before .before .before .before .before .before .before .pre .1 .extras in omega arith
+same-length-2 c =
+    let a = c .before .before .before .before .before .before .before .before .before .args in
+    let q = parts-length (sideOf (a .direction) (meaningOf (a .table .now) (a .count))) (a .shrink) (a .size) (a .glyphs .now) (a .classes .now) (c .before .before .before .before .before .before .before .before .before .pre .0 .1) in
+    let w = c .before .loop .inv .1 .room .extras in
+    let v = c .before .before .before .before .before .before .before .before .before .pre .1 .extras in
+    omega arith
 
--- src/lib.rt:140:1
 same-length-3 : tie.Need-same-length-3 Inv-loop μ-loop
-same-length-3 c = let a = c .before .before .before .before .before .before .before .before .before .args in let q = parts-length (sideOf (a .direction) (meaningOf (a .table .now) (a .count))) (a .shrink) (a .size) (a .glyphs .now) (a .classes .now) (c .before .before .before .before .before .before .before .before .before .pre .0 .1) in let w = c .before .loop .inv .1 .room .first in let v = c .before .before .before .before .before .before .before .before .before .pre .1 .first in omega arith
+same-length-3 c =
+    let a = c .before .before .before .before .before .before .before .before .before .args in
+    let q = parts-length (sideOf (a .direction) (meaningOf (a .table .now) (a .count))) (a .shrink) (a .size) (a .glyphs .now) (a .classes .now) (c .before .before .before .before .before .before .before .before .before .pre .0 .1) in
+    let w = c .before .loop .inv .1 .room .first in
+    let v = c .before .before .before .before .before .before .before .before .before .pre .1 .first in
+    omega arith
 
--- src/lib.rt:140:1
 same-length-4 : tie.Need-same-length-4 Inv-loop μ-loop
-same-length-4 c = let a = c .before .before .before .before .before .before .before .before .before .args in let q = parts-length (sideOf (a .direction) (meaningOf (a .table .now) (a .count))) (a .shrink) (a .size) (a .glyphs .now) (a .classes .now) (c .before .before .before .before .before .before .before .before .before .pre .0 .1) in let w = c .before .loop .inv .1 .room .second in let v = c .before .before .before .before .before .before .before .before .before .pre .1 .second in omega arith
+same-length-4 c =
+    let a = c .before .before .before .before .before .before .before .before .before .args in
+    let q = parts-length (sideOf (a .direction) (meaningOf (a .table .now) (a .count))) (a .shrink) (a .size) (a .glyphs .now) (a .classes .now) (c .before .before .before .before .before .before .before .before .before .pre .0 .1) in
+    let w = c .before .loop .inv .1 .room .second in
+    let v = c .before .before .before .before .before .before .before .before .before .pre .1 .second in
+    omega arith
 
--- src/lib.rt:140:1
 returns : tie.Need-returns Inv-loop μ-loop
-returns c = let a = c .before .before .before .before .before .before .before .before .before .args in let q = parts-length (sideOf (a .direction) (meaningOf (a .table .now) (a .count))) (a .shrink) (a .size) (a .glyphs .now) (a .classes .now) (c .before .before .before .before .before .before .before .before .before .pre .0 .1) in filling-end (c .before .loop .inv .1) (omega arith)
+returns c =
+    let a = c .before .before .before .before .before .before .before .before .before .args in
+    let q = parts-length (sideOf (a .direction) (meaningOf (a .table .now) (a .count))) (a .shrink) (a .size) (a .glyphs .now) (a .classes .now) (c .before .before .before .before .before .before .before .before .before .pre .0 .1) in
+    filling-end (c .before .loop .inv .1) (omega arith)
 
 pub lay-parts-spec : {M : Type 1} → statement M
 lay-parts-spec =

@@ -1,58 +1,54 @@
+-- `line_parts::line_walk` meets its contract.
 use Rattle.line_parts.proofs.Walks.{no-walk, a-walk, machine-clear, sound, kinds, kinds-padded}
 use native.Mathlib.Omega.{arith}
-use lib.ListN.{length, take, length-map}
-use Prim.Native.Nat.{ℕ, _+_, _≤_}
+use lib.ListN.{length, length-map}
+use Prim.Native.Nat.{ℕ, _+_}
 use mathlib.Core.List.{List}
-use mathlib.Core.Path.{_≡_, refl, sym, ap, ap₂, _∙_, subst}
-use Rattle.machine.specs.Rows.{rowCount}
-use Rattle.walk.specs.Walk.{Walk, walked}
-use Rattle.walk.specs.Line.{handedOut, lineOf, machineAt, lineKind, lineKinds, Sound, Kinds}
-use Rattle.walk.proofs.Line.{handed-none, padded-take, padded-length}
+use mathlib.Core.Path.{refl, sym, ap, ap₂, _∙_, subst}
+use Rattle.walk.specs.Walk.{walked}
+use Rattle.walk.specs.Line.{handedOut, lineOf, machineAt, lineKind, Sound, Kinds}
+use Rattle.walk.proofs.Line.{handed-none}
 use borrow.Author.Needs.{needs}
 use Rattle.line_parts.proofs.line_walk.Statement.{statement}
 use Rattle.line_parts.proofs.line_walk.Tie as tie
-use Rattle.line_parts.proofs.line_walk.Reads as reads
-use Rattle.line_parts.proofs.line_walk.Lts as lts
-use Rattle.machine.proofs.row_count.Reads as row-count-reads
-use Rattle.table_parts.proofs.machine_in.Reads as machine-in-reads
-use Rattle.walk.proofs.line_kinds.Reads as line-kinds-reads
-use Rattle.walk.proofs.walk_line.Reads as walk-line-reads
 
--- src/lib.rt:56:9
 machine-in-requires : tie.Need-machine-in-requires
 machine-in-requires c κs = search needs
 
--- src/lib.rt:58:9
 returns : tie.Need-returns
-returns c = let a = c .before .before .before .before .args in handed-none (lineOf (a .glyphs .now) (a .starts) (a .ends)) 1024 refl (c .before .before .before .before .pre .0 .1) ∙ ap handedOut (sym (no-walk (a .table .now) (a .count) (a .direction) (c .before .machine-in .result) (c .before .machine-in .ensures .0) (c .if1 .taken) (a .glyphs .now) (a .starts) (a .ends)))
+returns c =
+    let a = c .before .before .before .before .args in
+    handed-none (lineOf (a .glyphs .now) (a .starts) (a .ends)) 1024 refl (c .before .before .before .before .pre .0 .1) ∙ ap handedOut (sym (no-walk (a .table .now) (a .count) (a .direction) (c .before .machine-in .result) (c .before .machine-in .ensures .0) (c .if1 .taken) (a .glyphs .now) (a .starts) (a .ends)))
 
--- src/lib.rt:64:16
 add-here : tie.Need-add-here
 add-here c = search needs
 
--- src/lib.rt:65:9
 row-count-requires : tie.Need-row-count-requires
 row-count-requires c κs = search needs
 
--- src/lib.rt:66:17
 line-kinds-requires : tie.Need-line-kinds-requires
 line-kinds-requires c κs = search needs
 
--- src/lib.rt:68:40
 array-share-prefix-kinds : tie.Need-array-share-prefix-kinds
 array-share-prefix-kinds c = search needs
 
--- src/lib.rt:68:40
 slice-aggregate-walk-line : tie.Need-slice-aggregate-walk-line
-slice-aggregate-walk-line c = let a = c .before .before .before .before .before .before .before .args in sym (ap length (kinds-padded (a .table .now) (c .before .before .before .before .machine-in .result + 8) (a .glyphs .now) (c .before .line-kinds .ensures)) ∙ length-map (a .glyphs .now) (lineKind (a .table .now) (c .before .before .before .before .machine-in .result + 8)))
+slice-aggregate-walk-line c =
+    let a = c .before .before .before .before .before .before .before .args in
+    sym (ap length (kinds-padded (a .table .now) (c .before .before .before .before .machine-in .result + 8) (a .glyphs .now) (c .before .line-kinds .ensures)) ∙ length-map (a .glyphs .now) (lineKind (a .table .now) (c .before .before .before .before .machine-in .result + 8)))
 
--- src/lib.rt:68:5
 walk-line-requires : tie.Need-walk-line-requires
-walk-line-requires c κs = let a = c .before .before .before .before .before .before .before .args in let o = c .before .before .before .before .machine-in .result in let clear = machine-clear (a .table .now) (a .count) (a .direction) o (c .before .before .before .before .machine-in .ensures .0) (c .before .before .before .before .before .before .before .pre .0 .0) (c .before .before .before .if1 .left) in (subst (Sound (a .table .now) (o + 8)) (sym (c .before .before .row-count .ensures)) (sound (a .table .now) (a .count) (o + 8) (omega (arith, c .before .before .before .before .machine-in .ensures .1)) clear), subst (Kinds (a .table .now) (o + 8)) (sym (kinds-padded (a .table .now) (o + 8) (a .glyphs .now) (c .before .line-kinds .ensures))) (kinds (a .table .now) (a .count) (o + 8) (omega (arith, c .before .before .before .before .machine-in .ensures .1)) clear (a .glyphs .now) (c .before .before .before .before .before .before .before .pre .0 .1) (c .before .before .before .before .before .before .before .pre .1)))
+walk-line-requires c κs =
+    let a = c .before .before .before .before .before .before .before .args in
+    let o = c .before .before .before .before .machine-in .result in
+    let clear = machine-clear (a .table .now) (a .count) (a .direction) o (c .before .before .before .before .machine-in .ensures .0) (c .before .before .before .before .before .before .before .pre .0 .0) (c .before .before .before .if1 .left) in
+    (subst (Sound (a .table .now) (o + 8)) (sym (c .before .before .row-count .ensures)) (sound (a .table .now) (a .count) (o + 8) (omega (arith, c .before .before .before .before .machine-in .ensures .1)) clear), subst (Kinds (a .table .now) (o + 8)) (sym (kinds-padded (a .table .now) (o + 8) (a .glyphs .now) (c .before .line-kinds .ensures))) (kinds (a .table .now) (a .count) (o + 8) (omega (arith, c .before .before .before .before .machine-in .ensures .1)) clear (a .glyphs .now) (c .before .before .before .before .before .before .before .pre .0 .1) (c .before .before .before .before .before .before .before .pre .1)))
 
--- src/lib.rt:44:1
 returns-2 : tie.Need-returns-2
-returns-2 c = let a = c .before .before .before .before .before .before .before .before .args in let o = c .before .before .before .before .before .machine-in .result in c .walk-line .ensures ∙ ap handedOut (ap₂ (λ (s : ℕ) (ks : List ℕ). walked (machineAt (a .table .now) (o + 8) s) (lineOf ks (a .starts) (a .ends))) (c .before .before .before .row-count .ensures) (kinds-padded (a .table .now) (o + 8) (a .glyphs .now) (c .before .before .line-kinds .ensures)) ∙ a-walk (a .table .now) (a .count) (a .direction) o (c .before .before .before .before .before .machine-in .ensures .0) (c .before .before .before .before .if1 .left) (omega (arith, c .before .before .before .before .before .machine-in .ensures .1)) (c .before .before .before .before .before .before .before .before .pre .0 .0) (a .glyphs .now) (c .before .before .before .before .before .before .before .before .pre .0 .1) (c .before .before .before .before .before .before .before .before .pre .1) (a .starts) (a .ends))
+returns-2 c =
+    let a = c .before .before .before .before .before .before .before .before .args in
+    let o = c .before .before .before .before .before .machine-in .result in
+    c .walk-line .ensures ∙ ap handedOut (ap₂ (λ (s : ℕ) (ks : List ℕ). walked (machineAt (a .table .now) (o + 8) s) (lineOf ks (a .starts) (a .ends))) (c .before .before .before .row-count .ensures) (kinds-padded (a .table .now) (o + 8) (a .glyphs .now) (c .before .before .line-kinds .ensures)) ∙ a-walk (a .table .now) (a .count) (a .direction) o (c .before .before .before .before .before .machine-in .ensures .0) (c .before .before .before .before .if1 .left) (omega (arith, c .before .before .before .before .before .machine-in .ensures .1)) (c .before .before .before .before .before .before .before .before .pre .0 .0) (a .glyphs .now) (c .before .before .before .before .before .before .before .before .pre .0 .1) (c .before .before .before .before .before .before .before .before .pre .1) (a .starts) (a .ends))
 
 pub line-walk-spec : {M : Type 1} → statement M
 line-walk-spec =

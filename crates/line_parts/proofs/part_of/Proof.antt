@@ -1,40 +1,35 @@
-use mathlib.Core.Path.{sym, ap, _∙_}
+-- `line_parts::part_of` meets its contract.
+use mathlib.Core.Path.{ap, _∙_}
 use Rattle.cluster.specs.Pairs.{soughtPair}
 use Rattle.line_parts.proofs.Parts.{part-apart, part-shrinks, part-grows, small-shrink, small-grow}
 use borrow.Author.Needs.{needs}
 use Rattle.line_parts.proofs.part_of.Statement.{statement}
 use Rattle.line_parts.proofs.part_of.Tie as tie
-use Rattle.line_parts.proofs.part_of.Reads as reads
-use Rattle.line_parts.proofs.part_of.Lts as lts
-use Rattle.line_parts.proofs.part_by.Reads as part-by-reads
 
--- src/lib.rt:113:24
 enum-known-sought : tie.Need-enum-known-sought
 enum-known-sought c = search needs
 
--- src/lib.rt:114:9
 enum-told : tie.Need-enum-told
 enum-told c = search needs
 
--- src/lib.rt:114:9
 returns : tie.Need-returns
 returns c = let a = c .before .before .args in part-apart (a .size) (a .shrink) (ap soughtPair (c .enum-told .given .1))
 
--- src/lib.rt:122:9
 part-by-requires : tie.Need-part-by-requires
 part-by-requires c κs = small-shrink (c .before .before .sought .given .0 .0) (ap soughtPair (c .before .before .sought .given .1)) (c .before .before .before .before .pre)
 
--- src/lib.rt:124:9
 part-by-requires-2 : tie.Need-part-by-requires-2
 part-by-requires-2 c κs = small-grow (c .before .before .sought .given .0 .0) (ap soughtPair (c .before .before .sought .given .1)) (c .before .before .before .before .pre)
 
--- src/lib.rt:109:1
 returns-2 : tie.Need-returns-2
-returns-2 c = let a = c .before .before .before .before .before .args in c .part-by .ensures ∙ part-shrinks (a .size) (c .before .before .before .sought .given .0 .0) (c .before .if1 .taken) (ap soughtPair (c .before .before .before .sought .given .1))
+returns-2 c =
+    let a = c .before .before .before .before .before .args in
+    c .part-by .ensures ∙ part-shrinks (a .size) (c .before .before .before .sought .given .0 .0) (c .before .if1 .taken) (ap soughtPair (c .before .before .before .sought .given .1))
 
--- src/lib.rt:109:1
 returns-3 : tie.Need-returns-3
-returns-3 c = let a = c .before .before .before .before .before .args in c .part-by2 .ensures ∙ part-grows (a .size) (c .before .before .before .sought .given .0 .0) (c .before .if1 .left) (ap soughtPair (c .before .before .before .sought .given .1))
+returns-3 c =
+    let a = c .before .before .before .before .before .args in
+    c .part-by2 .ensures ∙ part-grows (a .size) (c .before .before .before .sought .given .0 .0) (c .before .if1 .left) (ap soughtPair (c .before .before .before .sought .given .1))
 
 pub part-of-spec : {M : Type 1} → statement M
 part-of-spec =

@@ -1,40 +1,35 @@
-use mathlib.Core.Path.{sym, ap, _∙_, subst}
+-- `line_parts::record_for` meets its contract.
+use mathlib.Core.Path.{sym, _∙_, subst}
 use Rattle.line_parts.specs.Parts.{Small}
 use native.Mathlib.Omega.{arith}
-use mathlib.Core.Path.{sym, ap, _∙_}
 use Rattle.table_parts.proofs.Steps.{below-at}
 use Rattle.line_parts.proofs.Parts.{record-is, record-limits}
 use borrow.Author.Needs.{needs}
 use Rattle.line_parts.proofs.record_for.Statement.{statement}
 use Rattle.line_parts.proofs.record_for.Tie as tie
-use Rattle.line_parts.proofs.record_for.Reads as reads
-use Rattle.line_parts.proofs.record_for.Lts as lts
-use Rattle.cluster.proofs.record_of.Reads as record-of-reads
-use Rattle.table_parts.proofs.cluster_spot.Reads as cluster-spot-reads
 
--- src/lib.rt:133:11
 cluster-spot-requires : tie.Need-cluster-spot-requires
 cluster-spot-requires c κs = search needs
 
--- src/lib.rt:134:18
 enum-known-at : tie.Need-enum-known-at
 enum-known-at c = search needs
 
--- src/lib.rt:134:25
 record-of-requires : tie.Need-record-of-requires
 record-of-requires c κs = omega (arith, below-at (c .before .at .given .1) (c .before .before .before .cluster-spot .ensures .1))
 
--- src/lib.rt:135:26
 enum-told : tie.Need-enum-told
 enum-told c = search needs
 
--- src/lib.rt:129:1
 returns : tie.Need-returns
-returns c = let a = c .before .before .before .before .before .before .args in let e = c .record-of .ensures ∙ record-is (a .table .now) (a .count) (a .direction) (a .glyph) (a .class) (sym (c .before .before .at .given .1) ∙ c .before .before .before .before .cluster-spot .ensures .0) in (e, subst Small (sym e) (record-limits (a .table .now) (a .count) (a .direction) (λ i. c .before .before .before .before .before .shared-slice-known .given i .fits) (c .before .before .before .before .before .before .pre) (a .glyph) (a .class)))
+returns c =
+    let a = c .before .before .before .before .before .before .args in
+    let e = c .record-of .ensures ∙ record-is (a .table .now) (a .count) (a .direction) (a .glyph) (a .class) (sym (c .before .before .at .given .1) ∙ c .before .before .before .before .cluster-spot .ensures .0) in
+    (e, subst Small (sym e) (record-limits (a .table .now) (a .count) (a .direction) (λ i. c .before .before .before .before .before .shared-slice-known .given i .fits) (c .before .before .before .before .before .before .pre) (a .glyph) (a .class)))
 
--- src/lib.rt:129:1
 returns-2 : tie.Need-returns-2
-returns-2 c = let a = c .before .before .before .before .args in (record-is (a .table .now) (a .count) (a .direction) (a .glyph) (a .class) (sym (c .enum-told .given .1) ∙ c .before .before .cluster-spot .ensures .0), tt)
+returns-2 c =
+    let a = c .before .before .before .before .args in
+    (record-is (a .table .now) (a .count) (a .direction) (a .glyph) (a .class) (sym (c .enum-told .given .1) ∙ c .before .before .cluster-spot .ensures .0), tt)
 
 pub record-for-spec : {M : Type 1} → statement M
 record-for-spec =

@@ -1,58 +1,48 @@
+-- `line_parts::share_glyphs` meets its contract.
 use mathlib.Core.Path.{sym}
 use lib.ListN.{length}
 use Rattle.share.proofs.Lines.{zeros-length}
 use borrow.Author.Needs.{needs}
 use Rattle.line_parts.proofs.share_glyphs.Statement.{statement}
 use Rattle.line_parts.proofs.share_glyphs.Tie as tie
-use Rattle.line_parts.proofs.share_glyphs.Reads as reads
-use Rattle.line_parts.proofs.share_glyphs.Lts as lts
-use Rattle.line_parts.proofs.share_parts.Reads as share-parts-reads
 
--- src/lib.rt:243:9
 array-borrow-prefix-marks : tie.Need-array-borrow-prefix-marks
 array-borrow-prefix-marks c = search needs
 
--- src/lib.rt:243:9
 slice-aggregate-share-parts : tie.Need-slice-aggregate-share-parts
 slice-aggregate-share-parts c = zeros-length 1024 (length (c .before .before .before .before .args .glyphs .now)) (c .before .before .before .before .pre .1 .2)
 
--- src/lib.rt:244:9
 array-borrow-prefix-extras : tie.Need-array-borrow-prefix-extras
 array-borrow-prefix-extras c = search needs
 
--- src/lib.rt:244:9
 slice-aggregate-share-parts-2 : tie.Need-slice-aggregate-share-parts-2
 slice-aggregate-share-parts-2 c = zeros-length 1024 (length (c .before .before .before .before .before .args .glyphs .now)) (c .before .before .before .before .before .pre .1 .2)
 
--- src/lib.rt:245:9
 array-borrow-prefix-first : tie.Need-array-borrow-prefix-first
 array-borrow-prefix-first c = search needs
 
--- src/lib.rt:245:9
 slice-aggregate-share-parts-3 : tie.Need-slice-aggregate-share-parts-3
 slice-aggregate-share-parts-3 c = zeros-length 1024 (length (c .before .before .before .before .before .before .args .glyphs .now)) (c .before .before .before .before .before .before .pre .1 .2)
 
--- src/lib.rt:246:9
 array-borrow-prefix-second : tie.Need-array-borrow-prefix-second
 array-borrow-prefix-second c = search needs
 
--- src/lib.rt:246:9
 slice-aggregate-share-parts-4 : tie.Need-slice-aggregate-share-parts-4
 slice-aggregate-share-parts-4 c = zeros-length 1024 (length (c .before .before .before .before .before .before .before .args .glyphs .now)) (c .before .before .before .before .before .before .before .pre .1 .2)
 
--- src/lib.rt:234:5
 share-parts-requires : tie.Need-share-parts-requires
-share-parts-requires c κs = let p = c .before .before .before .before .before .before .before .before .before .pre in let n = length (c .before .before .before .before .before .before .before .before .before .args .glyphs .now) in let z = sym (zeros-length 1024 n (p .1 .2)) in (p .0, (record { marks = z; extras = z; first = z; second = z }, p .1))
+share-parts-requires c κs =
+    let p = c .before .before .before .before .before .before .before .before .before .pre in
+    let n = length (c .before .before .before .before .before .before .before .before .before .args .glyphs .now) in
+    let z = sym (zeros-length 1024 n (p .1 .2)) in
+    (p .0, (record { marks = z; extras = z; first = z; second = z }, p .1))
 
--- src/lib.rt:213:1
 same-length : tie.Need-same-length
 same-length c = search needs
 
--- src/lib.rt:213:1
 same-length-2 : tie.Need-same-length-2
 same-length-2 c = search needs
 
--- src/lib.rt:213:1
 returns : tie.Need-returns
 returns c = search needs
 

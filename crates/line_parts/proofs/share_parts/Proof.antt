@@ -1,10 +1,9 @@
+-- `line_parts::share_parts` meets its contract.
 use native.Mathlib.Omega.{arith}
 use mir.Syntax.{w32}
 use mir.ValLaws.{toZ-ofZ}
-use lib.ListN.{length}
-use Prim.Native.Nat.{ℕ}
 use mathlib.Core.List.{List}
-use mathlib.Core.Path.{_≡_, sym, ap, _∙_}
+use mathlib.Core.Path.{ap, _∙_}
 use Rattle.share.specs.Line.{Glyph, lineFits, lineLeft, signedOf}
 use Rattle.table.specs.Means.{meaningOf}
 use Rattle.meaning.specs.Ask.{sideOf}
@@ -14,76 +13,72 @@ use Rattle.line_parts.proofs.Sharing.{laid-lent, laid-parts, laid-marks
 use borrow.Author.Needs.{needs}
 use Rattle.line_parts.proofs.share_parts.Statement.{statement}
 use Rattle.line_parts.proofs.share_parts.Tie as tie
-use Rattle.line_parts.proofs.share_parts.Reads as reads
-use Rattle.line_parts.proofs.share_parts.Lts as lts
-use Rattle.line_parts.proofs.lay_parts.Reads as lay-parts-reads
-use Rattle.share.proofs.share_line.Reads as share-line-reads
-use Rattle.share.proofs.signed.Reads as signed-reads
-use Rattle.share.proofs.totals_fit.Reads as totals-fit-reads
 
--- src/lib.rt:192:5
 lay-parts-requires : tie.Need-lay-parts-requires
 lay-parts-requires c κs = search needs
 
--- src/lib.rt:205:8
 totals-fit-requires : tie.Need-totals-fit-requires
 totals-fit-requires c κs = laid-parts (c .before .before .before .before .before .before .before .before .before .before .before .lay-parts .ensures)
 
--- src/lib.rt:206:13
 share-line-requires : tie.Need-share-line-requires
-share-line-requires c κs = let a = c .before .before .before .before .before .before .before .before .before .before .before .before .before .before .before .before .before .before .before .before .before .before .before .before .before .before .before .before .before .before .before .args in let p = c .before .before .before .before .before .before .before .before .before .before .before .before .before .before .before .before .before .before .before .before .before .before .before .before .before .before .before .before .before .before .before .pre in let w = c .before .before .before .before .before .before .before .before .before .before .before .before .before .before .before .before .before .before .before .lay-parts .ensures in let q = parts-length (sideOf (a .direction) (meaningOf (a .table .now) (a .count))) (a .shrink) (a .size) (a .glyphs .now) (a .classes .now) (p .0 .1) in let m = laid-marks w in (laid-lent w (omega (arith, p .1 .1 .2)), ((omega (arith, p .1 .1 .0), omega (arith, p .1 .1 .1)), (p .1 .1 .3, ap lineFits (laid-glyphs w) ∙ laid-fits w (c .before .before .before .before .before .before .before .totals-fit .ensures) ∙ c .before .before .before .before .before .before .if1 .taken)))
+share-line-requires c κs =
+    let a = c .before .before .before .before .before .before .before .before .before .before .before .before .before .before .before .before .before .before .before .before .before .before .before .before .before .before .before .before .before .before .before .args in
+    let p = c .before .before .before .before .before .before .before .before .before .before .before .before .before .before .before .before .before .before .before .before .before .before .before .before .before .before .before .before .before .before .before .pre in
+    let w = c .before .before .before .before .before .before .before .before .before .before .before .before .before .before .before .before .before .before .before .lay-parts .ensures in
+    let q = parts-length (sideOf (a .direction) (meaningOf (a .table .now) (a .count))) (a .shrink) (a .size) (a .glyphs .now) (a .classes .now) (p .0 .1) in
+    let m = laid-marks w in
+    (laid-lent w (omega (arith, p .1 .1 .2)), ((omega (arith, p .1 .1 .0), omega (arith, p .1 .1 .1)), (p .1 .1 .3, ap lineFits (laid-glyphs w) ∙ laid-fits w (c .before .before .before .before .before .before .before .totals-fit .ensures) ∙ c .before .before .before .before .before .before .if1 .taken)))
 
--- src/lib.rt:207:29
 signed-requires : tie.Need-signed-requires
-signed-requires c κs = let a = c .before .before .before .before .before .before .before .before .before .before .before .before .before .before .before .before .before .before .before .before .before .before .before .before .before .before .before .before .before .before .before .before .before .before .args in let p = c .before .before .before .before .before .before .before .before .before .before .before .before .before .before .before .before .before .before .before .before .before .before .before .before .before .before .before .before .before .before .before .before .before .before .pre in let w = c .before .before .before .before .before .before .before .before .before .before .before .before .before .before .before .before .before .before .before .before .before .before .lay-parts .ensures in let e = c .before .before .share-line .ensures .0 ∙ ap (λ (x : List Glyph). lineLeft x (a .gap)) (laid-glyphs w) in omega (arith, p .1 .1 .3, left-small (partsOf (sideOf (a .direction) (meaningOf (a .table .now) (a .count))) (a .shrink) (a .size) (a .glyphs .now) (a .classes .now)) (a .gap))
+signed-requires c κs =
+    let a = c .before .before .before .before .before .before .before .before .before .before .before .before .before .before .before .before .before .before .before .before .before .before .before .before .before .before .before .before .before .before .before .before .before .before .args in
+    let p = c .before .before .before .before .before .before .before .before .before .before .before .before .before .before .before .before .before .before .before .before .before .before .before .before .before .before .before .before .before .before .before .before .before .before .pre in
+    let w = c .before .before .before .before .before .before .before .before .before .before .before .before .before .before .before .before .before .before .before .before .before .before .lay-parts .ensures in
+    let e = c .before .before .share-line .ensures .0 ∙ ap (λ (x : List Glyph). lineLeft x (a .gap)) (laid-glyphs w) in
+    omega (arith, p .1 .1 .3, left-small (partsOf (sideOf (a .direction) (meaningOf (a .table .now) (a .count))) (a .shrink) (a .size) (a .glyphs .now) (a .classes .now)) (a .gap))
 
--- src/lib.rt:207:9
 same-length : tie.Need-same-length
 same-length c = search needs
 
--- src/lib.rt:207:9
 same-length-2 : tie.Need-same-length-2
 same-length-2 c = search needs
 
--- src/lib.rt:207:9
 same-length-3 : tie.Need-same-length-3
 same-length-3 c = search needs
 
--- src/lib.rt:207:9
 same-length-4 : tie.Need-same-length-4
 same-length-4 c = search needs
 
--- src/lib.rt:207:9
 same-length-5 : tie.Need-same-length-5
 same-length-5 c = search needs
 
--- src/lib.rt:207:9
 same-length-6 : tie.Need-same-length-6
 same-length-6 c = search needs
 
--- src/lib.rt:207:9
 returns : tie.Need-returns
-returns c = let a = c .before .before .before .before .before .before .before .before .before .before .before .before .before .before .before .before .before .before .before .before .before .before .before .before .before .before .before .before .before .before .before .before .before .before .before .args in let w = c .before .before .before .before .before .before .before .before .before .before .before .before .before .before .before .before .before .before .before .before .before .before .before .lay-parts .ensures in let e = c .before .before .before .share-line .ensures in shared-left (a .shrink) (a .gap) _ _ (laid-glyphs w) (a .before .now) (a .after .now) (laid-fits w (c .before .before .before .before .before .before .before .before .before .before .before .totals-fit .ensures) ∙ c .before .before .before .before .before .before .before .before .before .before .if1 .taken) (toZ-ofZ w32 (c .signed .result) (record { sfits = c .signed .ok }) ∙ c .signed .ensures ∙ ap (signedOf (a .shrink)) (e .0)) (e .1 .0) (e .1 .1)
+returns c =
+    let a = c .before .before .before .before .before .before .before .before .before .before .before .before .before .before .before .before .before .before .before .before .before .before .before .before .before .before .before .before .before .before .before .before .before .before .before .args in
+    let w = c .before .before .before .before .before .before .before .before .before .before .before .before .before .before .before .before .before .before .before .before .before .before .before .lay-parts .ensures in
+    let e = c .before .before .before .share-line .ensures in
+    shared-left (a .shrink) (a .gap) _ _ (laid-glyphs w) (a .before .now) (a .after .now) (laid-fits w (c .before .before .before .before .before .before .before .before .before .before .before .totals-fit .ensures) ∙ c .before .before .before .before .before .before .before .before .before .before .if1 .taken) (toZ-ofZ w32 (c .signed .result) (record { sfits = c .signed .ok }) ∙ c .signed .ensures ∙ ap (signedOf (a .shrink)) (e .0)) (e .1 .0) (e .1 .1)
 
--- src/lib.rt:171:1
 same-length-7 : tie.Need-same-length-7
 same-length-7 c = search needs
 
--- src/lib.rt:171:1
 same-length-8 : tie.Need-same-length-8
 same-length-8 c = search needs
 
--- src/lib.rt:171:1
 same-length-9 : tie.Need-same-length-9
 same-length-9 c = search needs
 
--- src/lib.rt:171:1
 same-length-10 : tie.Need-same-length-10
 same-length-10 c = search needs
 
--- src/lib.rt:171:1
 returns-2 : tie.Need-returns-2
-returns-2 c = let a = c .before .before .before .before .before .before .before .before .before .before .before .before .before .before .before .before .before .before .before .before .before .before .before .before .before .args in let w = c .before .before .before .before .before .before .before .before .before .before .before .before .before .lay-parts .ensures in shared-over (a .shrink) (a .gap) _ (a .before .now) (a .after .now) (laid-fits w (c .before .totals-fit .ensures) ∙ c .if1 .left)
+returns-2 c =
+    let a = c .before .before .before .before .before .before .before .before .before .before .before .before .before .before .before .before .before .before .before .before .before .before .before .before .before .args in
+    let w = c .before .before .before .before .before .before .before .before .before .before .before .before .before .lay-parts .ensures in
+    shared-over (a .shrink) (a .gap) _ (a .before .now) (a .after .now) (laid-fits w (c .before .totals-fit .ensures) ∙ c .if1 .left)
 
 pub share-parts-spec : {M : Type 1} → statement M
 share-parts-spec =
