@@ -1,4 +1,4 @@
-/* just: 'just' tables, read and proved.
+/* just: 'just' tables and their sheets, read and proved. Justifying a line and writing a sheet are not here yet.
  *
  * Bytes are lent: a pointer and a length, nothing is kept, nothing is freed, and a call writes only where a comment says so.
  * A pointer of length 0 may be any pointer but NULL. A refusal is the number of a just_refusal, 0 where there is none; what
@@ -132,6 +132,20 @@ struct just_action_answer just_table_action(const uint8_t *table, size_t length,
 /* Where the component list of a type 0 action stands in the table; length 0 where there is none. Never refuses. */
 struct just_stretch just_table_components(const uint8_t *table, size_t length, uint32_t glyphs, uint32_t direction,
                                           uint16_t glyph, uint16_t number);
+
+/* Whether bytes are a sheet: 0, or 17. */
+uint32_t just_check_sheet(const uint8_t *sheet, size_t length);
+
+/* The parts of a sheet's meaning, one at a time; the bytes are judged first each time. */
+struct just_count_answer just_sheet_count(const uint8_t *sheet, size_t length);
+struct just_sizes_answer just_sheet_sizes(const uint8_t *sheet, size_t length, uint32_t direction);
+struct just_class_answer just_sheet_class(const uint8_t *sheet, size_t length, uint32_t direction, uint16_t glyph);
+struct just_cell_answer just_sheet_cell(const uint8_t *sheet, size_t length, uint32_t direction, uint16_t row,
+                                        uint16_t just_class);
+struct just_record_answer just_sheet_record(const uint8_t *sheet, size_t length, uint32_t direction, uint16_t glyph,
+                                            uint8_t just_class);
+struct just_action_answer just_sheet_action(const uint8_t *sheet, size_t length, uint32_t direction, uint16_t glyph,
+                                            uint16_t number);
 
 #ifdef __cplusplus
 }
