@@ -1,3 +1,4 @@
 pub mod Steps
 pub mod Copies
 pub mod Laws
+pub mod Clear

@@ -1,8 +1,11 @@
 // An action list (document 01, "The table"): a 32-bit count, 0 to 64, then actions that say their own lengths: class,
 // type, length, data. Here: its first fault, where an action of it stands, and what is read from an action.
 ghost use mathlib.Core.Path.{_≡_};
-ghost use Prim.Native.Nat.{_≤_, _<_, _^_};
+ghost use mathlib.Core.Bool.{true};
+ghost use Prim.Native.Nat.{_+_, _≤_, _<_, _^_};
 ghost use lib.ListN.{length, take};
+ghost use Rattle.fields.specs.declared.Fault.the-variants.{Clear};
+ghost use Rattle.fields.specs.Field.{u32At};
 ghost use Rattle.meaning.specs.Ask.{held};
 ghost use Rattle.actions.specs.Faults.{glyphFault, addedFault, countFault, glyphsFault, type0Fault, type2Fault, type4Fault, type5Fault, dataFault, dataSize, lengthFault, actionFault, actionsFault, listFault};
 ghost use Rattle.actions.specs.Actions.{bytesAt, contentAt, actionAt, placeAfter, placeOf, Below, componentsAt, padded, clipped};
@@ -144,7 +147,7 @@ fn data_fault(table: &[u8], glyphs: usize, at: usize, kind: usize) -> Fault
 }
 
 // How many bytes of data a type has, type 0's glyphs left out.
-fn data_size(kind: usize) -> usize
+pub fn data_size(kind: usize) -> usize
     ensures { λ r. ⌜ (r ≡ dataSize kind) × (r ≤ 16) ⌝ }
 {
     if kind == 0 {
@@ -215,6 +218,149 @@ fn actions_fault(table: &[u8], glyphs: usize, first: usize, count: usize) -> Fau
     Fault::Clear
 }
 
+// Whether the glyph at `at` is seen to be without fault.
+fn glyph_is_clear(table: &[u8], glyphs: usize, at: usize) -> bool
+    requires { ⌜ at ≤ length (now table) + 2 ^ 32 ⌝ }
+    ensures { λ r. ⌜ (r ≡ true → glyphFault (now (table .entry)) glyphs at ≡ Clear) ⌝ }
+{
+    if table.len() < at + 2 {
+        return false;
+    }
+    fields::u16_at(table, at) < glyphs
+}
+
+// Whether `count` glyphs from `first` on are.
+fn glyphs_are_clear(table: &[u8], glyphs: usize, first: usize, count: usize) -> bool
+    requires { ⌜ first ≤ length (now table) ⌝ }
+    ensures { λ r. ⌜ (r ≡ true → glyphsFault (now (table .entry)) glyphs count first ≡ Clear) ⌝ }
+{
+    let mut at = first;
+    let mut left = count;
+    while 0 < left {
+        if !glyph_is_clear(table, glyphs, at) {
+            return false;
+        }
+        at += 2;
+        left -= 1;
+    }
+    true
+}
+
+// Whether the data of the type 0 action at `at` is, in the action's length, `size`.
+fn type0_is_clear(table: &[u8], glyphs: usize, at: usize, size: usize) -> bool
+    requires { ⌜ (at + 8 ≤ length (now table)) × (size ≡ u32At (now table) (at + 4)) ⌝ }
+    ensures { λ r. ⌜ (r ≡ true → (20 ≤ size) × (type0Fault (now (table .entry)) glyphs at ≡ Clear)) ⌝ }
+{
+    if table.len() < at + 20 {
+        return false;
+    }
+    let count = fields::u16_at(table, at + 18);
+    if count < 1 {
+        return false;
+    }
+    if 32 < count {
+        return false;
+    }
+    if size < 20 + 2 * count {
+        return false;
+    }
+    glyphs_are_clear(table, glyphs, at + 20, count)
+}
+
+fn type2_is_clear(table: &[u8], glyphs: usize, at: usize) -> bool
+    requires { ⌜ at + 8 ≤ length (now table) ⌝ }
+    ensures { λ r. ⌜ (r ≡ true → type2Fault (now (table .entry)) glyphs at ≡ Clear) ⌝ }
+{
+    if !glyph_is_clear(table, glyphs, at + 14) {
+        return false;
+    }
+    let added = fields::u16_at(table, at + 12);
+    if added == 65535 {
+        return true;
+    }
+    added < glyphs
+}
+
+// Whether the action's length, `size`, and the data of its type, 0 to 5, are.
+fn data_is_clear(table: &[u8], glyphs: usize, at: usize, kind: usize, size: usize) -> bool
+    requires { ⌜ (at + 8 ≤ length (now table)) × (size ≡ u32At (now table) (at + 4)) ⌝ }
+    ensures { λ r. ⌜ (r ≡ true → (8 + dataSize kind ≤ size) × (dataFault (now (table .entry)) glyphs at kind ≡ Clear)) ⌝ }
+{
+    if kind == 0 {
+        return type0_is_clear(table, glyphs, at, size);
+    }
+    if kind == 1 {
+        if size < 10 {
+            return false;
+        }
+        return glyph_is_clear(table, glyphs, at + 8);
+    }
+    if kind == 2 {
+        if size < 16 {
+            return false;
+        }
+        return type2_is_clear(table, glyphs, at);
+    }
+    if kind == 3 {
+        return 8 <= size;
+    }
+    if kind == 4 {
+        if size < 24 {
+            return false;
+        }
+        return at + 24 <= table.len();
+    }
+    if size < 12 {
+        return false;
+    }
+    glyph_is_clear(table, glyphs, at + 10)
+}
+
+// Where the action at `at` ends, where it is seen to be without fault; else 0.
+fn clear_end(table: &[u8], glyphs: usize, at: usize) -> usize
+    requires { ⌜ at ≤ length (now table) + 2 ^ 32 ⌝ }
+    ensures { λ r. ⌜ (0 < r → (actionFault (now (table .entry)) glyphs at ≡ Clear) × (r ≡ at + u32At (now (table .entry)) (at + 4)) × (r ≤ length (now (table .entry)) + 2 ^ 32)) ⌝ }
+{
+    if table.len() < at + 8 {
+        return 0;
+    }
+    let class = fields::u16_at(table, at);
+    let kind = fields::u16_at(table, at + 2);
+    let size = fields::u32_at(table, at + 4);
+    if 127 < class {
+        return 0;
+    }
+    if 5 < kind {
+        return 0;
+    }
+    if !data_is_clear(table, glyphs, at, kind, size) {
+        return 0;
+    }
+    // The length is a multiple of 4.
+    let end = at + size;
+    if end % 4 != at % 4 {
+        return 0;
+    }
+    end
+}
+
+// Whether `count` actions from `first` on are seen to be without fault: most are, and a chain of fields is slower.
+fn actions_are_clear(table: &[u8], glyphs: usize, first: usize, count: usize) -> bool
+    requires { ⌜ first ≤ length (now table) ⌝ }
+    ensures { λ r. ⌜ (r ≡ true → actionsFault (now (table .entry)) glyphs count first ≡ Clear) ⌝ }
+{
+    let mut at = first;
+    let mut left = count;
+    while 0 < left {
+        at = clear_end(table, glyphs, at);
+        if at == 0 {
+            return false;
+        }
+        left -= 1;
+    }
+    true
+}
+
 // The first fault of the list at `at`, in a table read with `glyphs` glyphs.
 pub fn list_fault(table: &[u8], glyphs: usize, at: usize) -> Fault
     ensures { λ r. ⌜ r ≡ listFault (now (table .entry)) glyphs at ⌝ }
@@ -229,6 +375,9 @@ pub fn list_fault(table: &[u8], glyphs: usize, at: usize) -> Fault
             refusal: Refusal::BadActions,
             at,
         };
+    }
+    if actions_are_clear(table, glyphs, at + 4, count) {
+        return Fault::Clear;
     }
     actions_fault(table, glyphs, at + 4, count)
 }

@@ -1,5 +1,7 @@
 // The answers to the questions that a table and a sheet can be asked (document 01, "The sheet"): the part, or
 // nothing, or a refusal. specs/Says.antt gives what each case says.
+ghost use mathlib.Core.Path.{_≡_};
+ghost use Rattle.answers.specs.Says.{noAction};
 use fields::Refusal;
 use parts::Entry;
 use parts::HeldAction;
@@ -56,4 +58,19 @@ pub enum Sought {
 pub struct ActionAnswer {
     pub sought: Sought,
     pub action: HeldAction,
+}
+
+// An answer without an action: all zeros stand in its place.
+pub fn no_action(sought: Sought) -> ActionAnswer
+    ensures { λ r. ⌜ r ≡ record { sought = sought; action = noAction } ⌝ }
+{
+    ActionAnswer {
+        sought,
+        action: HeldAction {
+            class: 0,
+            kind: 0,
+            size: 0,
+            bytes: [0u8; 76],
+        },
+    }
 }

@@ -90,7 +90,7 @@ module _ (t : List ℕ) where
   unfolding pairFault
   pair-rises at least e = class-rises at least (then-first _ _ e)
 
-  pair-inside : (at least : ℕ) → pairFault t at least ≡ Clear → at + 24 ≤ length t
+  pub pair-inside : (at least : ℕ) → pairFault t at least ≡ Clear → at + 24 ≤ length t
   unfolding pairFault
   pair-inside at least e =
       omega (arith, flags-inside (at + 22) (then-second _ _ (then-second _ _ (then-second _ _ (then-second _ _ (then-second _ _ (then-second _ _ e)))))))

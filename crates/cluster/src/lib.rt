@@ -1,7 +1,10 @@
 // A width cluster (document 01, "The table"): a 32-bit count, 1 to 128, then pairs of 24 bytes: class, before grow,
 // before shrink, after grow, after shrink, grow flags, shrink flags. Here: its first fault, and what is read from it.
 ghost use mathlib.Core.Path.{_≡_};
-ghost use Prim.Native.Nat.{_+_, _*_, _<_, _^_};
+ghost use mathlib.Core.Bool.{true};
+ghost use Prim.Native.Nat.{_+_, _*_, _≤_, _<_, _^_};
+ghost use lib.ListN.{length};
+ghost use Rattle.fields.specs.declared.Fault.the-variants.{Clear};
 ghost use Rattle.fields.specs.Field.{u16At, u32At};
 ghost use Rattle.units.specs.Fixed.{fixedSize};
 ghost use Rattle.units.specs.Flags.{keptFlags};
@@ -141,6 +144,71 @@ fn pairs_fault(table: &[u8], first: usize, count: usize) -> Fault
     Fault::Clear
 }
 
+// Whether the limits at `at`, grow and then shrink, are seen to be without fault.
+fn limits_are_clear(table: &[u8], at: usize) -> bool
+    requires { ⌜ at + 8 ≤ length (now table) ⌝ }
+    ensures { λ r. ⌜ (r ≡ true → (growFault (now (table .entry)) at ≡ Clear) × (shrinkFault (now (table .entry)) (at + 4) ≡ Clear)) ⌝ }
+{
+    if 1048576 < fixed_at(table, at) {
+        return false;
+    }
+    size_at(table, at + 4) <= 1048576
+}
+
+// Whether the flags at `at`, grow and then shrink, are.
+fn flags_are_clear(table: &[u8], at: usize) -> bool
+    requires { ⌜ at + 4 ≤ length (now table) ⌝ }
+    ensures { λ r. ⌜ (r ≡ true → (flagsFault (now (table .entry)) at ≡ Clear) × (flagsFault (now (table .entry)) (at + 2) ≡ Clear)) ⌝ }
+{
+    if 3 < units::priority(flags_at(table, at)) {
+        return false;
+    }
+    units::priority(flags_at(table, at + 2)) <= 3
+}
+
+// The least class that may follow the pair at `at`, where that pair is seen to be without fault; else 0.
+fn clear_least(table: &[u8], at: usize, least: u32) -> u32
+    requires { ⌜ at ≤ length (now table) ⌝ }
+    ensures { λ r. ⌜ (0 < r → (pairFault (now (table .entry)) at least ≡ Clear) × (r ≡ classAt (now (table .entry)) at + 1)) ⌝ }
+{
+    if table.len() - at < 24 {
+        return 0;
+    }
+    let class = class_at(table, at);
+    if class < least {
+        return 0;
+    }
+    if !limits_are_clear(table, at + 4) {
+        return 0;
+    }
+    if !limits_are_clear(table, at + 12) {
+        return 0;
+    }
+    if !flags_are_clear(table, at + 20) {
+        return 0;
+    }
+    class + 1
+}
+
+// Whether `count` pairs from `first` on are seen to be without fault: most are, and a chain of fields is slower.
+fn pairs_are_clear(table: &[u8], first: usize, count: usize) -> bool
+    requires { ⌜ first ≤ length (now table) ⌝ }
+    ensures { λ r. ⌜ (r ≡ true → pairsFault (now (table .entry)) count first 0 ≡ Clear) ⌝ }
+{
+    let mut at = first;
+    let mut least: u32 = 0;
+    let mut left = count;
+    while 0 < left {
+        least = clear_least(table, at, least);
+        if least == 0 {
+            return false;
+        }
+        at += 24;
+        left -= 1;
+    }
+    true
+}
+
 // The first fault of the cluster at `at`.
 pub fn cluster_fault(table: &[u8], at: usize) -> Fault
     ensures { λ r. ⌜ r ≡ clusterFault (now (table .entry)) at ⌝ }
@@ -161,6 +229,9 @@ pub fn cluster_fault(table: &[u8], at: usize) -> Fault
             refusal: Refusal::BadCluster,
             at,
         };
+    }
+    if pairs_are_clear(table, at + 4, count) {
+        return Fault::Clear;
     }
     pairs_fault(table, at + 4, count)
 }

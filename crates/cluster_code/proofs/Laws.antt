@@ -1,5 +1,5 @@
 -- Pairs one after the other, and the bytes of a cluster.
-use Prim.Native.Nat.{ℕ, zero, suc, _+_, _-_, _*_, _≤_, _<_}
+use Prim.Native.Nat.{ℕ, zero, suc, _+_, _-_, _*_, _%_, _≤_, _<_}
 use mathlib.Core.Path.{_≡_, refl, sym, ap, ap₂, _∙_}
 use mathlib.Core.Bool.{Bool, true, false}
 use mathlib.Core.List.{List, [], _∷_, _++_, head-eq-of-cons-eq, tail-eq-of-cons-eq}
@@ -10,9 +10,10 @@ use Rattle.lists.specs.Codes.{many, counted}
 use Rattle.lists.proofs.CodeLaws.{many-length}
 use Rattle.parts.specs.declared.Pair.{Pair}
 use Rattle.meaning.specs.Sheet.{pairCode}
-use Rattle.section.specs.Section.{Says}
+use Rattle.lists.specs.Tests.{Says}
 use Rattle.cluster.specs.Pairs.{pairAt, pairsAt, clusterAt}
 use Rattle.cluster.proofs.Laws.{pairs-length, cluster-length}
+use Rattle.cluster_code.specs.Print.{pairPrint, pairsPrint}
 
 module _ (t : List ℕ) where
   pub pairs-cons : (n at : ℕ) → 0 < n → pairsAt t n at ≡ pairAt t at ∷ pairsAt t (n - 1) (at + 24)
@@ -48,3 +49,20 @@ module _ (t : List ℕ) where
 pub same-flagged : (r : Bool) (x y : Pair) → x .class ≡ y .class → x .before ≡ y .before → x .after ≡ y .after → Says r (x .flags ≡ y .flags) → Says r (x ≡ y)
 same-flagged true x y c b a f = λ i. record { class = c i; before = b i; after = a i; flags = f i }
 same-flagged false x y c b a f = λ e. f (ap (λ (p : Pair). p .flags) e)
+
+-- ---- the number of a cluster
+
+module _ (t : List ℕ) where
+  pub print-more : (n at print w : ℕ) → 0 < n → w ≡ pairPrint (pairAt t at)
+      → pairsPrint ((31 * print + w) % 1021) (pairsAt t (n - 1) (at + 24)) ≡ pairsPrint print (pairsAt t n at)
+  unfolding pairsPrint
+  print-more n at print w h e =
+      ap (λ (k : ℕ). pairsPrint ((31 * print + k) % 1021) (pairsAt t (n - 1) (at + 24))) e ∙ ap (pairsPrint print) (sym (pairs-cons t n at h))
+
+  pub print-none : (n at print : ℕ) → n ≤ 0 → pairsPrint print (pairsAt t n at) ≡ print
+  unfolding pairsPrint
+  print-none n at print h = ap (pairsPrint print) (pairs-none t n at h)
+
+  pub print-all : (at n : ℕ) → n ≡ u32At t at → pairsPrint 0 (pairsAt t n (at + 4)) ≡ pairsPrint 0 (clusterAt t at)
+  unfolding clusterAt
+  print-all at n e = ap (λ (k : ℕ). pairsPrint 0 (pairsAt t k (at + 4))) e

@@ -1,5 +1,6 @@
 // A width cluster of a table as the sheet writes it (document 01, "The sheet", section 5): how many bytes it takes,
-// whether two positions hold the same one, and storing it into lent bytes. Two clusters are the same when they are
+// whether two positions hold the same one, a number that tells where to look for it, and storing it into lent bytes.
+// Two clusters are the same when they are
 // written alike, whatever their ignored bits and the signs of their shrink limits.
 ghost use mathlib.Core.Path.{_≡_};
 ghost use mathlib.Core.List.{_++_};
@@ -9,8 +10,9 @@ ghost use lib.Seq.{sets};
 ghost use Rattle.fields.specs.Field.{be16, be32};
 ghost use Rattle.lists.specs.Codes.{many, counted};
 ghost use Rattle.meaning.specs.Sheet.{pairCode};
-ghost use Rattle.section.specs.Section.{Says};
+ghost use Rattle.lists.specs.Tests.{Says};
 ghost use Rattle.cluster.specs.Pairs.{pairsAt, clusterAt};
+ghost use Rattle.cluster_code.specs.Print.{pairPrint, pairsPrint};
 use parts::Flags;
 use parts::Limits;
 use parts::Pair;
@@ -90,6 +92,30 @@ pub fn same_cluster(table: &[u8], first: u16, second: u16) -> bool
     } else {
         false
     }
+}
+
+fn pair_print(pair: Pair) -> usize
+    ensures { λ r. ⌜ (r ≡ pairPrint pair) × (r < 2 ^ 38) ⌝ }
+{
+    let before = pair.before.grow as usize + 3 * (pair.before.shrink as usize);
+    let after = 5 * (pair.after.grow as usize) + 7 * (pair.after.shrink as usize);
+    let flags = 11 * (pair.flags.grow as usize) + 13 * (pair.flags.shrink as usize);
+    17 * (pair.class as usize) + before + after + flags
+}
+
+// A number below 1,021 for the cluster at a position, the same for the same clusters.
+pub fn cluster_print(table: &[u8], at: u16) -> usize
+    ensures { λ r. ⌜ (r ≡ pairsPrint 0 (clusterAt (now (table .entry)) at)) × (r < 1021) ⌝ }
+{
+    let mut left = fields::u32_at(table, at as usize);
+    let mut first = at as usize + 4;
+    let mut print: usize = 0;
+    while 0 < left {
+        print = (31 * print + pair_print(cluster::pair_at(table, first))) % 1021;
+        first += 24;
+        left -= 1;
+    }
+    print
 }
 
 // How many bytes the cluster at a position is written in.

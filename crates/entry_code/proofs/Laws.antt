@@ -12,6 +12,7 @@ use Rattle.lists.specs.Distinct.{index, distinct, numbers}
 use Rattle.lists.specs.Sections.{byte}
 use Rattle.lists.proofs.DistinctLaws.{index-le, index-append, index-new}
 use Rattle.lists.proofs.UptoLaws.{length-from, getD-upto}
+use Rattle.lists.proofs.SectionLaws.{many-byte}
 use Rattle.number.proofs.Laws.{map-length, map-drop, map-more, step-old, step-new}
 use Rattle.parts.specs.declared.Entry.{Entry}
 use Rattle.meaning.specs.Discrete.{Entry-discrete}
@@ -209,10 +210,6 @@ cells-length : (sheet cells : List ℕ) → length (cellBytes sheet cells) ≡ l
 unfolding cellBytes
 cells-length sheet cells = map-length (λ (q : ℕ). getD sheet q 0 - 1) cells
 
-many-byte : (l : List ℕ) → many byte l ≡ l
-many-byte [] = refl
-many-byte (x ∷ l) = ap (λ (r : List ℕ). x ∷ r) (many-byte l)
-
 numbers-length : {A : Type 0} (eq : Discrete A) (D xs : List A) → length (numbers eq D xs) ≡ length xs
 numbers-length eq D [] = refl
 numbers-length eq D (x ∷ xs) = ap suc (numbers-length eq D xs)
@@ -238,7 +235,7 @@ module _ (t : List ℕ) (here n : ℕ) (firsts sheet : List ℕ) (k : ℕ) (w : 
       let cells = storedAt t here n in
       let D = distinct Entry-discrete [] (map f cells) in
       let d : map f firsts ≡ D = ap (map f) (sym (ap (λ (j : ℕ). take j firsts) l ∙ take-length firsts)) ∙ sym (w .found) in
-      let ns = numbers-cells Entry-discrete f D sheet cells (λ j h. w .each j (subst (λ (m : ℕ). j < m) (stored-length t here n) h)) in
+      let ns = numbers-cells Entry-discrete f D sheet cells (λ j h. omega (arith, w .each j (subst (λ (m : ℕ). j < m) (stored-length t here n) h))) in
       let c : be32 n ++ map (λ (q : ℕ). getD sheet q 0 - 1) cells ≡ counted byte (numbers Entry-discrete D (map f cells)) =
       ap₂ (λ (m : ℕ) (b : List ℕ). be32 m ++ b)
       (sym (numbers-length Entry-discrete D (map f cells) ∙ map-length f cells ∙ stored-length t here n))

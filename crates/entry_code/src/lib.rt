@@ -9,7 +9,7 @@ ghost use Rattle.lists.specs.Codes.{many};
 ghost use Rattle.lists.specs.Distinct.{index};
 ghost use Rattle.meaning.specs.Discrete.{Entry-discrete};
 ghost use Rattle.meaning.specs.Sheet.{entryCode};
-ghost use Rattle.section.specs.Section.{Says};
+ghost use Rattle.lists.specs.Tests.{Says};
 ghost use Rattle.machine.specs.Cells.{classCount, entryAt};
 ghost use Rattle.entry_code.specs.Entries.{storedAt, entriesOf, entryBytes, Numbered, cellBytes, Covers};
 use parts::Entry;
@@ -87,13 +87,25 @@ fn number_entries(
     k
 }
 
+// An entry's flags, put together again from their parts.
+fn together(flags: u16) -> u16
+    ensures { λ r. ⌜ r ≡ flags ⌝ }
+{
+    let sets_mark = units::sets_mark(flags);
+    let stays = units::stays_put(flags);
+    let mark = units::mark_class(flags);
+    let current = units::current_class(flags);
+    units::entry_flags(sets_mark, stays, mark, current)
+}
+
 // Stores an entry.
 fn put_entry(out: &mut [u8], to: usize, entry: Entry)
     requires { ⌜ to < 2 ^ 62 ⌝ }
     ensures { λ r. ⌜ now (out .exit) ≡ sets (now (out .entry)) to (entryCode entry) ⌝ }
 {
+    let flags = together(entry.flags);
     fields::put_u16(out, to, entry.row);
-    fields::put_u16(out, to + 2, entry.flags);
+    fields::put_u16(out, to + 2, flags);
 }
 
 // Stores the entries of these stored numbers.
@@ -150,17 +162,6 @@ fn put_numbered(
     fields::put_u32(out, at, count as u32);
     put_cells(table, here, count, sheet, out, at + 4);
     at + 4 + count
-}
-
-// How many bytes sections 3 and 4 take, for `count` cells.
-pub fn entries_size(table: &[u8], here: usize, count: usize) -> usize
-    requires { ⌜ (here < 2 ^ 32) × ((count < 2 ^ 32) × (0 < classCount (now table) here)) ⌝ }
-    ensures { λ r. ⌜ (r ≡ length (entryBytes (now (table .entry)) here count)) × (r ≤ 1032 + count) ⌝ }
-{
-    let mut firsts = [0u8; 256];
-    let mut sheet = [0u16; 256];
-    let k = number_entries(table, here, count, &mut firsts, &mut sheet);
-    8 + 4 * k + count
 }
 
 fn put_with(

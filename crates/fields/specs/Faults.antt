@@ -1,5 +1,5 @@
 -- The first fault of a chain of fields (document 01, "Numbers of refusal": a field is found inside before it is judged).
--- `Bad refusal at`: the refusal, and the offset of the first byte of the field that was read or judged.
+-- `Bad refusal at`: the refusal, and for 4 to 8 the offset of the first byte of the field that was found or judged; 0 for the others.
 use Prim.Native.Nat.{ℕ, _+_}
 use mathlib.Core.List.{List}
 use mathlib.Core.Bool.{Bool, true, false}

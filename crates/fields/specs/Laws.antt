@@ -22,6 +22,11 @@ u16At-past t at h =
     let h1 : length t ≤ at + 1 = omega arith in
     omega (arith, List·getD-eq-default t 0 h, List·getD-eq-default t 0 h1)
 
+-- no byte stands after this one
+pub last-byte : (t : List ℕ) (at : ℕ) → length t ≤ at + 1 → u16At t at ≡ getD t at 0 * 256
+unfolding u16At
+last-byte t at h = omega (arith, List·getD-eq-default t 0 h)
+
 pub u32At-past : (t : List ℕ) (at : ℕ) → length t ≤ at → u32At t at ≡ 0
 unfolding u32At
 u32At-past t at h =

@@ -31,7 +31,8 @@ pub enum Refusal {
     NotSheet,
 }
 
-// No fault, or a refusal and the offset of the first byte of the field that was read or judged.
+// No fault, or a refusal and, for 4 to 8, the offset of the first byte of the field that was found or judged; 0 for
+// the others.
 pub enum Fault {
     Clear,
     Bad { refusal: Refusal, at: usize },
@@ -73,19 +74,21 @@ pub fn u8_at(bytes: &[u8], at: usize) -> usize
     }
 }
 
-// The 16-bit number at a position.
+// The 16-bit number at a position. Where all of it is there, that is seen once, and its bytes are read as one.
 pub fn u16_at(bytes: &[u8], at: usize) -> usize
     ensures { λ r. ⌜ (r ≡ u16At (now (bytes .entry)) at) × (r < 2 ^ 16) ⌝ }
 {
-    if at < bytes.len() {
-        u8_at(bytes, at) * 256 + u8_at(bytes, at + 1)
-    } else {
-        0
+    if bytes.len() < 2 {
+        return u8_at(bytes, at) * 256;
     }
+    if bytes.len() - 2 < at {
+        return u8_at(bytes, at) * 256;
+    }
+    u8_at(bytes, at) * 256 + u8_at(bytes, at + 1)
 }
 
-// The 32-bit number at a position.
-pub fn u32_at(bytes: &[u8], at: usize) -> usize
+// The 32-bit number at a position near the end or past it.
+fn u32_near_end(bytes: &[u8], at: usize) -> usize
     ensures { λ r. ⌜ (r ≡ u32At (now (bytes .entry)) at) × (r < 2 ^ 32) ⌝ }
 {
     if at < bytes.len() {
@@ -93,6 +96,19 @@ pub fn u32_at(bytes: &[u8], at: usize) -> usize
     } else {
         0
     }
+}
+
+// The 32-bit number at a position. Where all of it is there, that is seen once, and its bytes are read as one.
+pub fn u32_at(bytes: &[u8], at: usize) -> usize
+    ensures { λ r. ⌜ (r ≡ u32At (now (bytes .entry)) at) × (r < 2 ^ 32) ⌝ }
+{
+    if bytes.len() < 4 {
+        return u32_near_end(bytes, at);
+    }
+    if bytes.len() - 4 < at {
+        return u32_near_end(bytes, at);
+    }
+    u16_at(bytes, at) * 65536 + u16_at(bytes, at + 2)
 }
 
 // Stores a byte at a position; nothing past the end.
@@ -124,13 +140,14 @@ pub fn put_u32(out: &mut [u8], at: usize, number: u32)
     }
 }
 
-// `first` where it is a fault, else `second`.
+// `first` where it is a fault, else `second`. A fault is built anew from its parts, so that compiled code keeps chains of
+// faults in registers.
 pub fn then(first: Fault, second: Fault) -> Fault
     ensures { λ r. ⌜ r ≡ first then second ⌝ }
 {
     match first {
         Fault::Clear => second,
-        Fault::Bad { refusal: _, at: _ } => first,
+        Fault::Bad { refusal, at } => Fault::Bad { refusal, at },
     }
 }
 

@@ -9,6 +9,8 @@ use Rattle.meaning.specs.Discrete.{cluster-discrete, list-discrete}
 use Rattle.meaning.specs.Sheet.{pairCode, actionCode}
 use Rattle.cluster.specs.Pairs.{clusterAt}
 use Rattle.actions.specs.Actions.{listAt}
+use Rattle.cluster_code.specs.Print.{pairsPrint}
+use Rattle.list_code.specs.Print.{actionsPrint}
 use Rattle.values.specs.declared.Kind.{Kind}
 use Rattle.values.specs.declared.Kind.the-variants.{Clusters, Lists}
 
@@ -36,3 +38,8 @@ item-discrete Lists = list-discrete
 unfoldable pub itemCode : (kind : Kind) → Item kind → List ℕ
 itemCode Clusters = counted pairCode
 itemCode Lists = counted actionCode
+
+-- a number below 1,021, the same for items that are the same: it tells where to look for one
+unfoldable pub itemPrint : (kind : Kind) → Item kind → ℕ
+itemPrint Clusters = pairsPrint 0
+itemPrint Lists = actionsPrint 0

@@ -1,11 +1,12 @@
 // The clusters and the action lists of a table by one name (document 01, "The sheet", sections 5 and 7): how many
-// bytes one takes in the sheet, whether two positions hold the same one as written, and storing it into lent bytes.
+// bytes one takes in the sheet, whether two positions hold the same one as written, a number that tells where to look
+// for it, and storing it into lent bytes.
 ghost use mathlib.Core.Path.{_≡_};
 ghost use Prim.Native.Nat.{_≤_, _<_, _^_};
 ghost use lib.ListN.{length};
 ghost use lib.Seq.{sets};
-ghost use Rattle.section.specs.Section.{Says};
-ghost use Rattle.item.specs.Items.{itemAt, itemCode};
+ghost use Rattle.lists.specs.Tests.{Says};
+ghost use Rattle.item.specs.Items.{itemAt, itemCode, itemPrint};
 use values::Kind;
 
 // How many bytes the item at a position is written in.
@@ -30,11 +31,25 @@ pub fn same_item(table: &[u8], kind: Kind, first: u16, second: u16) -> bool
     }
 }
 
-// Stores the item at a position.
+// A number below 1,021 for the item at a position, the same for the same items.
+pub fn item_print(table: &[u8], kind: Kind, at: u16) -> usize
+    requires { ⌜ length (now table) ≤ 2 ^ 15 ⌝ }
+    ensures { λ r. ⌜ (r ≡ itemPrint kind (itemAt kind (now (table .entry)) at)) × (r < 1021) ⌝ }
+{
+    match kind {
+        Kind::Clusters => cluster_code::cluster_print(table, at),
+        Kind::Lists => list_code::list_print(table, at),
+    }
+}
+
+// Stores the item at a position; past the end of the bytes there is nothing to do.
 pub fn put_item(table: &[u8], kind: Kind, at: u16, out: &mut [u8], to: usize)
     requires { ⌜ (length (now table) ≤ 2 ^ 15) × (to < 2 ^ 40) ⌝ }
     ensures { λ r. ⌜ now (out .exit) ≡ sets (now (out .entry)) to (itemCode kind (itemAt kind (now (table .entry)) at)) ⌝ }
 {
+    if out.len() <= to {
+        return;
+    }
     match kind {
         Kind::Clusters => cluster_code::put_cluster(table, at, out, to),
         Kind::Lists => list_code::put_list(table, at, out, to),

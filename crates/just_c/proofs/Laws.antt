@@ -1,17 +1,31 @@
 -- Laws of the structs of C layout.
-use Prim.Native.Nat.{ℕ, _-_, _≤_}
-use mathlib.Core.Path.{_≡_, refl, sym, ap, ap₂, _∙_}
-use native.Mathlib.Omega.{arith}
-use Rattle.fields.specs.Refusals.{numberOf}
+use Prim.Native.Nat.{ℕ}
+use mathlib.Core.List.{List}
+use mathlib.Core.Path.{_≡_, sym, ap, _∙_}
 use Rattle.parts.specs.declared.HeldAction.{HeldAction}
-use Rattle.meaning.specs.Ask.{Answer, nothing, number, both, entry, pair, act}
 use Rattle.answers.specs.declared.Sought.{Sought}
 use Rattle.answers.specs.declared.Sought.the-variants.{Found, Nothing, Refused}
-use Rattle.answers.specs.Says.{Reply, refused, given, saysSought, roomAfter}
+use Rattle.answers.specs.Says.{Reply, saysSought, roomAfter}
+use Rattle.sheet_write.specs.Written.{Said, refused, bytes, Outcome}
+use Rattle.just_c.specs.declared.JustLength.{JustLength}
 use Rattle.just_c.specs.InC.{actionOut, actionIn}
+use Rattle.just_c.specs.WriterInC.{lengthIn, OutcomeInC, outcomeIn}
 
 -- an action's answer, with the room that its reply asks for, is the reply's struct
 pub action-given : (s : Sought) (h : HeldAction) (r : Reply) → saysSought s h ≡ r → h ≡ roomAfter r → actionOut s h ≡ actionIn r
 action-given Found h r e k = ap (actionOut Found) (k ∙ ap roomAfter (sym e)) ∙ ap actionIn e
 action-given Nothing h r e k = ap (actionOut Nothing) (k ∙ ap roomAfter (sym e)) ∙ ap actionIn e
 action-given (Refused x) h r e k = ap (actionOut (Refused x)) (k ∙ ap roomAfter (sym e)) ∙ ap actionIn e
+
+-- what is said of a sheet, as a struct
+pub length-given : (k : ℕ) (s : Said) → s ≡ bytes k → record { refusal = 0; length = k } ≡ lengthIn s
+length-given k s e = cc
+
+pub length-refused : (n k : ℕ) (s : Said) → n ≡ k → s ≡ refused k → record { refusal = n; length = 0 } ≡ lengthIn s
+length-refused n k s i e = cc
+
+-- the same, with the room that the writer was lent
+pub outcome-given : (a : JustLength) (s : Said) (after : List ℕ) (o : Outcome) → a ≡ lengthIn s
+    → _≡_ {A = Outcome} (record { said = s; room = after }) o
+    → _≡_ {A = OutcomeInC} (record { answer = a; room = after }) (outcomeIn o)
+outcome-given a s after o e k = cc

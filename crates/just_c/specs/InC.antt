@@ -1,14 +1,8 @@
 -- What the numbers and structs of the C boundary say: a refusal is its number and everything else zeros; a part that is not there is `found` false and zeros.
 use Prim.Native.Nat.{ℕ, _-_}
-use mathlib.Core.Bool.{true, false, cond}
-use mathlib.Core.List.{List}
-use lib.Dec.{eqb}
+use mathlib.Core.Bool.{true, false}
 use Rattle.fields.specs.Refusals.{numberOf}
-use Rattle.parts.specs.declared.Direction.{Direction}
-use Rattle.parts.specs.declared.Direction.the-variants.{Horizontal, Vertical}
 use Rattle.parts.specs.declared.Entry.{Entry}
-use Rattle.parts.specs.declared.Limits.{Limits}
-use Rattle.parts.specs.declared.Flags.{Flags}
 use Rattle.parts.specs.declared.Pair.{Pair}
 use Rattle.parts.specs.declared.HeldAction.{HeldAction}
 use Rattle.meaning.specs.Ask.{Answer, nothing, number, both, entry, pair, act, held}
@@ -30,10 +24,6 @@ use Rattle.just_c.specs.declared.JustStretch.{JustStretch}
 abbrev pub checkedNumber : Checked → ℕ
 checkedNumber Accepted = 0
 checkedNumber (Refused r) = numberOf r
-
--- 0 is horizontal, any other number vertical
-abbrev pub directionIn : ℕ → Direction
-directionIn n = cond (eqb n 0) Horizontal Vertical
 
 -- what of an answer a call hands out, and zeros for any other
 abbrev pub numberIn : Answer → ℕ

@@ -1,2 +1,3 @@
 pub mod InC
 pub mod SheetInC
+pub mod WriterInC

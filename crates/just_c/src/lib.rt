@@ -2,13 +2,16 @@
 // structs of C layout. A refusal is its number, 0 for none. A direction is 0 for horizontal, any other number for
 // vertical. specs/InC.antt says what each struct holds.
 ghost use mathlib.Core.Path.{_≡_};
+ghost use Rattle.parts.specs.InC.{directionIn};
 ghost use Rattle.meaning.specs.Ask.{ask, glyphCount, along, sizes, class, cell, width, action};
 ghost use Rattle.answers.specs.Says.{checkedBy, unlessBad, saysCount, saysSizes, saysClass, saysCell, saysRecord};
 ghost use Rattle.table.specs.Table.{tableFault};
 ghost use Rattle.table.specs.Means.{meaningOf};
 ghost use Rattle.table_parts.specs.Components.{componentsOf};
-ghost use Rattle.just_c.specs.InC.{checkedNumber, directionIn, countIn, sizesIn, classIn, cellIn, recordIn, noPair, actionIn, actionOut, stretchIn};
+ghost use Rattle.sheet_write.specs.Written.{saysLength, saysWritten, sheetLength, written};
+ghost use Rattle.just_c.specs.InC.{checkedNumber, countIn, sizesIn, classIn, cellIn, recordIn, noPair, actionIn, actionOut, stretchIn};
 ghost use Rattle.just_c.specs.SheetInC.{SheetNumber, Given};
+ghost use Rattle.just_c.specs.WriterInC.{lengthIn, OutcomeInC, outcomeIn};
 use answers::ActionAnswer;
 use answers::CellAnswer;
 use answers::Checked;
@@ -17,12 +20,13 @@ use answers::CountAnswer;
 use answers::RecordAnswer;
 use answers::SizesAnswer;
 use answers::Sought;
-use parts::Direction;
 use parts::Entry;
 use parts::Flags;
 use parts::HeldAction;
 use parts::Limits;
 use parts::Pair;
+use sheet_write::LengthAnswer;
+use sheet_write::WriteAnswer;
 
 #[repr(C)]
 pub struct JustCount {
@@ -72,14 +76,10 @@ pub struct JustStretch {
     pub length: usize,
 }
 
-// A direction by its number.
-fn direction_in(number: u32) -> Direction
-    ensures { λ r. ⌜ r ≡ directionIn number ⌝ }
-{
-    if number == 0 {
-        return Direction::Horizontal;
-    }
-    Direction::Vertical
+#[repr(C)]
+pub struct JustLength {
+    pub refusal: u32,
+    pub length: u32,
 }
 
 // The answers as structs of C layout.
@@ -223,6 +223,30 @@ fn action_out(answer: ActionAnswer) -> JustAction
     }
 }
 
+fn length_out(answer: LengthAnswer) -> JustLength
+    ensures { λ r. ⌜ r ≡ lengthIn (saysLength answer) ⌝ }
+{
+    match answer {
+        LengthAnswer::Length(length) => JustLength { refusal: 0, length },
+        LengthAnswer::Refused(refusal) => JustLength {
+            refusal: fields::number_of(refusal),
+            length: 0,
+        },
+    }
+}
+
+fn written_out(answer: WriteAnswer) -> JustLength
+    ensures { λ r. ⌜ r ≡ lengthIn (saysWritten answer) ⌝ }
+{
+    match answer {
+        WriteAnswer::Written(length) => JustLength { refusal: 0, length },
+        WriteAnswer::Refused(refusal) => JustLength {
+            refusal: fields::number_of(refusal),
+            length: 0,
+        },
+    }
+}
+
 // Whether a table is accepted with a glyph count: 0, or the number of its first fault.
 #[no_mangle]
 pub extern "C" fn just_check_table(table: &[u8], glyphs: u32) -> u32
@@ -247,7 +271,7 @@ pub extern "C" fn just_table_count(table: &[u8], glyphs: u32) -> JustCount
 pub extern "C" fn just_table_sizes(table: &[u8], glyphs: u32, direction: u32) -> JustSizes
     ensures { λ r. ⌜ r ≡ sizesIn (unlessBad (tableFault (now (table .entry)) glyphs) (ask (meaningOf (now (table .entry)) glyphs) (along (directionIn direction) sizes))) ⌝ }
 {
-    sizes_out(table_parts::ask_sizes(table, glyphs, direction_in(direction)))
+    sizes_out(table_parts::ask_sizes(table, glyphs, parts::direction_in(direction)))
 }
 
 // The class of a glyph.
@@ -260,7 +284,7 @@ pub extern "C" fn just_table_class(
 ) -> JustClass
     ensures { λ r. ⌜ r ≡ classIn (unlessBad (tableFault (now (table .entry)) glyphs) (ask (meaningOf (now (table .entry)) glyphs) (along (directionIn direction) (class glyph)))) ⌝ }
 {
-    class_out(table_parts::ask_class(table, glyphs, direction_in(direction), glyph))
+    class_out(table_parts::ask_class(table, glyphs, parts::direction_in(direction), glyph))
 }
 
 // What the cell of a row and a class holds.
@@ -274,7 +298,7 @@ pub extern "C" fn just_table_cell(
 ) -> JustCell
     ensures { λ r. ⌜ r ≡ cellIn (unlessBad (tableFault (now (table .entry)) glyphs) (ask (meaningOf (now (table .entry)) glyphs) (along (directionIn direction) (cell row class)))) ⌝ }
 {
-    cell_out(table_parts::ask_cell(table, glyphs, direction_in(direction), row, class))
+    cell_out(table_parts::ask_cell(table, glyphs, parts::direction_in(direction), row, class))
 }
 
 // The width record of a glyph and a class.
@@ -288,7 +312,7 @@ pub extern "C" fn just_table_record(
 ) -> JustRecord
     ensures { λ r. ⌜ r ≡ recordIn (unlessBad (tableFault (now (table .entry)) glyphs) (ask (meaningOf (now (table .entry)) glyphs) (along (directionIn direction) (width glyph class)))) ⌝ }
 {
-    record_out(table_parts::ask_record(table, glyphs, direction_in(direction), glyph, class))
+    record_out(table_parts::ask_record(table, glyphs, parts::direction_in(direction), glyph, class))
 }
 
 // The action of a glyph and a number.
@@ -302,7 +326,13 @@ pub extern "C" fn just_table_action(
 ) -> JustAction
     ensures { λ r. ⌜ r ≡ actionIn (unlessBad (tableFault (now (table .entry)) glyphs) (ask (meaningOf (now (table .entry)) glyphs) (along (directionIn direction) (action glyph number)))) ⌝ }
 {
-    action_out(table_parts::ask_action(table, glyphs, direction_in(direction), glyph, number))
+    action_out(table_parts::ask_action(
+        table,
+        glyphs,
+        parts::direction_in(direction),
+        glyph,
+        number,
+    ))
 }
 
 // Where a component list stands in the table: the offset of its first glyph, and its length in bytes, 0 where there
@@ -317,7 +347,13 @@ pub extern "C" fn just_table_components(
 ) -> JustStretch
     ensures { λ r. ⌜ r ≡ stretchIn (componentsOf (now (table .entry)) glyphs (directionIn direction) glyph number) ⌝ }
 {
-    let stretch = table_parts::components_at(table, glyphs, direction_in(direction), glyph, number);
+    let stretch = table_parts::components_at(
+        table,
+        glyphs,
+        parts::direction_in(direction),
+        glyph,
+        number,
+    );
     let from = stretch.from;
     let to = stretch.to;
     if to <= from {
@@ -330,6 +366,22 @@ pub extern "C" fn just_table_components(
         offset: from,
         length: to - from,
     }
+}
+
+// How long the sheet of a table is, in bytes: as much room as writing it needs.
+#[no_mangle]
+pub extern "C" fn just_table_sheet_length(table: &[u8], glyphs: u32) -> JustLength
+    ensures { λ r. ⌜ r ≡ lengthIn (sheetLength (now (table .entry)) glyphs) ⌝ }
+{
+    length_out(sheet_write::sheet_length(table, glyphs))
+}
+
+// Writes the sheet of a table into the first bytes of the room; a refusal changes nothing.
+#[no_mangle]
+pub extern "C" fn just_write_sheet(table: &[u8], glyphs: u32, room: &mut [u8]) -> JustLength
+    ensures { λ r. ⌜ record { answer = r; room = now (room .exit) } ≡ outcomeIn (written (now (table .entry)) glyphs (now (room .entry))) ⌝ }
+{
+    written_out(sheet_write::write_sheet(table, glyphs, room))
 }
 
 // Whether bytes are a sheet: 0, or 17.
@@ -356,7 +408,7 @@ pub extern "C" fn just_sheet_count(sheet: &[u8]) -> JustCount
 pub extern "C" fn just_sheet_sizes(sheet: &[u8], direction: u32) -> JustSizes
     ensures { λ r. ⌜ Given (now (sheet .entry)) (along (directionIn direction) sizes) sizesIn r ⌝ }
 {
-    sizes_out(sheet_calls::ask_sizes(sheet, direction_in(direction)))
+    sizes_out(sheet_calls::ask_sizes(sheet, parts::direction_in(direction)))
 }
 
 // The class of a glyph.
@@ -364,7 +416,7 @@ pub extern "C" fn just_sheet_sizes(sheet: &[u8], direction: u32) -> JustSizes
 pub extern "C" fn just_sheet_class(sheet: &[u8], direction: u32, glyph: u16) -> JustClass
     ensures { λ r. ⌜ Given (now (sheet .entry)) (along (directionIn direction) (class glyph)) classIn r ⌝ }
 {
-    class_out(sheet_calls::ask_class(sheet, direction_in(direction), glyph))
+    class_out(sheet_calls::ask_class(sheet, parts::direction_in(direction), glyph))
 }
 
 // What the cell of a row and a class holds.
@@ -372,7 +424,7 @@ pub extern "C" fn just_sheet_class(sheet: &[u8], direction: u32, glyph: u16) -> 
 pub extern "C" fn just_sheet_cell(sheet: &[u8], direction: u32, row: u16, class: u16) -> JustCell
     ensures { λ r. ⌜ Given (now (sheet .entry)) (along (directionIn direction) (cell row class)) cellIn r ⌝ }
 {
-    cell_out(sheet_calls::ask_cell(sheet, direction_in(direction), row, class))
+    cell_out(sheet_calls::ask_cell(sheet, parts::direction_in(direction), row, class))
 }
 
 // The width record of a glyph and a class.
@@ -385,7 +437,7 @@ pub extern "C" fn just_sheet_record(
 ) -> JustRecord
     ensures { λ r. ⌜ Given (now (sheet .entry)) (along (directionIn direction) (width glyph class)) recordIn r ⌝ }
 {
-    record_out(sheet_calls::ask_record(sheet, direction_in(direction), glyph, class))
+    record_out(sheet_calls::ask_record(sheet, parts::direction_in(direction), glyph, class))
 }
 
 // The action of a glyph and a number.
@@ -398,5 +450,5 @@ pub extern "C" fn just_sheet_action(
 ) -> JustAction
     ensures { λ r. ⌜ Given (now (sheet .entry)) (along (directionIn direction) (action glyph number)) actionIn r ⌝ }
 {
-    action_out(sheet_calls::ask_action(sheet, direction_in(direction), glyph, number))
+    action_out(sheet_calls::ask_action(sheet, parts::direction_in(direction), glyph, number))
 }

@@ -13,7 +13,8 @@ use mir.Val.{Fits, toZ, ofZ}
 use mir.ValLaws.{toZ-ofZ}
 use lib.ListN.{length, getD, drop, drop-of-length-le}
 use borrow.Author.Tests.{le-leb, lt-leb, leb-true, leb-false, lt-ltb, le-ltb, ltb-true}
-use Rattle.lines.specs.Line.{sumℤ, gapOf}
+use Rattle.share.specs.Line.{sumℤ}
+use Rattle.lines.specs.Line.{gapOf}
 use Rattle.line.specs.declared.Sum.{Sum}
 use Rattle.line.specs.declared.Sum.the-variants.{Total, Unfit}
 use Rattle.line.specs.declared.Gap.the-variants as gap

@@ -3,7 +3,7 @@
 use Prim.Native.Nat.{ℕ, zero, suc, _+_, _*_, _≤_, _<_}
 use mathlib.Core.Path.{_≡_, refl, ap, ap₂, _∙_, subst}
 use mathlib.Core.Logic.{_⊎_, inl, inr}
-use mathlib.Core.Bool.{Bool, true, false, cond, _&&_}
+use mathlib.Core.Bool.{Bool, true, false, cond}
 use mathlib.Core.Option.{some}
 use mathlib.Core.List.{List, [], _∷_, map}
 use native.Mathlib.Omega.{arith}
@@ -27,12 +27,9 @@ use Rattle.table_parts.proofs.Rows.{index-below}
 use Rattle.walk.specs.Walk.{Fits, Ends, Never, Walk, going, stopped}
 use Rattle.walk.specs.Line.{lineOf}
 use Rattle.walk.proofs.Laws.{walked-ends, walked-never, ends-within}
-use Rattle.share.specs.Share.{stages}
-use Rattle.share.specs.Line.{Glyph, sideStages, sideFactors, sideExtras, beforeMoves, afterMoves, signedOf}
-use Rattle.share.proofs.Theory.{empty}
+use Rattle.share.specs.Line.{Glyph, beforeMoves, afterMoves, signedOf, nothingMoves, sumℤ}
 use Rattle.share.proofs.Lines.{line-sum-signed, line-remainder, line-lengths}
-use Rattle.share.proofs.Lines as share
-use Rattle.lines.specs.Line.{Line, sumℤ, gapOf, shrinks, gapSize, walkMachine, kindOf, walkOf, hasStopped, classesOf, entriesOf, partsFor, beforeOf, afterOf, remainderOf, verdictsOf}
+use Rattle.lines.specs.Line.{Line, gapOf, shrinks, gapSize, walkMachine, kindOf, walkOf, hasStopped, classesOf, entriesOf, partsFor, beforeOf, afterOf, remainderOf, verdictsOf}
 use Rattle.line_parts.specs.Parts.{Known}
 use Rattle.line_parts.proofs.Walks.{walk-length}
 use Rattle.line_parts.proofs.Parts.{parts-length}
@@ -85,10 +82,6 @@ module _ (t : List ℕ) (n : ℕ) (l : Line) (b : Lent) where
 
   -- ---- the gap
 
-  same-sum : (zs : List ℤ) → sumℤ zs ≡ share.sumℤ zs
-  same-sum [] = refl
-  same-sum (z ∷ zs) = ap (λ (x : ℤ). z +ℤ x) (same-sum zs)
-
   gap-signed : signedOf (shrinks l) (gapSize l) ≡ gapOf l
   gap-signed = go (gapOf l)
     where
@@ -104,23 +97,18 @@ module _ (t : List ℕ) (n : ℕ) (l : Line) (b : Lent) where
       let w = answered z k v e in
       let ps : List Glyph = partsFor side l in
       ap₂ (λ (x y : ℤ). x +ℤ y)
-      (ap₂ (λ (x y : ℤ). x +ℤ y) (ap sumℤ (w .before) ∙ same-sum (beforeOf side l)) (ap sumℤ (w .after) ∙ same-sum (afterOf side l)))
+      (ap₂ (λ (x y : ℤ). x +ℤ y) (ap sumℤ (w .before)) (ap sumℤ (w .after)))
       (w .remainder)
       ∙ line-sum-signed (shrinks l) ps (gapSize l)
       ∙ gap-signed
 
-  -- no stage of the line's glyphs has a factor total above 0, and none an unlimited glyph
-  abbrev pub nothingMoves : Bool
-  nothingMoves =
-      empty (sideStages (partsFor side l)) (sideFactors (partsFor side l)) stages && empty (sideStages (partsFor side l)) (sideExtras (partsFor side l)) stages
-
   -- WHEN THERE IS A REMAINDER: it is the whole gap where nothing can move, and 0 otherwise
-  pub remainder-is : (z : ℤ) (k v : ℕ) → justified t n l b .answer ≡ Justified z k v → z ≡ cond nothingMoves (gapOf l) (pos 0)
+  pub remainder-is : (z : ℤ) (k v : ℕ) → justified t n l b .answer ≡ Justified z k v → z ≡ cond (nothingMoves (partsFor side l)) (gapOf l) (pos 0)
   unfolding remainderOf
   remainder-is z k v e =
       answered z k v e .remainder
       ∙ ap (signedOf (shrinks l)) (line-remainder (partsFor side l) (gapSize l))
-      ∙ go nothingMoves
+      ∙ go (nothingMoves (partsFor side l))
     where
       none-signed : (s : Bool) → signedOf s 0 ≡ pos 0
       none-signed true = refl

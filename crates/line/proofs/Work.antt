@@ -13,8 +13,8 @@ use Rattle.fields.specs.declared.Fault.{Fault}
 use Rattle.fields.specs.declared.Fault.the-variants.{Clear, Bad}
 use Rattle.fields.specs.Faults.{_then_, rule}
 use Rattle.meaning.specs.Meaning.{Side}
-use Rattle.share.specs.Line.{Glyph, lineFits, lineLeft, beforeMoves, afterMoves, signedOf}
-use Rattle.lines.specs.Line.{Line, sumℤ, gapOf, shrinks, gapSize, walkOf, hasStopped, classesOf, entriesOf, partsOf, partsFor, beforeOf, afterOf, remainderOf}
+use Rattle.share.specs.Line.{Glyph, lineFits, lineLeft, beforeMoves, afterMoves, signedOf, sumℤ}
+use Rattle.lines.specs.Line.{Line, gapOf, shrinks, gapSize, walkOf, hasStopped, classesOf, entriesOf, partsOf, partsFor, beforeOf, afterOf, remainderOf}
 use Rattle.line_parts.specs.declared.Shared.{Shared}
 use Rattle.line_parts.specs.declared.Shared.the-variants.{Left, Over}
 use Rattle.line_parts.specs.Parts.{SharedOut}

@@ -15,12 +15,12 @@ use Rattle.fields.specs.Faults.{_then_, rule}
 use Rattle.parts.specs.declared.Verdict.{Verdict}
 use Rattle.meaning.specs.Meaning.{Side}
 use Rattle.meaning.specs.Ask.{sideOf}
-use Rattle.share.specs.Line.{lineFits}
+use Rattle.share.specs.Line.{lineFits, sumℤ}
 use Rattle.table.specs.Table.{tableFault}
 use Rattle.table.specs.Means.{meaningOf}
 use Rattle.line.specs.declared.LineAnswer.{LineAnswer}
 use Rattle.line.specs.declared.LineAnswer.the-variants.{Justified, Refused}
-use Rattle.lines.specs.Line.{Line, sumℤ, walkOf, hasStopped, classesOf, entriesOf, partsFor, beforeOf, afterOf, remainderOf, verdictsOf}
+use Rattle.lines.specs.Line.{Line, walkOf, hasStopped, classesOf, entriesOf, partsFor, beforeOf, afterOf, remainderOf, verdictsOf}
 
 -- what is lent: a class, a before and an after movement for each glyph, and room for verdicts
 pub record Lent : Type 0 where

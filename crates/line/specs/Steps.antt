@@ -14,9 +14,9 @@ use Rattle.fields.specs.Faults.{_then_, rule}
 use Rattle.parts.specs.declared.Direction.the-variants.{Horizontal}
 use Rattle.parts.specs.declared.Verdict.{Verdict}
 use Rattle.meaning.specs.Meaning.{Side}
-use Rattle.share.specs.Line.{lineFits}
+use Rattle.share.specs.Line.{lineFits, sumℤ}
 use Rattle.table.specs.Table.{tableFault}
-use Rattle.lines.specs.Line.{Line, sumℤ, shrinks, gapSize, walkOf, hasStopped, classesOf, entriesOf, partsFor, beforeOf, afterOf, remainderOf, verdictsOf}
+use Rattle.lines.specs.Line.{Line, shrinks, gapSize, walkOf, hasStopped, classesOf, entriesOf, partsFor, beforeOf, afterOf, remainderOf, verdictsOf}
 use Rattle.line.specs.declared.LineAnswer.the-variants.{Justified, Refused}
 use Rattle.line.specs.declared.Settled.{Settled}
 use Rattle.line.specs.declared.Sum.{Sum}

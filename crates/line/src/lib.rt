@@ -223,8 +223,15 @@ fn work_out(
     befores: &mut [i32],
     afters: &mut [i32],
 ) -> Worked
-    requires { ⌜ (tableFault (now table) count ≡ Clear) × (length (now glyphs) ≤ 1024) × Room (length (now glyphs)) (now held) (now befores) (now afters) ⌝ }
-    ensures { λ r. ⌜ WorkedOut (sideOf direction (meaningOf (now (table .entry)) count)) count (lineBy direction starts ends size (now (glyphs .entry)) (now (advances .entry)) target) r (now (held .exit)) (now (befores .exit)) (now (afters .exit)) ⌝ }
+    requires { ⌜
+        (tableFault (now table) count ≡ Clear) × (length (now glyphs) ≤ 1024)
+        × Room (length (now glyphs)) (now held) (now befores) (now afters)
+        ⌝ }
+    ensures { λ r. ⌜
+        WorkedOut (sideOf direction (meaningOf (now (table .entry)) count)) count
+        (lineBy direction starts ends size (now (glyphs .entry)) (now (advances .entry)) target)
+        r (now (held .exit)) (now (befores .exit)) (now (afters .exit))
+        ⌝ }
 {
     let Gap::Of { shrinks, size: gap } = gap_of(advances, target) else {
         return Worked::Bad(Refusal::Advances);
@@ -278,8 +285,20 @@ fn finish<'a, 'b>(
     after: &'b mut [i32],
 ) -> Settled
     requires { ⌜ (tableFault (now table) count ≡ Clear) × (length (now glyphs) ≤ 1024) ⌝ }
-    requires { ⌜ Room (length (now glyphs)) (now held) (now befores) (now afters) × Room (length (now glyphs)) (now classes) (now before) (now after) ⌝ }
-    ensures { λ r. ⌜ Finished room (length (verdictsFrom (sideOf direction (meaningOf (now (table .entry)) count)) size 0 (now (glyphs .entry)) (now (held .entry)) (now (befores .entry)) (now (afters .entry)))) remainder entries (now (held .entry)) (now (classes .entry)) (now (classes .exit)) (now (befores .entry)) (now (before .entry)) (now (before .exit)) (now (afters .entry)) (now (after .entry)) (now (after .exit)) r ⌝ }
+    requires { ⌜
+        Room (length (now glyphs)) (now held) (now befores) (now afters)
+        × Room (length (now glyphs)) (now classes) (now before) (now after)
+        ⌝ }
+    ensures { λ r. ⌜
+        Finished room
+        (length (verdictsFrom (sideOf direction (meaningOf (now (table .entry)) count)) size 0
+        (now (glyphs .entry)) (now (held .entry)) (now (befores .entry)) (now (afters .entry))))
+        remainder entries
+        (now (held .entry)) (now (classes .entry)) (now (classes .exit))
+        (now (befores .entry)) (now (before .entry)) (now (before .exit))
+        (now (afters .entry)) (now (after .entry)) (now (after .exit))
+        r
+        ⌝ }
 {
     let verdicts = line_verdicts::count_verdicts(
         table,
@@ -330,8 +349,16 @@ fn settle_in<'a, 'b>(
     after: &'b mut [i32],
 ) -> Settled
     requires { ⌜ (tableFault (now table) count ≡ Clear) × (length (now glyphs) ≤ 1024) ⌝ }
-    requires { ⌜ Room (length (now glyphs)) (now held) (now befores) (now afters) × Room (length (now glyphs)) (now classes) (now before) (now after) ⌝ }
-    ensures { λ r. ⌜ SettledIn (sideOf direction (meaningOf (now (table .entry)) count)) count (lineBy direction starts ends size (now (glyphs .entry)) (now (advances .entry)) target) room (now (classes .entry)) (now (before .entry)) (now (after .entry)) r (now (classes .exit)) (now (before .exit)) (now (after .exit)) ⌝ }
+    requires { ⌜
+        Room (length (now glyphs)) (now held) (now befores) (now afters)
+        × Room (length (now glyphs)) (now classes) (now before) (now after)
+        ⌝ }
+    ensures { λ r. ⌜
+        SettledIn (sideOf direction (meaningOf (now (table .entry)) count)) count
+        (lineBy direction starts ends size (now (glyphs .entry)) (now (advances .entry)) target) room
+        (now (classes .entry)) (now (before .entry)) (now (after .entry))
+        r (now (classes .exit)) (now (before .exit)) (now (after .exit))
+        ⌝ }
 {
     let worked = work_out(
         table,
@@ -387,7 +414,13 @@ pub fn settle<'a, 'b>(
     before: &'b mut [i32],
     after: &'b mut [i32],
 ) -> Settled
-    ensures { λ r. ⌜ ((verdicts : List Verdict) → length verdicts ≡ room → settlementIs r (now (classes .exit)) (now (before .exit)) (now (after .exit)) ≡ settlementIn (justified (now (table .entry)) count (lineBy direction starts ends size (now (glyphs .entry)) (now (advances .entry)) target) (lentBy (now (classes .entry)) (now (before .entry)) (now (after .entry)) verdicts))) ⌝ }
+    ensures { λ r. ⌜
+        ((verdicts : List Verdict) → length verdicts ≡ room →
+        settlementIs r (now (classes .exit)) (now (before .exit)) (now (after .exit))
+        ≡ settlementIn (justified (now (table .entry)) count
+        (lineBy direction starts ends size (now (glyphs .entry)) (now (advances .entry)) target)
+        (lentBy (now (classes .entry)) (now (before .entry)) (now (after .entry)) verdicts)))
+        ⌝ }
 {
     let n = glyphs.len();
     let fault = input_fault(

@@ -1,6 +1,6 @@
 -- The parts of a line's glyphs: factors, limits of width records, and four lists that are filled glyph by glyph.
 use Prim.Native.Nat.{ℕ, zero, suc, _+_, _*_, _≤_, _<_, _^_}
-use mathlib.Core.Path.{_≡_, refl, sym, ap, _∙_, subst}
+use mathlib.Core.Path.{_≡_, refl, sym, ap, ap₂, _∙_, subst}
 use mathlib.Core.Bool.{Bool, true, false, cond}
 use mathlib.Core.Option.{Option, none, some}
 use mathlib.Core.List.{List, [], _∷_, _++_, map}
@@ -34,13 +34,13 @@ use Rattle.table.specs.Table.{tableFault, Accepted}
 use Rattle.table.specs.Means.{meaningOf}
 use Rattle.table_laws.proofs.Valid.{valid-meaning}
 use Rattle.table_parts.specs.Places.{clusterSpot}
-use Rattle.table_parts.proofs.Asked.{clusters-are}
+use Rattle.table_parts.proofs.Asked.{side-is, clusters-are}
 use Rattle.share.specs.Share.{noPart}
 use Rattle.share.specs.Line.{Glyph, apart}
 use Rattle.share.proofs.Fill.{fill-again, fill-end}
 use Rattle.lines.specs.Line.{recordFor, unitsOf, stageOf, partBy, partOf, partsOf}
-use Rattle.line_parts.specs.Parts.{Small, Room, Laid}
-use Rattle.line_parts.proofs.Walks.{side-is}
+use Rattle.line_parts.specs.Parts.{Small, IsSize, PartOf, Room, Laid}
+use Rattle.line_parts.specs.declared.Part.{Part}
 
 -- ---- factors
 
@@ -108,10 +108,6 @@ module _ (s : Side) (shrink : Bool) (size : ℕ) where
 -- ---- one glyph's part
 
 module _ (size : ℕ) where
-  pub part-is : (flags b a : ℕ) {k u x y : ℕ} → k ≡ stageOf flags → u ≡ cond (isUnlimited flags) 1 0 → x ≡ unitsOf b size → y ≡ unitsOf a size
-      → _≡_ {A = Glyph} (record { stage = k; extra = u; before = x; after = y }) (partBy size flags b a)
-  part-is flags b a {k} {u} {x} {y} ek eu ex ey = λ i. record { stage = ek i; extra = eu i; before = ex i; after = ey i }
-
   pub part-apart : (shrink : Bool) {o : Option Pair} → o ≡ none → apart ≡ partOf shrink size o
   part-apart true {o} e = sym (ap (partOf true size) e)
   part-apart false {o} e = sym (ap (partOf false size) e)
@@ -124,26 +120,38 @@ module _ (size : ℕ) where
       → partBy size (p .flags .grow) (p .before .grow) (p .after .grow) ≡ partOf shrink size o
   part-grows p {shrink} {o} s e = sym (ap (λ (b : Bool). partOf b size o) s ∙ ap (partOf false size) e)
 
--- the limits of a record that is there fit
+-- a limit in 64 bits is a size
+module _ (a : ℕ) (h : a ≤ 2 ^ 31) where
+  wide-limit : toZ w64 a ≡ pos a
+  wide-limit = toZ-pos w64 a (omega arith)
+
+  pub limit-size : natAbs (toZ w64 a) ≡ a
+  limit-size = ap natAbs wide-limit
+
+  pub is-size : IsSize (toZ w64 a)
+  is-size = record { plain = wide-limit ∙ ap pos (sym limit-size); low = omega (arith, limit-size) }
+
+-- the limits of a record that is there are sizes
 pub small-shrink : (p : Pair) {o : Option Pair} → o ≡ some p → Small o → (p .before .shrink ≤ 2 ^ 31) × (p .after .shrink ≤ 2 ^ 31)
 small-shrink p {o} e w = let l = subst Small e w in (omega (arith, l .0 .1), omega (arith, l .1 .1))
 
 pub small-grow : (p : Pair) {o : Option Pair} → o ≡ some p → Small o → (p .before .grow ≤ 2 ^ 31) × (p .after .grow ≤ 2 ^ 31)
 small-grow p {o} e w = let l = subst Small e w in (omega (arith, l .0 .0), omega (arith, l .1 .0))
 
--- the code's factor as a size
-module _ (a s : ℕ) (h : a ≤ 2 ^ 31) {z : ℤ} (fits : SFits w64 z) (e : z ≡ factorOf (toZ w64 a) s) where
-  factor-is : toZ w64 (ofZ w64 z) ≡ pos (unitsOf a s)
-  factor-is = toZ-ofZ w64 z fits ∙ e ∙ ap (λ (x : ℤ). factorOf x s) (toZ-pos w64 a (omega arith)) ∙ factor-plain a s h
+-- a part by limits in 64 bits
+pub part-wide : {p : Part} (size flags b a : ℕ) → b ≤ 2 ^ 31 → a ≤ 2 ^ 31 → PartOf p (partBy size flags (natAbs (toZ w64 b)) (natAbs (toZ w64 a))) → {g : Glyph} → partBy size flags b a ≡ g → PartOf p g
+part-wide {p} size flags b a hb ha w {g} e =
+    subst (PartOf p) (ap₂ (λ (x y : ℕ). partBy size flags x y) (limit-size b hb) (limit-size a ha) ∙ e) w
 
-  pub size-is : natAbs (toZ w64 (ofZ w64 z)) ≡ unitsOf a s
-  size-is = ap natAbs factor-is
+-- a factor as a plain number
+pub not-below : {z : ℤ} (n : ℕ) → z ≡ pos n → z ≡ pos (natAbs z)
+not-below n e = e ∙ sym (ap (λ (x : ℤ). pos (natAbs x)) e)
 
-  pub size-fits : s < 2 ^ 32 → T (nonNeg (toZ w64 (ofZ w64 z))) × Fits w64 (natAbs (toZ w64 (ofZ w64 z)))
-  size-fits k =
-      let low : a * s ≤ 2 ^ 31 * s = mul-le-mul-right s h in
-      let less : unitsOf a s ≤ a * s = div-le-self (a * s) 65536 in
-      rw factor-is (tt, record { fits = omega arith })
+pub plain-fits : {z : ℤ} → SFits w64 z → z ≡ pos (natAbs z) → T (nonNeg (toZ w64 (ofZ w64 z))) × Fits w64 (natAbs (toZ w64 (ofZ w64 z)))
+plain-fits {z} f e = rw (toZ-ofZ w64 z f) (at-size (natAbs z) e)
+  where
+    at-size : (n : ℕ) → z ≡ pos n → T (nonNeg z) × Fits w64 (natAbs z)
+    at-size n q = rw q (tt, record { fits = omega (arith, (rw q at f) .sfits) })
 
 -- ---- a loop that fills the four lists
 
@@ -179,6 +187,10 @@ filling-on {ps} {i} {ks} {us} {bs} {cs} g w h e =
       first = one-more (λ (g : Glyph). g .before) ps g bs i (omega (arith, r .first)) (w .first) e;
       second = one-more (λ (g : Glyph). g .after) ps g cs i (omega (arith, r .second)) (w .second) e;
     }
+
+pub filling-part : {ps : List Glyph} {i : ℕ} {ks us bs cs : List ℕ} {p : Part} {g : Glyph} {x y : ℕ} → PartOf p g → x ≡ natAbs (p .before .0) → y ≡ natAbs (p .after .0)
+    → Filling ps i ks us bs cs → i < length ps → drop i ps ≡ g ∷ drop (suc i) ps → Filling ps (i + 1) (set ks i (p .mark)) (set us i (p .extra)) (set bs i x) (set cs i y)
+filling-part {g = g} w ex ey f h e = rw (w .mark, w .extra, ex ∙ ap natAbs (w .before), ey ∙ ap natAbs (w .after)) (filling-on g f h e)
 
 pub filling-end : {ps : List Glyph} {i : ℕ} {ks us bs cs : List ℕ} → Filling ps i ks us bs cs → length ps ≤ i → Laid ps ks us bs cs
 filling-end {ps} {i} {ks} {us} {bs} {cs} w h =

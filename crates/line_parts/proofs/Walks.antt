@@ -14,7 +14,6 @@ use Rattle.fields.specs.declared.Fault.the-variants.{Clear}
 use Rattle.fields.specs.Faults.{_then_}
 use Rattle.fields.specs.Laws.{then-first, then-second}
 use Rattle.parts.specs.declared.Direction.{Direction}
-use Rattle.parts.specs.declared.Direction.the-variants.{Horizontal, Vertical}
 use Rattle.parts.specs.declared.Entry.{Entry}
 use Rattle.units.specs.Flags.{stays}
 use Rattle.lists.proofs.UptoLaws.{getD-upto}
@@ -24,15 +23,15 @@ use Rattle.meaning.specs.Ask.{sideOf}
 use Rattle.machine.specs.Cells.{classCount, classAt, cellAt}
 use Rattle.machine.specs.Rows.{rowCount}
 use Rattle.machine.specs.Machine.{machineFault}
-use Rattle.machine.proofs.Laws.{rowCount-least, rows-two, rows-most, classes-least, classes-most, class-below}
+use Rattle.machine.proofs.Laws.{rowCount-least, rows-two, rows-most, classes-least, classes-most, class-below, cell-exact}
 use Rattle.values.specs.declared.Kind.the-variants.{Clusters}
 use Rattle.values.specs.Values.{valuesFault}
 use Rattle.table.specs.Table.{machineOffset, widthOffset, actionOffset, widthLookup, present, offsetsFault, machinePart, actionPart, directionFault, tableFault}
-use Rattle.table.specs.Means.{cellBy, machineOf, directionOf, meaningOf}
+use Rattle.table.specs.Means.{cellBy, machineOf, meaningOf}
 use Rattle.table.specs.Means as means
 use Rattle.table_parts.specs.Places.{directionAt, machineIn}
 use Rattle.table_parts.proofs.Rows.{cell-by, index-below}
-use Rattle.table_parts.proofs.Asked.{side, machine-is}
+use Rattle.table_parts.proofs.Asked.{side-is, machine-is}
 use Rattle.table_parts.proofs.Laws.{direction-clear}
 use Rattle.walk.specs.Walk.{Machine, Line, Conf, Walk, going, stopped, Fits, glyphs, kindAt, met, onAt, givenBy, taken, step, begin, after, most, walked, noWalk}
 use Rattle.walk.specs.Line.{machineAt, lineOf, lineKind, lineKinds, padded, handedOut, Sound, Kinds}
@@ -124,7 +123,7 @@ module _ (t : List ℕ) (n here : ℕ) where
       one (no e) (inr q) = rw (ne-eqb g 0xFFFF e, getD-upto (classAt t here) n g 1 q)
 
   module _ (near : here < 2 ^ 32) (clear : machineFault t n here ≡ Clear) where
-    pub sound : Sound t here (rowCount t here)
+    pub sound : Sound t here
     sound =
         record {
           near = near;
@@ -133,6 +132,7 @@ module _ (t : List ℕ) (n here : ℕ) where
           classes-low = classes-least t n here clear;
           classes-high = classes-most t n here clear;
           closed = rowCount-least t n here clear .closed;
+          exact = cell-exact t n here clear;
         }
 
     module _ (gs : List ℕ) (short : length gs ≤ 1024) (known : Known n gs) where
@@ -140,28 +140,19 @@ module _ (t : List ℕ) (n here : ℕ) where
       kinds = kinds-of t here n (classes-least t n here clear) (class-below t n here clear) gs short known
 
       pub same-walk : (starts ends : Bool)
-          → walked (machineAt t here (rowCount t here)) (lineOf (lineKinds t here gs) starts ends)
+          → walked (machineAt t here) (lineOf (lineKinds t here gs) starts ends)
           ≡ walkOf (some (means.machineAt t n here)) (bareLine gs starts ends)
       unfolding walkOf means.machineAt
       same-walk starts ends =
-          same-walked (machineAt t here (rowCount t here)) (walkMachine (means.machineAt t n here)) (lineOf (lineKinds t here gs) starts ends)
+          same-walked (machineAt t here) (walkMachine (means.machineAt t n here)) (lineOf (lineKinds t here gs) starts ends)
           (fits-of starts ends sound kinds) same-cells refl
           ∙ ap (λ (ks : List ℕ). walked (walkMachine (means.machineAt t n here)) (lineOf ks starts ends)) (same-kinds gs known)
 
 -- ---- a direction's machine
 
 module _ (t : List ℕ) (n : ℕ) (d : Direction) where
-  -- one direction of the meaning
-  pub side-is : sideOf d (meaningOf t n) ≡ side t n d
-  unfolding meaningOf
-  side-is = go d
-    where
-      go : (e : Direction) → sideOf e (meaningOf t n) ≡ directionOf t n (directionAt t e)
-      go Horizontal = refl
-      go Vertical = refl
-
   machine-of : sideOf d (meaningOf t n) .machine ≡ machineOf t n (machineIn t d)
-  machine-of = ap (λ (s : Side). s .machine) side-is ∙ machine-is t n d
+  machine-of = ap (λ (s : Side). s .machine) (side-is t n d) ∙ machine-is t n d
 
   module _ (o : ℕ) (e : o ≡ machineIn t d) where
     pub none-there : o ≡ 0 → sideOf d (meaningOf t n) .machine ≡ none
@@ -192,7 +183,7 @@ module _ (t : List ℕ) (n : ℕ) (d : Direction) where
     no-walk z gs starts ends = ap (λ (m : Option meaning.Machine). walkOf m (bareLine gs starts ends)) (none-there z)
 
     pub a-walk : (z : o ≡ 0 → ⊥) (near : o + 8 < 2 ^ 32) (ok : tableFault t n ≡ Clear) (gs : List ℕ) → length gs ≤ 1024 → Known n gs → (starts ends : Bool)
-        → walked (machineAt t (o + 8) (rowCount t (o + 8))) (lineOf (lineKinds t (o + 8) gs) starts ends)
+        → walked (machineAt t (o + 8)) (lineOf (lineKinds t (o + 8) gs) starts ends)
         ≡ walkOf (sideOf d (meaningOf t n) .machine) (bareLine gs starts ends)
     a-walk z near ok gs short known starts ends =
         same-walk t n (o + 8) near (machine-clear ok z) gs short known starts ends

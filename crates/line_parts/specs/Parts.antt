@@ -1,12 +1,12 @@
 -- What a line's call works out before its verdicts, as the functions here have it (document 01, "The class walk" and "Sharing the gap"): a line's glyphs and
 -- their classes, the parts of the glyphs in four lists, and a gap that was shared or that refusal 15 bars.
-use Prim.Native.Nat.{ℕ, _<_}
+use Prim.Native.Nat.{ℕ, _<_, _≤_, _^_}
 use mathlib.Core.Path.{_≡_}
 use mathlib.Core.Logic.{_⊎_}
 use mathlib.Core.Bool.{Bool, cond}
 use mathlib.Core.Option.{Option, none, some}
 use mathlib.Core.List.{List, [], map}
-use lib.IntN.{ℤ, pos}
+use lib.IntN.{ℤ, pos, natAbs}
 use lib.ListN.{length, getD}
 use Rattle.parts.specs.declared.Direction.the-variants.{Horizontal}
 use Rattle.parts.specs.declared.Pair.{Pair}
@@ -31,9 +31,17 @@ abbrev pub Small : Option Pair → Type 0
 Small none = Unit {0}
 Small (some p) = OkLimits (p .before) × OkLimits (p .after)
 
--- the part that the code has of a glyph
-abbrev pub glyphBy : Part → Glyph
-glyphBy p = record { stage = p .mark; extra = p .extra; before = p .before; after = p .after }
+-- a limit as its size: not below 0, and no more than a Fixed's size can be
+pub record IsSize (limit : ℤ) : Type 0 where
+  pub plain : limit ≡ pos (natAbs limit)
+  pub low : natAbs limit ≤ 2 ^ 31
+
+-- what the code has of a glyph is its part
+pub record PartOf (p : Part) (g : Glyph) : Type 0 where
+  pub mark : p .mark ≡ g .stage
+  pub extra : p .extra ≡ g .extra
+  pub before : p .before .0 ≡ pos (g .before)
+  pub after : p .after .0 ≡ pos (g .after)
 
 -- room for the parts of n glyphs
 pub record Room (n : ℕ) (ks us bs cs : List ℕ) : Type 0 where

@@ -2,7 +2,8 @@
 // accepted table: the classes of the line's glyphs, the part of each glyph, and the movements of its two sides.
 ghost use mathlib.Core.Path.{_≡_};
 ghost use mathlib.Core.Bool.{cond};
-ghost use Prim.Native.Nat.{_≤_, _^_};
+ghost use Prim.Native.Nat.{_≤_};
+ghost use lib.IntN.{pos, natAbs};
 ghost use lib.ListN.{length};
 ghost use Rattle.fields.specs.declared.Fault.the-variants.{Clear};
 ghost use Rattle.units.specs.Flags.{isUnlimited};
@@ -12,20 +13,21 @@ ghost use Rattle.table.specs.Table.{tableFault};
 ghost use Rattle.table.specs.Means.{meaningOf};
 ghost use Rattle.walk.specs.Line.{handedOut};
 ghost use Rattle.lines.specs.Line.{walkOf, recordFor, unitsOf, stageOf, partBy, partOf, partsOf};
-ghost use Rattle.line_parts.specs.Parts.{Known, bareLine, Small, glyphBy, Laid, Room, SharedOut};
+ghost use Rattle.line_parts.specs.Parts.{Known, bareLine, Small, IsSize, PartOf, Laid, Room, SharedOut};
 use actions::Spot;
 use cluster::Sought;
 use parts::Direction;
 use units::Ems;
+use units::Units;
 use walk::Walked;
 
 // A glyph's part in the sharing of the gap: its stage mark, 1 where it is unlimited and else 0, and the factors of
-// its before and its after side, in units.
+// its before and its after side.
 struct Part {
     pub mark: u8,
     pub extra: u8,
-    pub before: u64,
-    pub after: u64,
+    pub before: Units,
+    pub after: Units,
 }
 
 // The remainder of a gap that was shared, with the gap's sign; or that a stage's total is above the most that it
@@ -60,19 +62,17 @@ pub fn line_walk(
         };
     }
     let here = offset + 8;
-    let rows = machine::row_count(table, here);
     let kinds = walk::line_kinds(table, here, glyphs);
     let n = glyphs.len();
-    walk::walk_line(table, here, rows, &kinds[..n], starts, ends)
+    walk::walk_line(table, here, &kinds[..n], starts, ends)
 }
 
-// limit × size / 65,536, rounded down.
-fn units_of(limit: u32, size: u32) -> u64
-    requires { ⌜ limit ≤ 2 ^ 31 ⌝ }
-    ensures { λ r. ⌜ r ≡ unitsOf limit size ⌝ }
+// The factor of a limit, which is a size.
+fn units_of(limit: Ems, size: u32) -> Units
+    requires { ⌜ IsSize (limit .0) ⌝ }
+    ensures { λ r. ⌜ r .0 ≡ pos (unitsOf (natAbs (limit .0)) size) ⌝ }
 {
-    let factor = units::factor(Ems(limit as i64), size);
-    factor.0 as u64
+    units::factor(limit, size)
 }
 
 // The stage mark that grow or shrink flags give.
@@ -91,9 +91,9 @@ fn extra_of(flags: u16) -> u8
 }
 
 // A glyph's part by the flags and limits of one direction of the gap.
-fn part_by(size: u32, flags: u16, before: u32, after: u32) -> Part
-    requires { ⌜ (before ≤ 2 ^ 31) × (after ≤ 2 ^ 31) ⌝ }
-    ensures { λ r. ⌜ glyphBy r ≡ partBy size flags before after ⌝ }
+fn part_by(size: u32, flags: u16, before: Ems, after: Ems) -> Part
+    requires { ⌜ IsSize (before .0) × IsSize (after .0) ⌝ }
+    ensures { λ r. ⌜ PartOf r (partBy size flags (natAbs (before .0)) (natAbs (after .0))) ⌝ }
 {
     Part {
         mark: stage_of(flags),
@@ -106,26 +106,39 @@ fn part_by(size: u32, flags: u16, before: u32, after: u32) -> Part
 // The part of a glyph with this width record, or with none.
 fn part_of(shrink: bool, size: u32, sought: Sought) -> Part
     requires { ⌜ Small (soughtPair sought) ⌝ }
-    ensures { λ r. ⌜ glyphBy r ≡ partOf shrink size (soughtPair sought) ⌝ }
+    ensures { λ r. ⌜ PartOf r (partOf shrink size (soughtPair sought)) ⌝ }
 {
     let Sought::Record(pair) = sought else {
         return Part {
             mark: APART,
             extra: 0,
-            before: 0,
-            after: 0,
+            before: Units(0),
+            after: Units(0),
         };
     };
     if shrink {
         part_by(
             size,
             pair.flags.shrink,
-            pair.before.shrink,
-            pair.after.shrink,
+            Ems(pair.before.shrink as i64),
+            Ems(pair.after.shrink as i64),
         )
     } else {
-        part_by(size, pair.flags.grow, pair.before.grow, pair.after.grow)
+        part_by(
+            size,
+            pair.flags.grow,
+            Ems(pair.before.grow as i64),
+            Ems(pair.after.grow as i64),
+        )
     }
+}
+
+// A factor, which is not below 0, as the plain number that slices hold.
+fn plain(factor: Units) -> u64
+    requires { ⌜ factor .0 ≡ pos (natAbs (factor .0)) ⌝ }
+    ensures { λ r. ⌜ r ≡ natAbs (factor .0) ⌝ }
+{
+    factor.0 as u64
 }
 
 // A glyph's width record for its class.
@@ -134,7 +147,7 @@ fn record_for(table: &[u8], count: u32, direction: Direction, glyph: u16, class:
     ensures { λ r. ⌜ (soughtPair r ≡ recordFor (sideOf direction (meaningOf (now (table .entry)) count)) glyph class) × Small (soughtPair r) ⌝ }
 {
     match table_parts::cluster_spot(table, count, direction, glyph) {
-        Spot::At(at) => cluster::record_of(table, at, class),
+        Spot::At(at) => reader::record_by(table, at as u32, class),
         Spot::Nowhere => Sought::Nothing,
     }
 }
@@ -163,8 +176,8 @@ fn lay_parts(
         let part = part_of(shrink, size, sought);
         marks[i] = part.mark;
         extras[i] = part.extra;
-        first[i] = part.before;
-        second[i] = part.after;
+        first[i] = plain(part.before);
+        second[i] = plain(part.after);
         i += 1;
     }
 }
@@ -230,6 +243,29 @@ pub fn share_glyphs(
     ensures { λ r. ⌜ SharedOut shrink gap (partsOf (sideOf direction (meaningOf (now (table .entry)) count)) shrink size (now (glyphs .entry)) (now (classes .entry))) (now (before .entry)) (now (after .entry)) r (now (before .exit)) (now (after .exit)) ⌝ }
 {
     let n = glyphs.len();
+    // Most lines are short, and less room is sooner cleared.
+    if n <= 128 {
+        let mut marks = [0u8; 128];
+        let mut extras = [0u8; 128];
+        let mut first = [0u64; 128];
+        let mut second = [0u64; 128];
+        return share_parts(
+            table,
+            count,
+            direction,
+            shrink,
+            gap,
+            size,
+            glyphs,
+            classes,
+            &mut marks[..n],
+            &mut extras[..n],
+            &mut first[..n],
+            &mut second[..n],
+            before,
+            after,
+        );
+    }
     let mut marks = [0u8; 1024];
     let mut extras = [0u8; 1024];
     let mut first = [0u64; 1024];

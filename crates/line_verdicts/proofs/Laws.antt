@@ -1,93 +1,57 @@
 -- What is left of a line's verdicts at a cursor, and how a step takes one of them; and of an accepted table, that the list of a glyph can be passed.
-use Prim.Native.Nat.{ℕ, zero, suc, _+_, _-_, _*_, _≤_, _<_, _^_}
+use Prim.Native.Nat.{ℕ, zero, suc, _+_, _-_, _*_, _≤_, _<_}
 use mathlib.Core.Path.{_≡_, refl, sym, ap, ap₂, _∙_, subst}
 use mathlib.Core.Bool.{Bool, true, false, cond}
 use mathlib.Core.Option.{none}
 use mathlib.Core.List.{List, [], _∷_, _++_, append-assoc}
 use native.Mathlib.Omega.{arith}
+use native.Mathlib.Decide.{ℕ-discrete}
+use native.Mathlib.Nat.{add-assoc}
 use native.Mathlib.Numerals.{add-one}
 use lib.IntN.{ℤ, pos, _+ℤ_}
-use lib.ListN.{length, getD, getElem?, drop, length-append}
-use lib.Seq.{drop-cons}
+use lib.ListN.{length, getD, drop, take, length-append, length-drop}
+use lib.Seq.{drop-cons, getD-drop, take-length}
+use borrow.Author.Tests.{eq-eqb, ne-eqb}
 use Rattle.fields.specs.declared.Fault.the-variants.{Clear}
-use Rattle.fields.specs.Field.{u32At, Bytes}
+use Rattle.fields.specs.Field.{u16At, u32At}
 use Rattle.fields.specs.Laws.{then-first, then-second}
 use Rattle.fields.specs.Walk.{walk}
 use Rattle.parts.specs.declared.Direction.{Direction}
-use Rattle.parts.specs.declared.Direction.the-variants.{Horizontal, Vertical}
 use Rattle.parts.specs.declared.Verdict.{Verdict}
 use Rattle.meaning.specs.Meaning.{Action, Side}
 use Rattle.meaning.specs.Ask.{sideOf}
 use Rattle.actions.specs.declared.Spot.{Spot}
 use Rattle.actions.specs.declared.Spot.the-variants.{At, Nowhere}
 use Rattle.actions.specs.Faults.{actionFault, actionsFault, listFault}
-use Rattle.actions.specs.Actions.{actionAt, actionsAt, listAt, Below}
-use Rattle.actions.proofs.Laws.{place-at, place-none, action-ok, action-inside, list-count, list-length}
+use Rattle.lists.proofs.UptoLaws.{getD-from}
+use Rattle.actions.specs.Actions.{bytesAt, contentAt, actionAt, actionsAt, listAt, Below}
+use Rattle.actions.proofs.Laws.{action-inside, list-count, list-length}
 use Rattle.values.specs.Values.{listHere}
 use Rattle.verdict.specs.declared.Fires.{Fires}
 use Rattle.verdict.specs.declared.Fires.the-variants.{No, Plain, Substitutes}
-use Rattle.verdict.specs.Verdict.{firesOf}
+use Rattle.verdict.specs.Verdict.{breaks, substitutes, kindFires, firesOf}
 use Rattle.table.specs.Table.{tableFault}
-use Rattle.table.specs.Means.{directionOf, meaningOf}
+use Rattle.table.specs.Means.{meaningOf}
 use Rattle.table.proofs.Laws.{short}
-use Rattle.table_parts.specs.Places.{directionAt, listSpot, numbered, actionSpot}
-use Rattle.table_parts.proofs.Asked.{lists-are}
-use Rattle.table_parts.proofs.Laws.{list-clear, action-clear}
+use Rattle.table_parts.specs.Places.{listSpot}
+use Rattle.table_parts.proofs.Asked.{side-is, lists-are}
+use Rattle.table_parts.proofs.Laws.{list-clear}
 use Rattle.lines.specs.Line.{recordIf, firings, verdictsFrom}
 use Rattle.line_verdicts.specs.declared.Cursor.{Cursor}
 use Rattle.line_verdicts.specs.declared.Step.{Step}
-use Rattle.line_verdicts.specs.Cursor.{firesIn, firesAt, Moved, classAt, growthAt, verdictsAt, listLeft, leftAt, startCursor, given, stepOf, nothingAt, pastOf, judgedAt, Serves, Begins, InList, Here, InLine, Fits}
+use Rattle.line_verdicts.specs.Cursor.{Moved, classAt, growthAt, verdictsAt, listLeft, leftAt, startCursor, handCursor, firesCount, given, stepOf, nothingAt, pastOf, judgedAt, Serves, Begins, InList, Here, InLine, Fits}
 
 -- ---- an accepted table
 
 module _ (t : List ℕ) (n : ℕ) (d : Direction) where
-  side-is : sideOf d (meaningOf t n) ≡ directionOf t n (directionAt t d)
-  unfolding meaningOf
-  side-is = go d
-    where
-      go : (e : Direction) → sideOf e (meaningOf t n) ≡ directionOf t n (directionAt t e)
-      go Horizontal = refl
-      go Vertical = refl
-
   -- a glyph's actions stand where they are found
   pub list-here : (g : ℕ) (s : Spot) → s ≡ listSpot t n d g → getD (sideOf d (meaningOf t n) .lists) g [] ≡ listHere t s
-  list-here g s e = ap (λ (x : Side). getD (x .lists) g []) side-is ∙ lists-are t n d g ∙ ap (listHere t) (sym e)
-
-  -- the action at a spot is the one that is asked for
-  pub fires-there : (g k p : ℕ) (class : ℕ) (growth : ℤ) (size : ℕ) → At p ≡ actionSpot t n d g k
-      → firesOf (actionAt t p) class growth size ≡ firesAt (sideOf d (meaningOf t n)) g k class growth size
-  unfolding firesAt actionSpot
-  fires-there g k p class growth size e = go (listSpot t n d g) refl e
-    where
-      go : (s : Spot) → s ≡ listSpot t n d g → At p ≡ numbered t k s
-          → firesOf (actionAt t p) class growth size ≡ firesIn (getElem? (getD (sideOf d (meaningOf t n) .lists) g []) k) class growth size
-      go (At q) w f =
-          sym (ap (λ (l : List Action). firesIn (getElem? l k) class growth size) (list-here g (At q) w)
-          ∙ ap (λ (o : _). firesIn o class growth size) (place-at t q k p (sym f)))
-      go Nowhere w f = let z : _≡_ {A = ℕ} 0 1 = cc in absurd (omega arith)
-
-  pub fires-none : (g k : ℕ) (class : ℕ) (growth : ℤ) (size : ℕ) → Nowhere ≡ actionSpot t n d g k
-      → No ≡ firesAt (sideOf d (meaningOf t n)) g k class growth size
-  unfolding firesAt actionSpot
-  fires-none g k class growth size e = go (listSpot t n d g) refl e
-    where
-      go : (s : Spot) → s ≡ listSpot t n d g → Nowhere ≡ numbered t k s
-          → No ≡ firesIn (getElem? (getD (sideOf d (meaningOf t n) .lists) g []) k) class growth size
-      go (At q) w f =
-          sym (ap (λ (l : List Action). firesIn (getElem? l k) class growth size) (list-here g (At q) w)
-          ∙ ap (λ (o : _). firesIn o class growth size) (place-none t q k (sym f)))
-      go Nowhere w f = sym (ap (λ (l : List Action). firesIn (getElem? l k) class growth size) (list-here g Nowhere w))
+  list-here g s e = ap (λ (x : Side). getD (x .lists) g []) (side-is t n d) ∙ lists-are t n d g ∙ ap (listHere t) (sym e)
 
   module _ (ok : tableFault t n ≡ Clear) where
     pub table-short : length t ≤ 32768
     unfolding tableFault
     table-short = short t n (then-first _ _ ok)
-
-    -- the action that is found can be read whole
-    pub spot-whole : Bytes t → (g k p : ℕ) → At p ≡ actionSpot t n d g k → (p < 2 ^ 62) × (length (actionAt t p .content) ≤ 76)
-    spot-whole w g k p e =
-        let f = action-clear t n d ok g k p (sym e) in
-        (omega (arith, action-inside t n p f, table-short), action-ok t n p w f .2)
 
     -- a glyph's list that is found, and one that is not there
     pub begins-there : (g q place m : ℕ) → At q ≡ listSpot t n d g → m ≡ u32At t q
@@ -147,9 +111,6 @@ module _ (t : List ℕ) (c : Cursor) (p : ℕ) (s : Serves t p c) (h : 0 < c .le
 
   pub hand-inside : c .at + 8 ≤ length t
   hand-inside = action-inside t (s .font) (c .at) (first-clear (c .left) (c .at) h (s .clear))
-
-  pub hand-whole : Bytes t → length (actionAt t (c .at) .content) ≤ 76
-  hand-whole w = action-ok t (s .font) (c .at) w (first-clear (c .left) (c .at) h (s .clear)) .2
 
   pub hand-begun : 0 < c .next
   hand-begun = go (c .next) refl
@@ -370,25 +331,131 @@ verdicts-few s size place (g ∷ gs) (c ∷ cs) (b ∷ bs) (f ∷ fs) h =
       verdicts-few s size (suc place) gs cs bs fs h,
     )
 
--- what was counted, what a step found and what is left after it are all of them
-module _ (t : List ℕ) (s : Side) (l : Moved) (glyphs : List ℕ) where
-  pub count-first : (p : ℕ) (c : Cursor) (r : Step) → c ≡ startCursor → InLine t s l glyphs p c r
-      → length (verdictsFrom s (l .size) 0 glyphs (l .classes) (l .before) (l .after)) ≡ 0 + length (given r ++ leftAt t s l glyphs (r .next))
-  count-first p c r e i =
-      let w : verdictsFrom s (l .size) 0 glyphs (l .classes) (l .before) (l .after) ≡ given r ++ leftAt t s l glyphs (r .next) =
-      all-left t s l glyphs ∙ ap (leftAt t s l glyphs) (sym e) ∙ i .splits
-      in omega (arith, ap (λ (vs : List Verdict). length vs) w)
+-- how many fire depends neither on the place nor on the numbers
+once : (f : Fires) (place number : ℕ) → length (recordIf f place number) ≡ firesCount f
+once No place number = refl
+once Plain place number = refl
+once Substitutes place number = refl
 
-  found-one : (r : Step) → r .found ≡ true → length (given r ++ leftAt t s l glyphs (r .next)) ≡ 1 + length (leftAt t s l glyphs (r .next))
-  found-one r f = ap (λ (b : Bool). length (cond b (r .verdict ∷ []) [] ++ leftAt t s l glyphs (r .next))) f ∙ one-more (length (leftAt t s l glyphs (r .next)))
+pub same-many : (place class size : ℕ) (growth : ℤ) (number number′ : ℕ) (l : List Action)
+    → length (firings place class size growth number l) ≡ length (firings 0 class size growth number′ l)
+unfolding firings
+same-many place class size growth number number′ [] = refl
+same-many place class size growth number number′ (a ∷ rest) =
+    length-append (recordIf (firesOf a class growth size) place number) (firings place class size growth (suc number) rest)
+    ∙ ap₂ _+_ (once (firesOf a class growth size) place number ∙ sym (once (firesOf a class growth size) 0 number′)) (same-many place class size growth (suc number) (suc number′) rest)
+    ∙ sym (length-append (recordIf (firesOf a class growth size) 0 number′) (firings 0 class size growth (suc number′) rest))
+
+-- a list that is counted action by action
+module _ (t : List ℕ) (class : ℕ) (growth : ℤ) (size : ℕ) where
+  pub count-on : (left at : ℕ) → 0 < left
+      → length (listLeft t class growth size (handCursor left at))
+      ≡ firesCount (firesOf (actionAt t at) class growth size) + length (listLeft t class growth size (handCursor (left - 1) (at + u32At t (at + 4))))
+  unfolding listLeft
+  count-on left at h =
+      ap (λ (vs : List Verdict). length vs) (split t class growth size 0 0 left at h)
+      ∙ length-append (recordIf (firesOf (actionAt t at) class growth size) 0 0) (firings 0 class size growth 1 (actionsAt t (left - 1) (at + u32At t (at + 4))))
+      ∙ ap₂ _+_ (once (firesOf (actionAt t at) class growth size) 0 0) (same-many 0 class size growth 1 0 (actionsAt t (left - 1) (at + u32At t (at + 4))))
+
+  pub count-end : (left at : ℕ) → left ≡ 0 → length (listLeft t class growth size (handCursor left at)) ≡ 0
+  count-end left at e = ap (λ (vs : List Verdict). length vs) (list-spent t class growth size (handCursor left at) e)
+
+pub hand-past : (t : List ℕ) (left at : ℕ) → Serves t 65536 (handCursor left at) → 0 < left → Serves t 65536 (handCursor (left - 1) (at + u32At t (at + 4)))
+hand-past t left at s h =
+    let p = serves-past t (handCursor left at) 65536 s h in
+    record { font = p .font; short = p .short; clear = p .clear; few = omega (arith, p .few); begun = λ z. absurd (omega arith); within = omega arith }
+
+-- a glyph's list, counted
+module _ (t : List ℕ) (class : ℕ) (growth : ℤ) (size : ℕ) (list : List Action) where
+  pub count-there : (left at : ℕ) → actionsAt t left at ≡ list → length (listLeft t class growth size (handCursor left at)) ≡ length (firings 0 class size growth 0 list)
+  unfolding listLeft
+  count-there left at e = ap (λ (l : List Action). length (firings 0 class size growth 0 l)) e
+
+  pub count-none : list ≡ [] → 0 ≡ length (firings 0 class size growth 0 list)
+  unfolding firings
+  count-none e = sym (ap (λ (l : List Action). length (firings 0 class size growth 0 l)) e)
+
+-- a line's lists, counted glyph by glyph
+module _ (s : Side) (l : Moved) (glyphs : List ℕ) where
+  pub count-all : length (verdictsFrom s (l .size) 0 glyphs (l .classes) (l .before) (l .after)) ≡ length (verdictsAt s l glyphs 0)
+  unfolding verdictsAt
+  count-all = refl
+
+  pub count-next : Fits l glyphs → (t : List ℕ) (k r : ℕ) → k < length glyphs → (growth : ℤ) → growth ≡ growthAt l k
+      → r ≡ length (firings 0 (classAt l k) (l .size) growth 0 (getD (s .lists) (getD glyphs k 0) []))
+      → length (verdictsAt s l glyphs k) ≡ r + length (verdictsAt s l glyphs (k + 1))
+  count-next fits t k r h growth g e =
+      ap (λ (vs : List Verdict). length vs) (verdicts-next t s l glyphs fits k h)
+      ∙ length-append (firings k (classAt l k) (l .size) (growthAt l k) 0 (getD (s .lists) (getD glyphs k 0) [])) (verdictsAt s l glyphs (k + 1))
+      ∙ ap (λ (n : ℕ). n + length (verdictsAt s l glyphs (k + 1)))
+      (same-many k (classAt l k) (l .size) (growthAt l k) 0 0 (getD (s .lists) (getD glyphs k 0) [])
+      ∙ sym (e ∙ ap (λ (x : ℤ). length (firings 0 (classAt l k) (l .size) x 0 (getD (s .lists) (getD glyphs k 0) []))) g))
+
+  pub count-past : (t : List ℕ) (k : ℕ) → length glyphs ≤ k → length (verdictsAt s l glyphs k) ≡ 0
+  count-past t k h = ap (λ (vs : List Verdict). length vs) (verdicts-end t s l glyphs k h)
+
+-- ---- an action's limits where they stand
+
+u32-dropped : (t : List ℕ) (n k : ℕ) → u32At (drop n t) k ≡ u32At t (n + k)
+unfolding u32At u16At
+u32-dropped t n k = simp (getD-drop, add-assoc)
+
+byte-copied : (t : List ℕ) (first n i : ℕ) → i < n → getD (bytesAt t first n) i 0 ≡ getD t (first + i) 0
+unfolding bytesAt
+byte-copied t first n i h = getD-from (λ (j : ℕ). getD t j 0) n first i 0 h
+
+u32-copied : (t : List ℕ) (first n k : ℕ) → k + 4 ≤ n → u32At (bytesAt t first n) k ≡ u32At t (first + k)
+unfolding u32At u16At
+u32-copied t first n k h =
+    rw (byte-copied t first n k (omega arith), byte-copied t first n (k + 1) (omega arith), byte-copied t first n (k + 2) (omega arith), byte-copied t first n (k + 2 + 1) (omega arith))
+    (simp add-assoc)
+
+same-limits : (kind : ℕ) (xs ys : List ℕ) (g : ℤ) (s : ℕ) → u32At xs 0 ≡ u32At ys 0 → u32At xs 4 ≡ u32At ys 4 → kindFires kind xs g s ≡ kindFires kind ys g s
+unfolding kindFires breaks substitutes
+same-limits kind xs ys g s e f = simp (e, f)
+
+module _ (t : List ℕ) (at : ℕ) (g : ℤ) (s : ℕ) where
+  zero-type : kindFires 0 (drop (at + 8) t) g s ≡ kindFires 0 (contentAt t at 0) g s
+  unfolding contentAt
+  zero-type =
+      same-limits 0 (drop (at + 8) t) (bytesAt t (at + 8) (12 + 2 * u16At t (at + 18))) g s
+      (u32-dropped t (at + 8) 0 ∙ sym (u32-copied t (at + 8) (12 + 2 * u16At t (at + 18)) 0 (omega arith)))
+      (u32-dropped t (at + 8) 4 ∙ sym (u32-copied t (at + 8) (12 + 2 * u16At t (at + 18)) 4 (omega arith)))
+
+  two-type : kindFires 2 (drop (at + 8) t) g s ≡ kindFires 2 (contentAt t at 2) g s
+  unfolding contentAt
+  two-type =
+      same-limits 2 (drop (at + 8) t) (bytesAt t (at + 8) 8) g s
+      (u32-dropped t (at + 8) 0 ∙ sym (u32-copied t (at + 8) 8 0 (omega arith)))
+      (u32-dropped t (at + 8) 4 ∙ sym (u32-copied t (at + 8) 8 4 (omega arith)))
+
+  -- the other types have no limits
+  other-type : (kind : ℕ) → (kind ≡ 0 → ⊥) → (kind ≡ 2 → ⊥) → kindFires kind (drop (at + 8) t) g s ≡ kindFires kind (contentAt t at kind) g s
+  unfolding kindFires
+  other-type kind a b = simp (ne-eqb kind 0 a, ne-eqb kind 2 b)
+
+  kind-where : (kind : ℕ) → kindFires kind (drop (at + 8) t) g s ≡ kindFires kind (contentAt t at kind) g s
+  kind-where kind = go (ℕ-discrete kind 0) (ℕ-discrete kind 2)
     where
-      one-more : (k : ℕ) → suc k ≡ 1 + k
-      one-more k = omega arith
+      go : Dec (kind ≡ 0) → Dec (kind ≡ 2) → kindFires kind (drop (at + 8) t) g s ≡ kindFires kind (contentAt t at kind) g s
+      go (yes e) q = subst (λ (k : ℕ). kindFires k (drop (at + 8) t) g s ≡ kindFires k (contentAt t at k) g s) (sym e) zero-type
+      go (no a) (yes e) = subst (λ (k : ℕ). kindFires k (drop (at + 8) t) g s ≡ kindFires k (contentAt t at k) g s) (sym e) two-type
+      go (no a) (no b) = other-type kind a b
 
-  pub count-less : (p : ℕ) (r r′ : Step) → r .found ≡ true → InLine t s l glyphs p (r .next) r′
-      → length (given r ++ leftAt t s l glyphs (r .next)) ≡ 1 + length (given r′ ++ leftAt t s l glyphs (r′ .next))
-  count-less p r r′ f i = found-one r f ∙ ap (λ (vs : List Verdict). 1 + length vs) (i .splits)
+module _ (t : List ℕ) (at class : ℕ) (g : ℤ) (s : ℕ) where
+  pub other-class : (u16At t at ≡ class → ⊥) → No ≡ firesOf (actionAt t at) class g s
+  unfolding firesOf actionAt
+  other-class e = sym (ap (λ (b : Bool). cond b (kindFires (u16At t (at + 2)) (contentAt t at (u16At t (at + 2))) g s) No) (ne-eqb (u16At t at) class e))
 
-  pub count-end : (r : Step) → r .found ≡ false → leftAt t s l glyphs (r .next) ≡ [] → length (given r ++ leftAt t s l glyphs (r .next)) ≡ 0
-  count-end r f e =
-      ap (λ (b : Bool). length (cond b (r .verdict ∷ []) [] ++ leftAt t s l glyphs (r .next))) f ∙ ap (λ (vs : List Verdict). length vs) e
+  pub own-class : {r : Fires} {kind : ℕ} {content : List ℕ} → r ≡ kindFires kind content g s → u16At t at ≡ class → kind ≡ u16At t (at + 2) → content ≡ drop (at + 8) t
+      → r ≡ firesOf (actionAt t at) class g s
+  unfolding firesOf actionAt
+  own-class {r} {kind} {content} f e k q =
+      f
+      ∙ ap₂ (λ (x : ℕ) (y : List ℕ). kindFires x y g s) k q
+      ∙ kind-where t at g s (u16At t (at + 2))
+      ∙ sym (ap (λ (b : Bool). cond b (kindFires (u16At t (at + 2)) (contentAt t at (u16At t (at + 2))) g s) No) (eq-eqb (u16At t at) class e))
+
+-- what stands from a position to the end
+pub rest-whole : (t : List ℕ) (n : ℕ) → take (length t - n) (drop n t) ≡ drop n t
+rest-whole t n = ap (λ (k : ℕ). take k (drop n t)) (sym (length-drop n t)) ∙ take-length (drop n t)

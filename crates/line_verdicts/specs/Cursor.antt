@@ -3,10 +3,10 @@
 use Prim.Native.Nat.{ℕ, _+_, _-_, _≤_}
 use mathlib.Core.Path.{_≡_}
 use mathlib.Core.Bool.{Bool, true, false, cond}
-use mathlib.Core.Option.{Option, none, some}
+use mathlib.Core.Option.{some}
 use mathlib.Core.List.{List, [], _∷_, _++_}
 use lib.IntN.{ℤ, pos, _+ℤ_}
-use lib.ListN.{length, getD, getElem?, drop}
+use lib.ListN.{length, getD, drop}
 use Rattle.fields.specs.declared.Fault.the-variants.{Clear}
 use Rattle.fields.specs.Field.{u32At}
 use Rattle.parts.specs.declared.Verdict.{Verdict}
@@ -20,17 +20,6 @@ use Rattle.table.specs.Table.{tableFault}
 use Rattle.lines.specs.Line.{firings, verdictsFrom}
 use Rattle.line_verdicts.specs.declared.Cursor.{Cursor}
 use Rattle.line_verdicts.specs.declared.Step.{Step}
-
--- ---- one action
-
--- whether it fires, where it is there
-abbrev pub firesIn : Option Action → ℕ → ℤ → ℕ → Fires
-firesIn none class growth size = No
-firesIn (some a) class growth size = firesOf a class growth size
-
--- the action of a glyph with a number
-unfoldable pub firesAt : Side → ℕ → ℕ → ℕ → ℤ → ℕ → Fires
-firesAt s glyph number class growth size = firesIn (getElem? (getD (s .lists) glyph []) number) class growth size
 
 -- ---- what is left
 
@@ -66,6 +55,16 @@ leftAt t s l glyphs c = listLeft t (classAt l (c .next - 1)) (growthAt l (c .nex
 -- nothing is taken
 abbrev pub startCursor : Cursor
 startCursor = record { next = 0; number = 0; left = 0; at = 0 }
+
+-- nothing is taken of a list of so many actions, the first of which stands at `at`; whose glyph's list it is does not count
+abbrev pub handCursor : ℕ → ℕ → Cursor
+handCursor left at = record { next = 1; number = 0; left = left; at = at }
+
+-- one verdict, or none
+abbrev pub firesCount : Fires → ℕ
+firesCount No = 0
+firesCount Plain = 1
+firesCount Substitutes = 1
 
 -- ---- a step
 

@@ -1,7 +1,7 @@
 // Which actions of a line's glyphs fire (document 01, "Verdicts"), one verdict after the other, by place and then in
 // list order, and how many there are. The decision works on plain numbers. The table is one that was accepted.
 ghost use mathlib.Core.Path.{_≡_};
-ghost use Prim.Native.Nat.{_≤_, _<_, _^_};
+ghost use Prim.Native.Nat.{_+_, _≤_, _<_};
 ghost use mathlib.Core.List.{[]};
 ghost use lib.IntN.{pos, _+ℤ_};
 ghost use lib.ListN.{length, getD};
@@ -11,8 +11,8 @@ ghost use Rattle.actions.specs.Actions.{actionAt};
 ghost use Rattle.verdict.specs.Verdict.{firesOf};
 ghost use Rattle.table.specs.Table.{tableFault};
 ghost use Rattle.table.specs.Means.{meaningOf};
-ghost use Rattle.lines.specs.Line.{verdictsFrom};
-ghost use Rattle.line_verdicts.specs.Cursor.{firesAt, moved, startCursor, stepOf, nothingAt, judgedAt, Serves, Begins, InList, Here, InLine, Ready};
+ghost use Rattle.lines.specs.Line.{firings, verdictsFrom};
+ghost use Rattle.line_verdicts.specs.Cursor.{moved, stepOf, nothingAt, judgedAt, firesCount, handCursor, listLeft, Serves, Begins, InList, Here, InLine, Ready};
 use actions::Spot;
 use parts::Direction;
 use parts::Verdict;
@@ -35,32 +35,17 @@ pub struct Step {
     pub next: Cursor,
 }
 
-// Whether the action at `at` fires for a glyph of a class, at its growth and the point size.
+// Whether the action at `at` fires for a glyph of a class, at its growth and the point size. Its limits are read where
+// they stand.
 fn fires_here(table: &[u8], at: usize, class: u8, growth: Units, size: u32) -> Fires
-    requires { ⌜ (at < 2 ^ 62) × (length (actionAt (now table) at .content) ≤ 76) ⌝ }
+    requires { ⌜ at + 8 ≤ length (now table) ⌝ }
     ensures { λ r. ⌜ r ≡ firesOf (actionAt (now (table .entry)) at) class (growth .0) size ⌝ }
 {
-    verdict::action_fires(actions::action_at(table, at), class, growth, size)
-}
-
-// Whether the action of a glyph with a number fires; there may be none.
-pub fn fires_at(
-    table: &[u8],
-    count: u32,
-    direction: Direction,
-    size: u32,
-    glyph: u16,
-    class: u8,
-    growth: Units,
-    number: u16,
-) -> Fires
-    requires { ⌜ tableFault (now table) count ≡ Clear ⌝ }
-    ensures { λ r. ⌜ r ≡ firesAt (sideOf direction (meaningOf (now (table .entry)) count)) glyph number class (growth .0) size ⌝ }
-{
-    match table_parts::action_spot(table, count, direction, glyph, number) {
-        Spot::At(at) => fires_here(table, at, class, growth, size),
-        Spot::Nowhere => Fires::No,
+    if fields::u16_at(table, at) != class as usize {
+        return Fires::No;
     }
+    let kind = fields::u16_at(table, at + 2) as u16;
+    verdict::kind_fires(kind, &table[at + 8..], growth, size)
 }
 
 // What a glyph grows by: its two movements.
@@ -71,18 +56,6 @@ fn growth_at(before: &[i32], after: &[i32], place: usize) -> Units
     let first = before[place];
     let second = after[place];
     Units((first as i64) + (second as i64))
-}
-
-// Nothing is taken.
-pub fn start() -> Cursor
-    ensures { λ r. ⌜ r ≡ startCursor ⌝ }
-{
-    Cursor {
-        next: 0,
-        number: 0,
-        left: 0,
-        at: 0,
-    }
 }
 
 // The step past an action that was judged.
@@ -255,6 +228,67 @@ pub fn next_verdict<'a>(
     })
 }
 
+// 1 where the action at `at` fires for a glyph of a class, at its growth and the point size, else 0.
+fn fires_once(table: &[u8], at: usize, class: u8, growth: Units, size: u32) -> usize
+    requires { ⌜ at + 8 ≤ length (now table) ⌝ }
+    ensures { λ r. ⌜ (r ≡ firesCount (firesOf (actionAt (now (table .entry)) at) class (growth .0) size)) × (r ≤ 1) ⌝ }
+{
+    match fires_here(table, at, class, growth, size) {
+        Fires::No => 0,
+        Fires::Plain => 1,
+        Fires::Substitutes => 1,
+    }
+}
+
+// How many of `count` actions from `first` on fire for a glyph of a class, at its growth and the point size.
+fn count_list(
+    table: &[u8],
+    class: u8,
+    growth: Units,
+    size: u32,
+    count: usize,
+    first: usize,
+) -> usize
+    requires { ⌜ Serves (now table) 65536 (handCursor count first) ⌝ }
+    ensures { λ r. ⌜ (r ≡ length (listLeft (now (table .entry)) class (growth .0) size (handCursor count first))) × (r ≤ 64) ⌝ }
+{
+    let mut total: usize = 0;
+    let mut left = count;
+    let mut at = first;
+    while 0 < left {
+        total += fires_once(table, at, class, growth, size);
+        at += fields::u32_at(table, at + 4);
+        left -= 1;
+    }
+    total
+}
+
+// How many actions of a glyph fire, for its class and growth and the point size.
+fn count_glyph(
+    table: &[u8],
+    count: u32,
+    direction: Direction,
+    glyph: u16,
+    class: u8,
+    growth: Units,
+    size: u32,
+) -> usize
+    requires { ⌜ tableFault (now table) count ≡ Clear ⌝ }
+    ensures { λ r. ⌜ (r ≡ length (firings 0 class size (growth .0) 0 (getD (sideOf direction (meaningOf (now (table .entry)) count) .lists) glyph []))) × (r ≤ 64) ⌝ }
+{
+    let Spot::At(at) = table_parts::list_spot(table, count, direction, glyph) else {
+        return 0;
+    };
+    count_list(
+        table,
+        class,
+        growth,
+        size,
+        fields::u32_at(table, at),
+        at + 4,
+    )
+}
+
 // How many verdicts a line has.
 pub fn count_verdicts<'a>(
     table: &'a [u8],
@@ -270,30 +304,19 @@ pub fn count_verdicts<'a>(
     ensures { λ r. ⌜ r ≡ length (verdictsFrom (sideOf direction (meaningOf (now (table .entry)) count)) size 0 (now (glyphs .entry)) (now (classes .entry)) (now (before .entry)) (now (after .entry))) ⌝ }
 {
     let mut total: usize = 0;
-    let mut step = next_verdict(
-        table,
-        count,
-        direction,
-        size,
-        glyphs,
-        classes,
-        before,
-        after,
-        start(),
-    );
-    while step.found {
-        total += 1;
-        step = next_verdict(
+    let mut place: usize = 0;
+    while place < glyphs.len() {
+        let growth = growth_at(before, after, place);
+        total += count_glyph(
             table,
             count,
             direction,
+            glyphs[place],
+            classes[place],
+            growth,
             size,
-            glyphs,
-            classes,
-            before,
-            after,
-            step.next,
         );
+        place += 1;
     }
     total
 }

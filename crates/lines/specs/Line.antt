@@ -21,7 +21,7 @@ use Rattle.walk.specs.Walk.{Walk, going, stopped, walked, noWalk}
 use Rattle.walk.specs.Walk as walk
 use Rattle.walk.specs.Line.{lineOf}
 use Rattle.share.specs.Share.{noPart}
-use Rattle.share.specs.Line.{Glyph, apart, beforeMoves, afterMoves, lineLeft, lineFits, signedOf}
+use Rattle.share.specs.Line.{Glyph, apart, beforeMoves, afterMoves, lineLeft, lineFits, signedOf, sumℤ}
 use Rattle.verdict.specs.declared.Fires.{Fires}
 use Rattle.verdict.specs.declared.Fires.the-variants.{No, Plain, Substitutes}
 use Rattle.verdict.specs.Verdict.{firesOf}
@@ -37,10 +37,6 @@ pub record Line : Type 0 where
   pub target : ℤ
 
 -- ---- the gap
-
-abbrev pub sumℤ : List ℤ → ℤ
-sumℤ [] = pos 0
-sumℤ (a ∷ rest) = a +ℤ sumℤ rest
 
 -- the target less the advances; the line shrinks where it is negative, and the rule works on its size
 unfoldable pub gapOf : Line → ℤ

@@ -1,5 +1,5 @@
 -- Bytes and actions one after the other, and the bytes of an action and of a list.
-use Prim.Native.Nat.{ℕ, zero, suc, _+_, _-_, _*_, _≤_, _<_, _^_}
+use Prim.Native.Nat.{ℕ, zero, suc, _+_, _-_, _*_, _%_, _≤_, _<_, _^_}
 use mathlib.Core.Path.{_≡_, refl, sym, ap, ap₂, _∙_, subst}
 use mathlib.Core.Bool.{Bool, true, false}
 use mathlib.Core.List.{List, [], _∷_, _++_, head-eq-of-cons-eq, tail-eq-of-cons-eq}
@@ -13,17 +13,15 @@ use Rattle.fields.specs.Laws.{u32At-past}
 use Rattle.lists.specs.Codes.{many, counted}
 use Rattle.lists.specs.Sections.{byte}
 use Rattle.lists.specs.Upto.{from}
+use Rattle.lists.proofs.SectionLaws.{many-byte}
 use Rattle.meaning.specs.Meaning.{Action}
 use Rattle.meaning.specs.Sheet.{actionCode}
-use Rattle.section.specs.Section.{Says}
+use Rattle.lists.specs.Tests.{Says}
 use Rattle.actions.specs.Faults.{dataSize}
 use Rattle.actions.specs.Actions.{bytesAt, contentAt, actionAt, actionsAt, listAt}
 use Rattle.actions.proofs.Copies.{bytes-length}
 use Rattle.actions.proofs.Laws.{list-length}
-
-pub many-byte : (bs : List ℕ) → many byte bs ≡ bs
-many-byte [] = refl
-many-byte (b ∷ bs) = ap (λ (l : List ℕ). b ∷ l) (many-byte bs)
+use Rattle.list_code.specs.Print.{weight, actionPrint, actionsPrint}
 
 module _ (t : List ℕ) where
   -- ---- bytes
@@ -188,3 +186,43 @@ module _ (t : List ℕ) (r : Bool) (a b k : ℕ) where
   same-plain s n ea eb f =
       subst (λ (l : List ℕ). Says r (l ≡ contentAt t b k)) (ap (bytesAt t (a + 8)) ea ∙ sym (content-plain t a k n))
       (subst (λ (l : List ℕ). Says r (bytesAt t (a + 8) s ≡ l)) (ap (bytesAt t (b + 8)) eb ∙ sym (content-plain t b k n)) f)
+
+-- ---- the number of a list
+
+module _ (t : List ℕ) where
+  pub weight-more : (n at sum total b : ℕ) → 0 < n → b ≡ getD t at 0
+      → weight (sum + b) (total + (sum + b)) (bytesAt t (at + 1) (n - 1)) ≡ weight sum total (bytesAt t at n)
+  unfolding weight
+  weight-more n at sum total b h e =
+      ap (λ (k : ℕ). weight (sum + k) (total + (sum + k)) (bytesAt t (at + 1) (n - 1))) e ∙ ap (weight sum total) (sym (bytes-cons t n at h))
+
+  pub weight-none : (n at sum total : ℕ) → n ≤ 0 → weight sum total (bytesAt t at n) ≡ total
+  unfolding weight
+  weight-none n at sum total h = ap (weight sum total) (bytes-none t n at h)
+
+  pub weight-5 : (at kind : ℕ) → kind ≡ 5 → weight 0 0 (bytesAt t (at + 10) 2) ≡ weight 0 0 (contentAt t at kind)
+  unfolding weight
+  weight-5 at kind e = sym (ap (weight 0 0) (content-5 t at kind e))
+
+  pub weight-plain : (at kind s : ℕ) → (kind ≡ 5 → ⊥) → s ≡ length (contentAt t at kind) → weight 0 0 (bytesAt t (at + 8) s) ≡ weight 0 0 (contentAt t at kind)
+  weight-plain at kind s n e = ap (λ (k : ℕ). weight 0 0 (bytesAt t (at + 8) k)) e ∙ ap (weight 0 0) (sym (content-plain t at kind n))
+
+  pub action-print : (at c k w : ℕ) → c ≡ u16At t at → k ≡ u16At t (at + 2) → w ≡ weight 0 0 (contentAt t at k)
+      → 17 * c + 19 * k + w ≡ actionPrint (actionAt t at)
+  unfolding actionAt
+  action-print at c k w ec ek ew =
+      ap (λ (x : ℕ). 17 * c + 19 * k + x) ew ∙ ap₂ (λ (i j : ℕ). 17 * i + 19 * j + weight 0 0 (contentAt t at j)) ec ek
+
+  pub print-more : (n at print w j : ℕ) → 0 < n → w ≡ actionPrint (actionAt t at) → j ≡ u32At t (at + 4)
+      → actionsPrint ((31 * print + w) % 1021) (actionsAt t (n - 1) (at + j)) ≡ actionsPrint print (actionsAt t n at)
+  unfolding actionsPrint
+  print-more n at print w j h e ej =
+      ap₂ (λ (k i : ℕ). actionsPrint ((31 * print + k) % 1021) (actionsAt t (n - 1) (at + i))) e ej ∙ ap (actionsPrint print) (sym (actions-cons t n at h))
+
+  pub print-none : (n at print : ℕ) → n ≤ 0 → actionsPrint print (actionsAt t n at) ≡ print
+  unfolding actionsPrint
+  print-none n at print h = ap (actionsPrint print) (actions-none t n at h)
+
+  pub print-all : (at n : ℕ) → n ≡ u32At t at → actionsPrint 0 (actionsAt t n (at + 4)) ≡ actionsPrint 0 (listAt t at)
+  unfolding listAt
+  print-all at n e = ap (λ (k : ℕ). actionsPrint 0 (actionsAt t k (at + 4))) e

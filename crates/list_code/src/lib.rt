@@ -7,31 +7,9 @@ ghost use lib.ListN.{length};
 ghost use lib.Seq.{sets};
 ghost use Rattle.lists.specs.Codes.{many, counted};
 ghost use Rattle.meaning.specs.Sheet.{actionCode};
-ghost use Rattle.section.specs.Section.{Says};
-ghost use Rattle.actions.specs.Faults.{dataSize};
+ghost use Rattle.lists.specs.Tests.{Says};
+ghost use Rattle.list_code.specs.Print.{weight, actionPrint, actionsPrint};
 ghost use Rattle.actions.specs.Actions.{bytesAt, contentAt, actionAt, actionsAt, listAt};
-
-// How many bytes of data a type has, type 0's glyphs left out.
-fn data_size(kind: usize) -> usize
-    ensures { λ r. ⌜ (r ≡ dataSize kind) × (r ≤ 16) ⌝ }
-{
-    if kind == 0 {
-        return 12;
-    }
-    if kind == 1 {
-        return 2;
-    }
-    if kind == 2 {
-        return 8;
-    }
-    if kind == 3 {
-        return 0;
-    }
-    if kind == 4 {
-        return 16;
-    }
-    4
-}
 
 // How many bytes of data the action at `at` has, of type `kind`.
 fn content_size(table: &[u8], at: usize, kind: usize) -> usize
@@ -41,7 +19,7 @@ fn content_size(table: &[u8], at: usize, kind: usize) -> usize
     if kind == 0 {
         return 12 + 2 * fields::u16_at(table, at + 18);
     }
-    data_size(kind)
+    actions::data_size(kind)
 }
 
 // Whether the `count` bytes from `first` on are the same as those from `second` on.
@@ -128,6 +106,60 @@ pub fn same_list(table: &[u8], first: u16, second: u16) -> bool
     } else {
         false
     }
+}
+
+// The running sums of `count` bytes, added up.
+fn weigh(table: &[u8], first: usize, count: usize) -> usize
+    requires { ⌜ (first < 2 ^ 61) × (count < 2 ^ 18) ⌝ }
+    ensures { λ r. ⌜ (r ≡ weight 0 0 (bytesAt (now (table .entry)) first count)) × (r < 2 ^ 45) ⌝ }
+{
+    let mut at = first;
+    let mut left = count;
+    let mut sum: usize = 0;
+    let mut total: usize = 0;
+    while 0 < left {
+        sum += fields::u8_at(table, at);
+        total += sum;
+        at += 1;
+        left -= 1;
+    }
+    total
+}
+
+// The same of the data of the action at `at`, of type `kind`.
+fn content_weight(table: &[u8], at: usize, kind: usize) -> usize
+    requires { ⌜ at < 2 ^ 60 ⌝ }
+    ensures { λ r. ⌜ (r ≡ weight 0 0 (contentAt (now (table .entry)) at kind)) × (r < 2 ^ 45) ⌝ }
+{
+    // the flags are ignored
+    if kind == 5 {
+        return weigh(table, at + 10, 2);
+    }
+    weigh(table, at + 8, content_size(table, at, kind))
+}
+
+fn action_print(table: &[u8], at: usize) -> usize
+    requires { ⌜ at < 2 ^ 60 ⌝ }
+    ensures { λ r. ⌜ (r ≡ actionPrint (actionAt (now (table .entry)) at)) × (r < 2 ^ 46) ⌝ }
+{
+    let kind = fields::u16_at(table, at + 2);
+    17 * fields::u16_at(table, at) + 19 * kind + content_weight(table, at, kind)
+}
+
+// A number below 1,021 for the list at a position, the same for the same lists.
+pub fn list_print(table: &[u8], place: u16) -> usize
+    requires { ⌜ length (now table) ≤ 2 ^ 15 ⌝ }
+    ensures { λ r. ⌜ (r ≡ actionsPrint 0 (listAt (now (table .entry)) place)) × (r < 1021) ⌝ }
+{
+    let mut at = place as usize + 4;
+    let mut left = fields::u32_at(table, place as usize);
+    let mut print: usize = 0;
+    while 0 < left {
+        print = (31 * print + action_print(table, at)) % 1021;
+        at += fields::u32_at(table, at + 4);
+        left -= 1;
+    }
+    print
 }
 
 // How many bytes the action at `at` is written in.

@@ -9,12 +9,17 @@ use lib.ListN.{length, drop, replicate, length-append, length-drop}
 use Rattle.fields.specs.Field.{be16}
 use Rattle.lists.specs.Runs.{Run, runs, OkRuns}
 use Rattle.lists.specs.Distinct.{index, distinct, numbers, elements}
-use Rattle.lists.specs.Codes.{All, counted, PrefixFree}
+use Rattle.lists.specs.Codes.{All, many, counted, PrefixFree}
 use Rattle.lists.specs.Sections.{byte, runCode, runLessCode, runSection, numbered, pool}
 use Rattle.lists.proofs.ListLaws.{all-append, all-map, all-unit, all-rest}
 use Rattle.lists.proofs.RunsLaws.{runs-ok, runs-skips, all-runs, runs-injective, ok-few}
 use Rattle.lists.proofs.DistinctLaws.{index-le, index-self, distinct-extends, elements-numbers}
 use Rattle.lists.proofs.CodeLaws.{be16-free, counted-free}
+
+-- bytes one after the other are the bytes
+pub many-byte : (bs : List ℕ) → many byte bs ≡ bs
+many-byte [] = refl
+many-byte (b ∷ bs) = ap (λ (l : List ℕ). b ∷ l) (many-byte bs)
 
 -- ---- codes one after the other
 

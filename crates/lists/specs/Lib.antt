@@ -3,3 +3,4 @@ pub mod Distinct
 pub mod Codes
 pub mod Sections
 pub mod Upto
+pub mod Tests

@@ -229,3 +229,11 @@ range-clear t p least first last h f l a b =
     ∙ then-go _ (rule-clear BadLookup (p + 2) (le-leb least (u16At t (p + 2)) (omega arith)))
     ∙ then-go _ (rule-clear BadLookup (p + 2) (le-leb (u16At t (p + 2)) (u16At t p) (omega arith)))
     ∙ clear-inside t (p + 4) 2 (omega arith)
+
+-- and one of format 6 that lies inside and rises
+pub single-clear : (t : List ℕ) (p least glyph : ℕ) → p + 4 ≤ length t → glyph ≡ u16At t p → least ≤ glyph → singleFault t p least ≡ Clear
+unfolding singleFault
+single-clear t p least glyph h e a =
+    then-go _ (clear-inside t p 2 (omega arith))
+    ∙ then-go _ (rule-clear BadLookup p (le-leb least (u16At t p) (omega arith)))
+    ∙ clear-inside t (p + 2) 2 (omega arith)

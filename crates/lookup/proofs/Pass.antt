@@ -83,12 +83,12 @@ module _ (t : List ℕ) (at : ℕ) where
 
 -- ---- how far a value goes
 
-some-left : (n : ℕ) → (n ≡ 0 → ⊥) → 0 < n
+pub some-left : (n : ℕ) → (n ≡ 0 → ⊥) → 0 < n
 some-left zero h = absurd (h refl)
 some-left (suc n) h = omega arith
 
 -- units that begin above a glyph give it nothing
-none-before : (t : List ℕ) (f at glyph n p least : ℕ) → 0 < n → unitsFault t f n p least ≡ Clear → glyph < firstOf t f p
+pub none-before : (t : List ℕ) (f at glyph n p least : ℕ) → 0 < n → unitsFault t f n p least ≡ Clear → glyph < firstOf t f p
     → unitsValue t f at glyph n p ≡ Nothing
 none-before t f at glyph n p least h e l =
     let rest : unitsFault t f (n - 1) (p + unitSize f) (lastOf t p + 1) ≡ Clear = units-rest t f n p least _ h refl e in

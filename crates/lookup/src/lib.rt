@@ -4,6 +4,7 @@ ghost use mathlib.Core.Path.{_≡_};
 ghost use mathlib.Core.Bool.{true};
 ghost use Prim.Native.Nat.{ℕ, _+_, _-_, _*_, _≤_, _<_, _^_};
 ghost use Rattle.fields.specs.declared.Fault.the-variants.{Clear};
+ghost use Rattle.fields.specs.Field.{u16At};
 ghost use Rattle.lookup.specs.Units.{unitSize, firstOf, rangeFault, singleFault, unitFault, unitsFault, arrayFault, valuesFault, arraysFault, below};
 ghost use Rattle.lookup.specs.Lookup.{countedFault, segmentsFault, trimmedFault, lookupFault};
 ghost use Rattle.lookup.specs.Find.{covers, unitValue, unitsValue, hasUnits, unitCount, trimmedValue, valueFrom, valueOf};
@@ -48,14 +49,14 @@ fn below_count(glyphs: usize, first: usize, end: usize) -> usize
 }
 
 // The bytes of a unit.
-fn unit_size(format: usize) -> usize
+pub fn unit_size(format: usize) -> usize
     ensures { λ r. ⌜ (r ≡ unitSize format) × (r ≤ 6) ⌝ }
 {
     if format == 6 { 4 } else { 6 }
 }
 
 // A unit's first glyph.
-fn first_of(table: &[u8], format: usize, p: usize) -> usize
+pub fn first_of(table: &[u8], format: usize, p: usize) -> usize
     requires { ⌜ p < 2 ^ 40 ⌝ }
     ensures { λ r. ⌜ r ≡ firstOf (now (table .entry)) format p ⌝ }
 {
@@ -100,11 +101,25 @@ fn range_fault(table: &[u8], p: usize, least: usize) -> Fault
     fields::then(last_in, fields::then(first_in, judged))
 }
 
+// Whether a unit of format 6 is seen to be without fault.
+fn single_is_clear(table: &[u8], p: usize, least: usize) -> bool
+    requires { ⌜ p < 2 ^ 40 ⌝ }
+    ensures { λ r. ⌜ (r ≡ true → singleFault (now (table .entry)) p least ≡ Clear) ⌝ }
+{
+    if table.len() < p + 4 {
+        return false;
+    }
+    least <= fields::u16_at(table, p)
+}
+
 // A unit of format 6.
 fn single_fault(table: &[u8], p: usize, least: usize) -> Fault
     requires { ⌜ p < 2 ^ 40 ⌝ }
     ensures { λ r. ⌜ r ≡ singleFault (now (table .entry)) p least ⌝ }
 {
+    if single_is_clear(table, p, least) {
+        return Fault::Clear;
+    }
     let glyph = fields::u16_at(table, p);
     let glyph_in = fields::in_table(table, p, 2);
     let rises = fields::ruled(least <= glyph, Refusal::BadLookup, p);
@@ -383,12 +398,12 @@ pub fn begin(table: &[u8], at: usize) -> Cursor
     }
 }
 
-// Past the units that end below `glyph`.
-fn advance(table: &[u8], at: usize, cursor: Cursor, glyph: usize) -> Cursor
-    requires { ⌜ Serves (now table) at glyph cursor ⌝ }
+// Past the units that end below `glyph`, in the lookup at `at`, whose format was read.
+pub fn advance(table: &[u8], at: usize, format: usize, cursor: Cursor, glyph: usize) -> Cursor
+    requires { ⌜ (format ≡ u16At (now table) at) × Serves (now table) at glyph cursor ⌝ }
     ensures { λ r. ⌜ Reaches (now (table .entry)) at glyph r ⌝ }
 {
-    let size = unit_size(fields::u16_at(table, at));
+    let size = unit_size(format);
     let mut p = cursor.at;
     let mut left = cursor.left;
     while 0 < left {
@@ -453,7 +468,7 @@ pub fn step(table: &[u8], glyphs: usize, at: usize, cursor: Cursor, glyph: usize
     requires { ⌜ (at < 2 ^ 32) × ((glyph < 2 ^ 16) × Serves (now table) at glyph cursor) ⌝ }
     ensures { λ r. ⌜ (r .found ≡ valueOf (now (table .entry)) glyphs at glyph) × Serves (now (table .entry)) at (glyph + 1) (r .cursor) × Constant (now (table .entry)) at glyph (r .until) ⌝ }
 {
-    let next = advance(table, at, cursor, glyph);
+    let next = advance(table, at, fields::u16_at(table, at), cursor, glyph);
     Looked {
         found: value_here(table, glyphs, at, next, glyph),
         until: same_until(table, at, next, glyph),

@@ -1,11 +1,11 @@
 -- One step of the loops over a row's cells and over the rows, and what is known of what is clear.
-use Prim.Native.Nat.{ℕ, zero, suc, _+_, _-_, _*_, _≤_, _<_, _^_, max}
+use Prim.Native.Nat.{ℕ, zero, suc, _+_, _-_, _*_, _/_, _%_, _≤_, _<_, _^_, max}
 use mathlib.Core.Path.{_≡_, refl, _∙_, ap, ap₂}
 use mathlib.Core.List.{List}
 use native.Mathlib.Omega.{arith}
 use native.Mathlib.Nat.{mul-le-mul}
 use lib.ListN.{length, getD}
-use borrow.Author.Tests.{leb-true, le-leb, lt-leb, lt-ltb, le-ltb}
+use borrow.Author.Tests.{leb-true, le-leb, lt-leb, lt-ltb, le-ltb, eq-eqb}
 use Rattle.fields.specs.declared.Refusal.{Refusal}
 use Rattle.fields.specs.declared.Refusal.the-variants.{BadMachine}
 use Rattle.fields.specs.declared.Fault.{Fault}
@@ -15,9 +15,9 @@ use Rattle.fields.specs.Faults.{_then_}
 use Rattle.fields.specs.Laws.{then-first, then-second, then-go, clear-inside, inside-holds, rule-clear, rule-holds}
 use Rattle.fields.specs.Walk.{walk, walk-stop, walk-next, walk-none}
 use Rattle.machine.specs.declared.Scan.the-variants.{Broken, Count}
-use Rattle.machine.specs.Cells.{classCount, classTable, classAt, cellAt}
-use Rattle.machine.specs.Rows.{entryFault, cellFault, cellsFault, rowFault, raised, raisedBy, faultFrom, countFrom, unless, faultOf, countOf}
-use Rattle.machine.specs.Machine.{classFault}
+use Rattle.machine.specs.Cells.{classCount, classTable, classAt, entryAt, numberAt, cellAt}
+use Rattle.machine.specs.Rows.{cellPlace, entryPlace, entryFault, cellFault, cellsFault, rowFault, raised, raisedBy, faultFrom, countFrom, unless, faultOf, countOf}
+use Rattle.machine.specs.Machine.{classFault, classesFault}
 
 -- ---- a fault, or else a number
 
@@ -128,6 +128,44 @@ pub class-clear : (t : List ℕ) (here at class classes : ℕ) → at < length t
 unfolding classFault
 class-clear t here at class classes h e f l =
     then-go _ (clear-inside t at 1 (omega arith)) ∙ rule-clear BadMachine at (lt-ltb (getD t at 0) (classCount t here) (omega arith))
+
+-- class bytes up to `end`
+module _ (t : List ℕ) (here : ℕ) where
+  pub classes-start : (first count : ℕ) → classesFault t here count first ≡ classesFault t here (first + count - first) first
+  classes-start first count =
+      let e : count ≡ first + count - first = omega arith in
+      ap (λ (k : ℕ). classesFault t here k first) e
+
+  pub classes-next : (at end : ℕ) → at < end → classFault t here at ≡ Clear
+      → classesFault t here (end - at) at ≡ classesFault t here (end - (at + 1)) (at + 1)
+  classes-next at end h e =
+      let down : end - at - 1 ≡ end - (at + 1) = omega arith in
+      walk-next (λ p _. classFault t here p) (λ p. p + 1) (λ p. 0) (end - at) at 0 (at + 1) 0 (omega arith) e refl refl
+      ∙ ap (λ (k : ℕ). classesFault t here k (at + 1)) down
+
+  pub classes-none : (at end : ℕ) → end ≤ at → classesFault t here (end - at) at ≡ Clear
+  classes-none at end h = walk-none (λ p _. classFault t here p) (λ p. p + 1) (λ p. 0) (end - at) at 0 (omega arith)
+
+at-most : (n : ℕ) → n < 256 → n ≤ 255
+at-most n h = omega arith
+
+-- a cell whose entry, at `p`, was read: it leads to a whole row, 255 or less
+module _ (t : List ℕ) (here row class classes array p to : ℕ) (f : classes ≡ classCount t here) (g : array ≡ u16At t (here + 4))
+    (q : p ≡ entryPlace t here (numberAt t here row class)) (r : to ≡ u16At t p) where
+  pub cell-leads : (to - array) / classes ≡ cellAt t here row class .row
+  unfolding cellAt entryAt
+  cell-leads = rw (r, q, f, g) refl
+
+  pub cell-clear : cellPlace t here row class < length t → p + 4 ≤ length t → array ≤ to → (to - array) % classes ≡ 0 → (to - array) / classes < 256
+      → cellFault t here row class ≡ Clear
+  unfolding cellFault entryFault cellAt
+  cell-clear h k past whole few =
+      then-go _ (clear-inside t (cellPlace t here row class) 1 (omega arith))
+      ∙ then-go _ (clear-inside t (entryPlace t here (numberAt t here row class)) 2 (omega arith))
+      ∙ then-go _ (rule-clear BadMachine _ (le-leb _ _ (rw (r, q, g) at past)))
+      ∙ then-go _ (rule-clear BadMachine _ (eq-eqb _ _ (rw (r, q, f, g) at whole)))
+      ∙ then-go _ (rule-clear BadMachine _ (le-leb _ _ (at-most _ (rw cell-leads at few))))
+      ∙ clear-inside t (entryPlace t here (numberAt t here row class) + 2) 2 (omega arith)
 
 -- a glyph before the class table's first, after its last, and among them
 module _ (t : List ℕ) (here glyph : ℕ) where

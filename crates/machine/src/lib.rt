@@ -4,8 +4,10 @@
 ghost use mathlib.Core.Path.{_≡_};
 ghost use mathlib.Core.Bool.{true};
 ghost use Rattle.fields.specs.declared.Fault.the-variants.{Clear};
-ghost use Prim.Native.Nat.{_-_, _<_, _^_, max, min};
-ghost use Rattle.machine.specs.Cells.{classCount, classAt, entryAt, cellAt};
+ghost use Prim.Native.Nat.{ℕ, _+_, _-_, _<_, _^_, max, min};
+ghost use Rattle.fields.specs.Field.{u16At};
+ghost use Rattle.machine.specs.declared.Scan.the-variants.{Count};
+ghost use Rattle.machine.specs.Cells.{classCount, entryTable, classAt, entryAt, cellAt};
 ghost use Rattle.machine.specs.Rows.{cellPlace, entryPlace, entryFault, cellFault, rowFault, raisedBy, unless, faultOf, countOf, rowsOf, rowCount};
 ghost use Rattle.machine.specs.Machine.{headFault, classFault, classesFault, covered, classTableFault, machineFault};
 use fields::Fault;
@@ -111,32 +113,43 @@ fn head_fault(table: &[u8], here: usize) -> Fault
     fields::then(count_in, fields::then(enough, fields::then(few, offsets)))
 }
 
-// Whether a class byte is seen to be without fault: most are, and a chain of fields is slower.
-fn class_is_clear(table: &[u8], here: usize, at: usize) -> bool
-    ensures { λ r. ⌜ (r ≡ true → classFault (now (table .entry)) here at ≡ Clear) ⌝ }
-{
-    if table.len() <= at {
-        return false;
-    }
-    fields::u8_at(table, at) < fields::u16_at(table, here)
-}
-
 // The class byte at a position.
 fn class_fault(table: &[u8], here: usize, at: usize) -> Fault
     ensures { λ r. ⌜ r ≡ classFault (now (table .entry)) here at ⌝ }
 {
-    if class_is_clear(table, here, at) {
-        return Fault::Clear;
-    }
     let inside = fields::in_table(table, at, 1);
     let low = fields::u8_at(table, at) < fields::u16_at(table, here);
     fields::then(inside, fields::ruled(low, Refusal::BadMachine, at))
 }
 
+// Whether `count` class bytes are seen to be without fault: most are, and a chain of fields is slower.
+fn classes_are_clear(table: &[u8], here: usize, first: usize, count: usize) -> bool
+    requires { ⌜ (first < 2 ^ 34) × (count < 2 ^ 16) ⌝ }
+    ensures { λ r. ⌜ (r ≡ true → classesFault (now (table .entry)) here count first ≡ Clear) ⌝ }
+{
+    let classes = fields::u16_at(table, here);
+    let end = first + count;
+    if table.len() < end {
+        return false;
+    }
+    let mut at = first;
+    while at < end {
+        if classes <= fields::u8_at(table, at) {
+            return false;
+        }
+        at += 1;
+    }
+    true
+}
+
 // `count` class bytes.
 fn classes_fault(table: &[u8], here: usize, first: usize, count: usize) -> Fault
+    requires { ⌜ (first < 2 ^ 34) × (count < 2 ^ 16) ⌝ }
     ensures { λ r. ⌜ r ≡ classesFault (now (table .entry)) here count first ⌝ }
 {
+    if classes_are_clear(table, here, first, count) {
+        return Fault::Clear;
+    }
     let mut at = first;
     let mut left = count;
     while 0 < left {
@@ -214,6 +227,65 @@ fn row_cells(table: &[u8], here: usize, row: usize, s: usize) -> Scan
     Scan::Count(rows)
 }
 
+// The row that the cell whose byte stands at `at` leads to, where the cell is seen to be without fault; else 256 or more.
+fn clear_row(table: &[u8], classes: usize, array: usize, entries: usize, at: usize) -> usize
+    requires { ⌜ (0 < classes) × ((array < 2 ^ 16) × (entries < 2 ^ 34)) ⌝ }
+    ensures { λ r. ⌜ ((here row class : ℕ) → classes ≡ classCount (now (table .entry)) here → array ≡ u16At (now (table .entry)) (here + 4) → entries ≡ entryTable (now (table .entry)) here → at ≡ cellPlace (now (table .entry)) here row class → r < 256 → (cellFault (now (table .entry)) here row class ≡ Clear) × (r ≡ cellAt (now (table .entry)) here row class .row)) ⌝ }
+{
+    if table.len() <= at {
+        return 256;
+    }
+    let p = entries + 4 * fields::u8_at(table, at);
+    if table.len() < p + 4 {
+        return 256;
+    }
+    let to = fields::u16_at(table, p);
+    if to < array {
+        return 256;
+    }
+    let past = to - array;
+    if past % classes != 0 {
+        return 256;
+    }
+    past / classes
+}
+
+// The row count `s` as far as a row raises it, where the row is seen to be without fault; else 0.
+fn clear_count(table: &[u8], here: usize, row: usize, s: usize) -> usize
+    requires { ⌜ (here < 2 ^ 32) × (row < 2 ^ 16) ⌝ }
+    ensures { λ r. ⌜ (0 < r → Count r ≡ unless (rowFault (now (table .entry)) here row) (raisedBy (now (table .entry)) here row s)) ⌝ }
+{
+    let classes = fields::u16_at(table, here);
+    let array = fields::u16_at(table, here + 4);
+    let entries = entry_place(table, here, 0);
+    let first = cell_place(table, here, row, 0);
+    let mut class: usize = 0;
+    let mut left = classes;
+    let mut rows = s;
+    while 0 < left {
+        let next = clear_row(table, classes, array, entries, first + class);
+        if 255 < next {
+            return 0;
+        }
+        rows = larger(rows, next + 1);
+        class += 1;
+        left -= 1;
+    }
+    rows
+}
+
+// The first fault of a row, or the row count: most rows have none, and a chain of fields is slower.
+fn row_scan(table: &[u8], here: usize, row: usize, s: usize) -> Scan
+    requires { ⌜ (here < 2 ^ 32) × (row < 2 ^ 16) ⌝ }
+    ensures { λ r. ⌜ r ≡ unless (rowFault (now (table .entry)) here row) (raisedBy (now (table .entry)) here row s) ⌝ }
+{
+    let count = clear_count(table, here, row, s);
+    if 0 < count {
+        return Scan::Count(count);
+    }
+    row_cells(table, here, row, s)
+}
+
 fn fault_of(scan: Scan) -> Fault
     ensures { λ r. ⌜ r ≡ faultOf scan ⌝ }
 {
@@ -240,7 +312,7 @@ fn rows_of(table: &[u8], here: usize) -> Scan
     let mut row: usize = 0;
     let mut s: usize = 2;
     while row < s {
-        let scan = row_cells(table, here, row, s);
+        let scan = row_scan(table, here, row, s);
         if let Scan::Broken(_) = scan {
             return scan;
         }

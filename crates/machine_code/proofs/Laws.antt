@@ -1,19 +1,21 @@
 -- The four sections of a machine by their parts as they are stored.
-use Prim.Native.Nat.{ℕ, _+_, _*_, _≤_, _<_, _^_}
-use mathlib.Core.Path.{_≡_, refl, sym, ap, ap₂, _∙_}
+use Prim.Native.Nat.{ℕ, _+_, _-_, _*_, _≤_, _<_, _^_, min}
+use mathlib.Core.Path.{_≡_, refl, sym, ap, ap₂, _∙_, subst}
 use mathlib.Core.Option.{none, some}
 use mathlib.Core.List.{List, _++_, append-assoc}
 use native.Mathlib.Omega.{arith}
 use native.Mathlib.Nat.{mul-le-mul}
-use lib.ListN.{length, getD, length-append}
-use borrow.Author.Tests.{eq-eqb, ne-eqb}
+use lib.ListN.{length, getD, take, length-append}
+use lib.Seq.{length-take-le}
+use native.Mathlib.Decide.{decLt}
+use borrow.Author.Tests.{eq-eqb, ne-eqb, le-leb, lt-leb, lt-ltb, le-ltb}
 use Rattle.fields.specs.declared.Fault.the-variants.{Clear}
-use Rattle.fields.specs.Field.{be32}
+use Rattle.fields.specs.Field.{u16At, be32}
 use Rattle.lists.specs.Upto.{upto}
 use Rattle.lists.specs.Sections.{runSection, distinctSection, numberSection, numbered}
 use Rattle.meaning.specs.Discrete.{Entry-discrete}
 use Rattle.meaning.specs.Sheet.{entryCode}
-use Rattle.machine.specs.Cells.{classCount, classAt, stateArray, entryAt}
+use Rattle.machine.specs.Cells.{classCount, classTable, classAt, stateArray, entryAt}
 use Rattle.machine.specs.Rows.{rowCount}
 use Rattle.machine.specs.Machine.{machineFault}
 use Rattle.table.specs.Means.{cellBy, machineAt, machineOf}
@@ -21,9 +23,11 @@ use Rattle.table.specs.Table.{machinePart}
 use Rattle.table.proofs.Laws.{present-some}
 use Rattle.places.proofs.Laws.{map-from}
 use Rattle.run_code.specs.RunCode.{runBytes}
+use Rattle.run_code.specs.Spread.{Rise, Stretches}
 use Rattle.run_code.proofs.Laws.{class-runs}
+use Rattle.run_code.proofs.Stretch.{Stored, stored-all, stored-few}
 use Rattle.entry_code.specs.Entries.{storedAt, entriesOf, entryBytes}
-use Rattle.machine_code.specs.Parts.{machineParts, machineBytes}
+use Rattle.machine_code.specs.Parts.{machineParts, machineBytes, OneClass, Classed}
 
 pub few-cells : (rows classes : ℕ) → rows ≤ 256 → classes ≤ 255 → rows * classes < 2 ^ 16
 few-cells rows classes h k = omega (arith, mul-le-mul {n₁ = rows} {m₁ = classes} {n₂ = 256} {m₂ = 255} h k)
@@ -76,3 +80,89 @@ module _ (t : List ℕ) (n offset : ℕ) where
   pub machine-clear : (offset ≡ 0 → ⊥) → machinePart t n offset ≡ Clear → machineFault t n (offset + 8) ≡ Clear
   unfolding machinePart
   machine-clear e f = sym (present-some offset (machineFault t n (offset + 8)) e) ∙ f
+
+-- ---- the classes of glyphs in a row
+
+module _ (t : List ℕ) (here at first past : ℕ) (ea : at ≡ classTable t here) (ef : first ≡ u16At t at) (ep : past ≡ first + u16At t (at + 2)) where
+  class-in : (g : ℕ) → first ≤ g → g < past → classAt t here g ≡ getD t (at + 4 + (g - first)) 0
+  unfolding classAt
+  class-in g a b =
+      let f : first ≡ u16At t (classTable t here) = ef ∙ ap (u16At t) ea in
+      let p : past ≡ u16At t (classTable t here) + u16At t (classTable t here + 2) = ep ∙ ap₂ (λ (x y : ℕ). x + u16At t (y + 2)) f ea in
+      simp (le-leb (u16At t (classTable t here)) g (omega (arith, f, a)), lt-ltb g (u16At t (classTable t here) + u16At t (classTable t here + 2)) (omega (arith, p, b)))
+      (ap₂ (λ (x y : ℕ). getD t (x + 4 + (g - y)) 0) (sym ea) (sym f))
+
+  class-out : (g : ℕ) → (first ≤ g → g < past → ⊥) → classAt t here g ≡ 1
+  unfolding classAt
+  class-out g n =
+      let f : first ≡ u16At t (classTable t here) = ef ∙ ap (u16At t) ea in
+      let p : past ≡ u16At t (classTable t here) + u16At t (classTable t here + 2) = ep ∙ ap₂ (λ (x y : ℕ). x + u16At t (y + 2)) f ea in
+      go f p (decLt g (u16At t (classTable t here)))
+    where
+      go : first ≡ u16At t (classTable t here) → past ≡ u16At t (classTable t here) + u16At t (classTable t here + 2) → Dec (g < u16At t (classTable t here))
+          → classAt t here g ≡ 1
+      go f p (yes l) = simp (lt-leb (u16At t (classTable t here)) g l)
+      go f p (no l) =
+          simp (le-leb (u16At t (classTable t here)) g (omega (arith, l)), le-ltb g (u16At t (classTable t here) + u16At t (classTable t here + 2)) (omega (arith, p, f, l, past-le f l)))
+        where
+          past-le : first ≡ u16At t (classTable t here) → (g < u16At t (classTable t here) → ⊥) → past ≤ g
+          past-le f l = not-lt (decLt g past)
+            where
+              not-lt : Dec (g < past) → past ≤ g
+              not-lt (yes q) = absurd (n (omega (arith, f, l)) q)
+              not-lt (no q) = omega (arith, q)
+
+  module _ (n glyph : ℕ) (h : glyph < n) where
+    pub class-after : past ≤ glyph → OneClass t n here glyph n
+    class-after b =
+        record { more = h; most = omega arith; same = λ g p q. class-out g (λ x y. omega arith) ∙ sym (class-out glyph (λ x y. omega arith)) }
+
+    pub class-before : glyph < first → OneClass t n here glyph (min first n)
+    class-before b =
+        record { more = omega arith; most = omega arith; same = λ g p q. class-out g (λ x y. omega arith) ∙ sym (class-out glyph (λ x y. omega arith)) }
+
+    pub class-within : (r : ℕ) → first ≤ glyph → glyph < past → 0 < r → r ≤ min past n - glyph
+        → ((k : ℕ) → k < r → getD t (at + 4 + (glyph - first) + k) 0 ≡ getD t (at + 4 + (glyph - first)) 0) → OneClass t n here glyph (glyph + r)
+    class-within r a b c d e =
+        record {
+          more = omega arith;
+          most = omega arith;
+          same = λ g p q.
+              let s : at + 4 + (glyph - first) + (g - glyph) ≡ at + 4 + (g - first) = omega arith in
+              class-in g (omega arith) (omega arith) ∙ ap (λ (x : ℕ). getD t x 0) (sym s) ∙ e (g - glyph) (omega arith) ∙ sym (class-in glyph a b);
+        }
+
+-- ---- bytes that are the same
+
+pub one-byte : (t : List ℕ) (at k : ℕ) → k < 1 → getD t (at + k) 0 ≡ getD t at 0
+one-byte t at k h = let e : at + k ≡ at = omega arith in ap (λ (x : ℕ). getD t x 0) e
+
+pub more-bytes : (t : List ℕ) (at n : ℕ) → getD t (at + n) 0 ≡ getD t at 0 → ((k : ℕ) → k < n → getD t (at + k) 0 ≡ getD t at 0)
+    → (k : ℕ) → k < n + 1 → getD t (at + k) 0 ≡ getD t at 0
+more-bytes t at n e f k h = go (decLt k n)
+  where
+    go : Dec (k < n) → getD t (at + k) 0 ≡ getD t at 0
+    go (yes l) = f k l
+    go (no l) = let s : at + k ≡ at + n = omega (arith, l) in ap (λ (x : ℕ). getD t x 0) s ∙ e
+
+-- ---- the stretches that were found
+
+pub classed : (t : List ℕ) (n here : ℕ) (ends classes : List ℕ) (m g : ℕ) → m ≤ length ends → n ≤ g → Stored (classAt t here) n ends classes m g
+    → Classed t n here ends classes m
+classed t n here ends classes m g l h s =
+    let e : g ≡ n = omega (arith, s .most) in
+    record {
+      rise = subst (Rise 0 (take m ends)) e (s .rise);
+      fits = omega (arith, s .most, stored-few (classAt t here) n ends classes m g l s);
+      same = stored-all (classAt t here) n ends classes m g s h;
+    }
+
+pub classed-stretches : (t : List ℕ) (n here : ℕ) (ends classes : List ℕ) (m : ℕ) → n < 2 ^ 16 → n ≤ length ends → n ≤ length classes
+    → Classed t n here ends classes m → Stretches (take m ends) (take m classes)
+classed-stretches t n here ends classes m h a b c =
+    record {
+      last = n;
+      few = h;
+      rise = c .rise;
+      each = length-take-le m classes (omega (arith, c .fits)) ∙ sym (length-take-le m ends (omega (arith, c .fits)));
+    }

@@ -1,10 +1,15 @@
 -- Sections 1 to 4 of a sheet for the machine of a table, or for none (document 01, "The sheet").
-use Prim.Native.Nat.{ℕ}
+use Prim.Native.Nat.{ℕ, _≤_, _<_}
+use mathlib.Core.Path.{_≡_}
 use mathlib.Core.Option.{Option}
 use mathlib.Core.List.{List, _++_}
+use lib.ListN.{take}
+use Rattle.lists.specs.Upto.{upto}
 use Rattle.meaning.specs.Meaning.{Machine}
 use Rattle.meaning.specs.Sheet.{machineSection, classSection, entrySection, cellSection}
+use Rattle.machine.specs.Cells.{classAt}
 use Rattle.table.specs.Means.{machineOf}
+use Rattle.run_code.specs.Spread.{spread, Rise}
 
 unfoldable pub machineParts : Option Machine → List ℕ
 machineParts m = machineSection m ++ classSection m ++ entrySection m ++ cellSection m
@@ -12,3 +17,15 @@ machineParts m = machineSection m ++ classSection m ++ entrySection m ++ cellSec
 -- those of the machine at an offset, 0 for none
 unfoldable pub machineBytes : List ℕ → ℕ → ℕ → List ℕ
 machineBytes t n offset = machineParts (machineOf t n offset)
+
+-- the glyphs from `glyph` up to `end` have one class
+pub record OneClass (t : List ℕ) (n here glyph end : ℕ) : Type 0 where
+  pub more : glyph < end
+  pub most : end ≤ n
+  pub same : (g : ℕ) → glyph ≤ g → g < end → classAt t here g ≡ classAt t here glyph
+
+-- the classes of n glyphs by the first m stretches
+pub record Classed (t : List ℕ) (n here : ℕ) (ends classes : List ℕ) (m : ℕ) : Type 0 where
+  pub rise : Rise 0 (take m ends) n
+  pub fits : m ≤ n
+  pub same : spread 0 (take m ends) (take m classes) ≡ upto (classAt t here) n

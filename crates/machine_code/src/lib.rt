@@ -3,78 +3,156 @@
 ghost use mathlib.Core.Path.{_≡_};
 ghost use mathlib.Core.Option.{some};
 ghost use mathlib.Core.List.{_++_};
-ghost use Prim.Native.Nat.{_+_, _*_, _≤_, _<_, _^_};
-ghost use lib.ListN.{length};
+ghost use Prim.Native.Nat.{ℕ, _+_, _*_, _≤_, _<_, _^_, min};
+ghost use lib.ListN.{length, getD};
 ghost use lib.Seq.{sets};
 ghost use Rattle.fields.specs.declared.Fault.the-variants.{Clear};
 ghost use Rattle.fields.specs.Field.{be32};
 ghost use Rattle.lists.specs.Upto.{upto};
-ghost use Rattle.machine.specs.Cells.{classCount, classAt};
-ghost use Rattle.machine.specs.Rows.{rowCount};
+ghost use Rattle.machine.specs.Cells.{classAt};
 ghost use Rattle.machine.specs.Machine.{machineFault};
 ghost use Rattle.table.specs.Means.{machineAt};
 ghost use Rattle.table.specs.Table.{machinePart};
-ghost use Rattle.machine_code.specs.Parts.{machineParts, machineBytes};
+ghost use Rattle.run_code.specs.RunCode.{runBytes};
+ghost use Rattle.machine_code.specs.Parts.{machineParts, machineBytes, OneClass, Classed};
 
-// The class of each glyph.
-fn class_numbers(table: &[u8], glyphs: usize, here: usize, classes: &mut [u16])
-    requires { ⌜ (here < 2 ^ 32) × ((glyphs < 2 ^ 16) × (length (now classes) ≡ glyphs)) ⌝ }
-    ensures { λ r. ⌜ now (classes .exit) ≡ upto (classAt (now (table .entry)) here) glyphs ⌝ }
+fn lower(a: usize, b: usize) -> usize
+    ensures { λ r. ⌜ r ≡ min a b ⌝ }
 {
-    let mut glyph: usize = 0;
-    while glyph < glyphs {
-        classes[glyph] = machine::class_of(table, here, glyph as u16) as u16;
-        glyph += 1;
+    if a < b { a } else { b }
+}
+
+// How many bytes from `at` on, of `most`, are the same.
+fn same_count(table: &[u8], at: usize, most: usize) -> usize
+    requires { ⌜ (0 < most) × (at + most < 2 ^ 62) ⌝ }
+    ensures { λ r. ⌜ (0 < r) × (r ≤ most) × ((k : ℕ) → k < r → getD (now (table .entry)) (at + k) 0 ≡ getD (now (table .entry)) at 0) ⌝ }
+{
+    let value = fields::u8_at(table, at);
+    let mut count: usize = 1;
+    while count < most {
+        if fields::u8_at(table, at + count) == value {
+            count += 1;
+        } else {
+            return count;
+        }
     }
+    count
 }
 
-// How many cells the machine has.
-fn cell_count(table: &[u8], glyphs: usize, here: usize) -> usize
-    requires { ⌜ (here < 2 ^ 32) × (machineFault (now table) glyphs here ≡ Clear) ⌝ }
-    ensures { λ r. ⌜ (r ≡ rowCount (now (table .entry)) here * classCount (now (table .entry)) here) × (r < 2 ^ 16) ⌝ }
+// Up to which glyph the glyphs from `glyph` on have one class.
+fn class_end(table: &[u8], glyphs: usize, here: usize, glyph: usize) -> usize
+    requires { ⌜ (here < 2 ^ 32) × ((glyph < glyphs) × (glyphs < 2 ^ 16)) ⌝ }
+    ensures { λ r. ⌜ OneClass (now (table .entry)) glyphs here glyph r ⌝ }
 {
-    machine::row_count(table, here) * fields::u16_at(table, here)
+    let at = here + fields::u16_at(table, here + 2);
+    let first = fields::u16_at(table, at);
+    let past = first + fields::u16_at(table, at + 2);
+    if past <= glyph {
+        return glyphs;
+    }
+    if glyph < first {
+        return lower(first, glyphs);
+    }
+    glyph + same_count(table, at + 4 + (glyph - first), lower(past, glyphs) - glyph)
 }
 
-// How many bytes the sections of the machine take.
-fn size_at(table: &[u8], glyphs: usize, here: usize, classes: &mut [u16]) -> usize
-    requires { ⌜ (here < 2 ^ 32) × ((glyphs < 2 ^ 16) × ((length (now classes) ≡ glyphs) × (machineFault (now table) glyphs here ≡ Clear))) ⌝ }
-    ensures { λ r. ⌜ (r ≡ length (machineParts (some (machineAt (now (table .entry)) glyphs here)))) × (r < 2 ^ 20) ⌝ }
-{
-    class_numbers(table, glyphs, here, classes);
-    let count = cell_count(table, glyphs, here);
-    12 + run_code::runs_size(classes, 1) + entry_code::entries_size(table, here, count)
-}
-
-// Stores section 1: one machine, its row count and its class count.
-fn put_sizes(table: &[u8], glyphs: usize, here: usize, out: &mut [u8], to: usize)
-    requires { ⌜ (here < 2 ^ 32) × ((to < 2 ^ 40) × (machineFault (now table) glyphs here ≡ Clear)) ⌝ }
-    ensures { λ r. ⌜ now (out .exit) ≡ sets (now (out .entry)) to (be32 1 ++ be32 (rowCount (now (table .entry)) here) ++ be32 (classCount (now (table .entry)) here)) ⌝ }
-{
-    fields::put_u32(out, to, 1);
-    fields::put_u32(out, to + 4, machine::row_count(table, here) as u32);
-    fields::put_u32(out, to + 8, fields::u16_at(table, here) as u32);
-}
-
-// Stores the sections of the machine, and answers where they end.
-fn put_at(
+// The classes of the glyphs by stretches of glyphs that have one, and how many stretches there are.
+fn class_stretches(
     table: &[u8],
     glyphs: usize,
     here: usize,
+    ends: &mut [u16],
+    classes: &mut [u16],
+) -> usize
+    requires { ⌜ (here < 2 ^ 32) × ((glyphs < 2 ^ 16) × ((glyphs ≤ length (now ends)) × (glyphs ≤ length (now classes)))) ⌝ }
+    ensures { λ r. ⌜ Classed (now (table .entry)) glyphs here (now (ends .exit)) (now (classes .exit)) r ⌝ }
+{
+    let mut glyph: usize = 0;
+    let mut count: usize = 0;
+    while glyph < glyphs {
+        let class = machine::class_of(table, here, glyph as u16);
+        let end = class_end(table, glyphs, here, glyph);
+        ends[count] = end as u16;
+        classes[count] = class as u16;
+        glyph = end;
+        count += 1;
+    }
+    count
+}
+
+// Stores section 2, and answers where it ends.
+fn put_classes(
+    table: &[u8],
+    glyphs: usize,
+    here: usize,
+    ends: &mut [u16],
     classes: &mut [u16],
     out: &mut [u8],
     to: usize,
 ) -> usize
-    requires { ⌜ (here < 2 ^ 32) × ((glyphs < 2 ^ 16) × ((length (now classes) ≡ glyphs) × (machineFault (now table) glyphs here ≡ Clear))) ⌝ }
+    requires { ⌜ (here < 2 ^ 32) × ((glyphs < 2 ^ 16) × ((glyphs ≤ length (now ends)) × (glyphs ≤ length (now classes)))) ⌝ }
+    requires { ⌜ to < 2 ^ 40 ⌝ }
+    ensures { λ r. ⌜ (r ≡ to + length (runBytes 1 0 (upto (classAt (now (table .entry)) here) glyphs))) × (r < to + 2 ^ 19)
+        × (now (out .exit) ≡ sets (now (out .entry)) to (runBytes 1 0 (upto (classAt (now (table .entry)) here) glyphs))) ⌝ }
+{
+    let m = class_stretches(table, glyphs, here, ends, classes);
+    run_code::put_runs(&ends[..m], &classes[..m], 1, 0, out, to)
+}
+
+// The same with rooms for few glyphs, and for any number.
+fn put_few(table: &[u8], glyphs: usize, here: usize, out: &mut [u8], to: usize) -> usize
+    requires { ⌜ (here < 2 ^ 32) × ((glyphs ≤ 512) × (to < 2 ^ 40)) ⌝ }
+    ensures { λ r. ⌜ (r ≡ to + length (runBytes 1 0 (upto (classAt (now (table .entry)) here) glyphs))) × (r < to + 2 ^ 19)
+        × (now (out .exit) ≡ sets (now (out .entry)) to (runBytes 1 0 (upto (classAt (now (table .entry)) here) glyphs))) ⌝ }
+{
+    let mut ends = [0u16; 512];
+    let mut classes = [0u16; 512];
+    put_classes(table, glyphs, here, &mut ends, &mut classes, out, to)
+}
+
+fn put_many(table: &[u8], glyphs: usize, here: usize, out: &mut [u8], to: usize) -> usize
+    requires { ⌜ (here < 2 ^ 32) × ((glyphs < 2 ^ 16) × (to < 2 ^ 40)) ⌝ }
+    ensures { λ r. ⌜ (r ≡ to + length (runBytes 1 0 (upto (classAt (now (table .entry)) here) glyphs))) × (r < to + 2 ^ 19)
+        × (now (out .exit) ≡ sets (now (out .entry)) to (runBytes 1 0 (upto (classAt (now (table .entry)) here) glyphs))) ⌝ }
+{
+    let mut ends = [0u16; 65536];
+    let mut classes = [0u16; 65536];
+    put_classes(table, glyphs, here, &mut ends, &mut classes, out, to)
+}
+
+fn put_class_runs(table: &[u8], glyphs: usize, here: usize, out: &mut [u8], to: usize) -> usize
+    requires { ⌜ (here < 2 ^ 32) × ((glyphs < 2 ^ 16) × (to < 2 ^ 40)) ⌝ }
+    ensures { λ r. ⌜ (r ≡ to + length (runBytes 1 0 (upto (classAt (now (table .entry)) here) glyphs))) × (r < to + 2 ^ 19)
+        × (now (out .exit) ≡ sets (now (out .entry)) to (runBytes 1 0 (upto (classAt (now (table .entry)) here) glyphs))) ⌝ }
+{
+    if glyphs <= 512 {
+        return put_few(table, glyphs, here, out, to);
+    }
+    put_many(table, glyphs, here, out, to)
+}
+
+// Stores section 1: one machine, its row count and its class count.
+fn put_sizes(out: &mut [u8], to: usize, rows: usize, classes: usize)
+    requires { ⌜ (to < 2 ^ 40) × ((rows < 2 ^ 32) × (classes < 2 ^ 32)) ⌝ }
+    ensures { λ r. ⌜ now (out .exit) ≡ sets (now (out .entry)) to (be32 1 ++ be32 rows ++ be32 classes) ⌝ }
+{
+    fields::put_u32(out, to, 1);
+    fields::put_u32(out, to + 4, rows as u32);
+    fields::put_u32(out, to + 8, classes as u32);
+}
+
+// Stores the sections of the machine, and answers where they end.
+fn put_at(table: &[u8], glyphs: usize, here: usize, out: &mut [u8], to: usize) -> usize
+    requires { ⌜ (here < 2 ^ 32) × ((glyphs < 2 ^ 16) × (machineFault (now table) glyphs here ≡ Clear)) ⌝ }
     requires { ⌜ to < 2 ^ 38 ⌝ }
     ensures { λ r. ⌜ (r ≡ to + length (machineParts (some (machineAt (now (table .entry)) glyphs here)))) × (r < to + 2 ^ 20)
         × (now (out .exit) ≡ sets (now (out .entry)) to (machineParts (some (machineAt (now (table .entry)) glyphs here)))) ⌝ }
 {
-    put_sizes(table, glyphs, here, out, to);
-    class_numbers(table, glyphs, here, classes);
-    let end = run_code::put_runs(classes, 1, 0, out, to + 12);
-    let count = cell_count(table, glyphs, here);
-    entry_code::put_entry_sections(table, here, count, out, end)
+    let rows = machine::row_count(table, here);
+    let classes = fields::u16_at(table, here);
+    put_sizes(out, to, rows, classes);
+    let end = put_class_runs(table, glyphs, here, out, to + 12);
+    entry_code::put_entry_sections(table, here, rows * classes, out, end)
 }
 
 // Stores four counts of 0.
@@ -88,27 +166,9 @@ fn put_none(out: &mut [u8], to: usize)
     fields::put_u32(out, to + 12, 0);
 }
 
-// How many bytes the sections take; the machine's offset is 0 where there is none.
-pub fn machine_size(table: &[u8], glyphs: usize, offset: usize, classes: &mut [u16]) -> usize
-    requires { ⌜ (offset < 2 ^ 16) × ((glyphs < 2 ^ 16) × ((length (now classes) ≡ glyphs) × (machinePart (now table) glyphs offset ≡ Clear))) ⌝ }
-    ensures { λ r. ⌜ (r ≡ length (machineBytes (now (table .entry)) glyphs offset)) × (r < 2 ^ 20) ⌝ }
-{
-    if offset == 0 {
-        return 16;
-    }
-    size_at(table, glyphs, offset + 8, classes)
-}
-
 // Stores the sections, and answers where they end; the machine's offset is 0 where there is none.
-pub fn put_machine(
-    table: &[u8],
-    glyphs: usize,
-    offset: usize,
-    classes: &mut [u16],
-    out: &mut [u8],
-    to: usize,
-) -> usize
-    requires { ⌜ (offset < 2 ^ 16) × ((glyphs < 2 ^ 16) × ((length (now classes) ≡ glyphs) × (machinePart (now table) glyphs offset ≡ Clear))) ⌝ }
+pub fn put_machine(table: &[u8], glyphs: usize, offset: usize, out: &mut [u8], to: usize) -> usize
+    requires { ⌜ (offset < 2 ^ 16) × ((glyphs < 2 ^ 16) × (machinePart (now table) glyphs offset ≡ Clear)) ⌝ }
     requires { ⌜ to < 2 ^ 38 ⌝ }
     ensures { λ r. ⌜ (r ≡ to + length (machineBytes (now (table .entry)) glyphs offset)) × (r < to + 2 ^ 20)
         × (now (out .exit) ≡ sets (now (out .entry)) to (machineBytes (now (table .entry)) glyphs offset)) ⌝ }
@@ -117,5 +177,5 @@ pub fn put_machine(
         put_none(out, to);
         return to + 16;
     }
-    put_at(table, glyphs, offset + 8, classes, out, to)
+    put_at(table, glyphs, offset + 8, out, to)
 }

@@ -14,21 +14,13 @@ use Rattle.lists.proofs.CodeLaws.{be16-free, be32-free, peel, counted-free}
 use Rattle.lists.proofs.SectionLaws.{byte-free, run-section-free, numbered-free, pool-free, pool-none}
 use Rattle.parts.specs.declared.Entry.{Entry}
 use Rattle.parts.specs.declared.Pair.{Pair}
-use Rattle.meaning.specs.Meaning.{Machine, Action, Side, Meaning}
+use Rattle.meaning.specs.Meaning.{Machine, Action, Side, Meaning, emptySide}
 use Rattle.meaning.specs.Discrete.{Entry-discrete, cluster-discrete, list-discrete}
 use Rattle.meaning.specs.Limits.{OkEntry, OkMachine, OkMaybe, OkPair, OkCluster, OkAction, OkActions, OkSide, Valid}
-use Rattle.meaning.specs.Sheet.{sizesCode, entryCode, pairCode, actionCode, sizesOf, cellsOf, machineSection, classSection, entrySection, cellSection, clusterSection, clusterRunSection, listSection, listRunSection, writeSide, write, IsSheet}
-
-abbrev pub W16 : ℕ → Type 0
-W16 n = n < 2 ^ 16
-
-abbrev pub W32 : ℕ → Type 0
-W32 n = n < 2 ^ 32
+use Rattle.meaning.specs.Wide.{W16, W32, WideSizes, WideEntry, WidePair, WideAction, FewPairs, FewActions}
+use Rattle.meaning.specs.Sheet.{sizesCode, entryCode, pairCode, actionCode, sizesOf, cellsOf, machineSection, classSection, entrySection, cellSection, clusterSection, clusterRunSection, listSection, listRunSection, machineBytes, clusterBytes, listBytes, writeSide, write, IsSheet}
 
 -- ---- entries, pairs and actions
-
-abbrev pub WideEntry : Entry → Type 0
-WideEntry e = W16 (e .row) × W16 (e .flags)
 
 pub entry-free : PrefixFree entryCode WideEntry
 entry-free a b s t ha hb e =
@@ -46,15 +38,6 @@ pub pair-sample : pairCode
     })
     ≡ 0 ∷ 0 ∷ 0 ∷ 1 ∷ 0 ∷ 0 ∷ 0 ∷ 2 ∷ 0 ∷ 0 ∷ 0 ∷ 3 ∷ 0 ∷ 0 ∷ 0 ∷ 4 ∷ 0 ∷ 0 ∷ 0 ∷ 5 ∷ 0x10 ∷ 1 ∷ 0 ∷ 2 ∷ []
 pair-sample = refl
-
-pub record WidePair (p : Pair) : Type 0 where
-  pub class : W32 (p .class)
-  pub before-grow : W32 (p .before .grow)
-  pub before-shrink : W32 (p .before .shrink)
-  pub after-grow : W32 (p .after .grow)
-  pub after-shrink : W32 (p .after .shrink)
-  pub flags-grow : W16 (p .flags .grow)
-  pub flags-shrink : W16 (p .flags .shrink)
 
 pub pair-free : PrefixFree pairCode WidePair
 pair-free a b s t ha hb e =
@@ -74,9 +57,6 @@ pair-free a b s t ha hb e =
       f7 .1,
     )
 
-abbrev pub WideAction : Action → Type 0
-WideAction a = W16 (a .class) × W16 (a .kind) × W32 (length (a .content))
-
 pub action-free : PrefixFree actionCode WideAction
 action-free a b s t ha hb e =
     let f = be16-free (a .class) (b .class) _ _ (ha .0) (hb .0) e in
@@ -85,12 +65,6 @@ action-free a b s t ha hb e =
     ((λ i. record { class = f .0 i; kind = g .0 i; content = h .0 i }), h .1)
 
 -- ---- clusters and action lists
-
-abbrev pub FewPairs : List Pair → Type 0
-FewPairs l = W32 (length l) × All WidePair l
-
-abbrev pub FewActions : List Action → Type 0
-FewActions l = W32 (length l) × All WideAction l
 
 pub cluster-free : PrefixFree (counted pairCode) FewPairs
 cluster-free = counted-free pairCode WidePair pair-free
@@ -120,12 +94,6 @@ pub few-actions : (n : ℕ) (l : List Action) → OkActions n l → FewActions l
 few-actions n l h = (omega (arith, h .0), all-map (OkAction n) WideAction (wide-action n) l (h .1))
 
 -- ---- a machine or none: sections 1 to 4
-
-abbrev pub machineBytes : Option Machine → List ℕ
-machineBytes m = machineSection m ++ (classSection m ++ numbered Entry-discrete entryCode (cellsOf m))
-
-abbrev pub WideSizes : ℕ × ℕ → Type 0
-WideSizes p = W32 (p .0) × W32 (p .1)
 
 pub sizes-free : PrefixFree sizesCode WideSizes
 sizes-free a b s t ha hb e =
@@ -181,12 +149,6 @@ machine-free n hn a b s t ha hb e =
 
 -- ---- a direction
 
-abbrev pub clusterBytes : List (List Pair) → List ℕ
-clusterBytes = pool cluster-discrete (counted pairCode) []
-
-abbrev pub listBytes : List (List Action) → List ℕ
-listBytes = pool list-discrete (counted actionCode) []
-
 pub clusters-free : (n : ℕ) → n < 2 ^ 16 → PrefixFree clusterBytes (λ l. (length l ≡ n) × All OkCluster l)
 clusters-free n hn a b s t ha hb e =
     pool-free cluster-discrete (counted pairCode) FewPairs cluster-free [] n hn (omega arith, tt) a b s t
@@ -241,10 +203,8 @@ one-meaning bs m m′ v v′ e e′ = write-injective m m′ v v′ (e ∙ sym e
 
 -- ---- a direction with nothing in it
 
-abbrev pub emptySide : ℕ → Side
-emptySide n = record { machine = none; clusters = replicate n []; lists = replicate n [] }
-
 pub empty-ok : (n : ℕ) → OkSide n (emptySide n)
+unfolding emptySide
 empty-ok n =
     record {
       machine = tt;
@@ -256,6 +216,7 @@ empty-ok n =
 
 -- eight counts of 0
 pub empty-side : (n : ℕ) → writeSide (emptySide n) ≡ replicate 32 0
+unfolding emptySide
 empty-side n =
     side-parts (emptySide n)
     ∙ ap₂ (λ (a b : List ℕ). machineBytes none ++ (a ++ b)) (pool-none cluster-discrete [] (counted pairCode) n) (pool-none list-discrete [] (counted actionCode) n)

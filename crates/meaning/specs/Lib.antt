@@ -4,3 +4,4 @@ pub mod Discrete
 pub mod Limits
 pub mod Sheet
 pub mod Same
+pub mod Wide

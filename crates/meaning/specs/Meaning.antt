@@ -1,8 +1,9 @@
 -- A meaning (document 01, "The sheet"), as plain data: N and, for each direction, a machine or none, the width records of every glyph and the
 -- actions of every glyph, records and actions as the sheet writes them.
 use Prim.Native.Nat.{ℕ}
-use mathlib.Core.Option.{Option}
-use mathlib.Core.List.{List}
+use mathlib.Core.Option.{Option, none}
+use mathlib.Core.List.{List, []}
+use lib.ListN.{replicate}
 use Rattle.parts.specs.declared.Entry.{Entry}
 use Rattle.parts.specs.declared.Pair.{Pair}
 
@@ -24,6 +25,10 @@ pub record Side : Type 0 where
   pub machine : Option Machine
   pub clusters : List (List Pair)
   pub lists : List (List Action)
+
+-- a direction with nothing in it: no machine, no width records, no actions
+unfoldable pub emptySide : ℕ → Side
+emptySide n = record { machine = none; clusters = replicate n []; lists = replicate n [] }
 
 pub record Meaning : Type 0 where
   pub glyphs : ℕ

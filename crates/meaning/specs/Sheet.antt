@@ -6,7 +6,7 @@ use mathlib.Core.Option.{Option, none, some}
 use mathlib.Core.List.{List, [], _∷_, _++_}
 use Rattle.fields.specs.Field.{be16, be32}
 use Rattle.lists.specs.Codes.{counted}
-use Rattle.lists.specs.Sections.{byte, runSection, distinctSection, numberSection, othersSection, othersRunSection}
+use Rattle.lists.specs.Sections.{byte, runSection, distinctSection, numberSection, othersSection, othersRunSection, numbered, pool}
 use Rattle.parts.specs.declared.Entry.{Entry}
 use Rattle.parts.specs.declared.Pair.{Pair}
 use Rattle.meaning.specs.Meaning.{Machine, Action, Side, Meaning}
@@ -82,6 +82,17 @@ listSection lists = othersSection list-discrete (counted actionCode) [] lists
 -- 8: runs of glyphs of one list
 abbrev pub listRunSection : List (List Action) → List ℕ
 listRunSection lists = othersRunSection list-discrete [] lists
+
+-- ---- the same in three groups: sections 1 to 4, 5 and 6, 7 and 8
+
+abbrev pub machineBytes : Option Machine → List ℕ
+machineBytes m = machineSection m ++ (classSection m ++ numbered Entry-discrete entryCode (cellsOf m))
+
+abbrev pub clusterBytes : List (List Pair) → List ℕ
+clusterBytes = pool cluster-discrete (counted pairCode) []
+
+abbrev pub listBytes : List (List Action) → List ℕ
+listBytes = pool list-discrete (counted actionCode) []
 
 -- ---- the sheet
 

@@ -1,12 +1,12 @@
 -- Numbering by positions: `f` gives what stands at a position, `z` is none. S is the list of what is seen, D the list of all distinct ones in the end.
 use Prim.Native.Nat.{ℕ, zero, suc, _+_, _≤_, _<_}
-use mathlib.Core.Path.{_≡_, refl, sym, ap, ap₂, _∙_, subst}
+use mathlib.Core.Path.{_≡_, refl, sym, ap, _∙_, subst}
 use mathlib.Core.Logic.{if-pos, if-neg}
 use mathlib.Core.List.{List, [], _∷_, _++_, map, map-append, append-assoc, append-nil}
-use native.Mathlib.Decide.{ℕ-discrete}
+use native.Mathlib.Decide.{ℕ-discrete, decLt}
 use native.Mathlib.Omega.{arith}
 use native.Mathlib.Numerals.{add-one}
-use lib.ListN.{length, getD, take, drop, set, replicate, length-append, drop-of-length-le}
+use lib.ListN.{length, getD, take, drop, set, replicate, length-append, length-set, drop-of-length-le, List·getD-eq-default}
 use lib.Seq.{drop-cons, take-suc-set, getD-set-same, getD-set-other, length-take-le, take-all}
 use Rattle.lists.specs.Distinct.{index, distinct, numbers}
 use Rattle.lists.proofs.DistinctLaws.{index-le, index-append, index-new, index-kept, index-added}
@@ -70,10 +70,12 @@ module _ {A : Type 0} (eq : Discrete A) (f : ℕ → A) where
       ap (λ (l : List ℕ). l ++ rest) a ∙ append-assoc (take i nums) (n ∷ []) rest
       ∙ ap (λ (m : ℕ). take i nums ++ (m ∷ rest)) (sym en) ∙ ap (λ (l : List A). take i nums ++ numbers eq D l) (sym (map-drop f ps i h)) ∙ e
 
-  pub last-numbers : (ps nums : List ℕ) (i : ℕ) (D : List A) (W : List ℕ) → length ps ≤ i → length nums ≡ length ps
-      → take i nums ++ numbers eq D (map f (drop i ps)) ≡ W → nums ≡ W
-  last-numbers ps nums i D W h l e =
-      sym (append-nil nums) ∙ ap₂ (λ (a : List ℕ) (b : List ℕ). a ++ numbers eq D (map f b)) (sym (take-all i nums (omega arith))) (sym (drop-of-length-le ps h)) ∙ e
+  pub last-numbers : (ps nums : List ℕ) (i : ℕ) (D : List A) (W : List ℕ) → i ≡ length ps
+      → take i nums ++ numbers eq D (map f (drop i ps)) ≡ W → take (length ps) nums ≡ W
+  last-numbers ps nums i D W h e =
+      let l : length ps ≤ i = omega arith in
+      ap (λ (n : ℕ). take n nums) (sym h) ∙ sym (append-nil (take i nums))
+      ∙ ap (λ (b : List ℕ). take i nums ++ numbers eq D (map f b)) (sym (drop-of-length-le ps l)) ∙ e
 
   pub last-adds : (ps : List ℕ) (i : ℕ) (S D : List A) → length ps ≤ i → distinct eq S (map f (drop i ps)) ≡ D → D ≡ S
   last-adds ps i S D h e = sym e ∙ ap (λ (l : List ℕ). distinct eq S (map f l)) (drop-of-length-le ps h)
@@ -84,21 +86,29 @@ module _ {A : Type 0} (eq : Discrete A) (f : ℕ → A) where
   abbrev pub Known : List ℕ → List A → Type 0
   Known seen S = (q : ℕ) → (getD seen q 0 ≡ 0 → ⊥) → (index eq (f q) S ≡ getD seen q 0) × (getD seen q 0 < length S)
 
-  pub known-old : (seen : List ℕ) (S : List A) (p n : ℕ) → p < length seen → n ≡ index eq (f p) S → n < length S → Known seen S → Known (set seen p n) S
-  known-old seen S p n h en hn k q = go (ℕ-discrete q p)
+  -- what is read where a number was stored
+  stored : (seen : List ℕ) (p q n : ℕ) → q ≡ p → (getD (set seen p n) q 0 ≡ 0 → ⊥) → getD (set seen p n) q 0 ≡ n
+  stored seen p q n e u = go (decLt p (length seen))
+    where
+      go : Dec (p < length seen) → getD (set seen p n) q 0 ≡ n
+      go (yes h) = ap (λ (j : ℕ). getD (set seen p n) j 0) e ∙ getD-set-same seen p n 0 h
+      go (no h) = absurd (u (List·getD-eq-default (set seen p n) 0 (omega (arith, h, length-set seen p n))))
+
+  pub known-old : (seen : List ℕ) (S : List A) (p n : ℕ) → n ≡ index eq (f p) S → n < length S → Known seen S → Known (set seen p n) S
+  known-old seen S p n en hn k q = go (ℕ-discrete q p)
     where
       go : Dec (q ≡ p) → (getD (set seen p n) q 0 ≡ 0 → ⊥) → (index eq (f q) S ≡ getD (set seen p n) q 0) × (getD (set seen p n) q 0 < length S)
       go (yes e) u =
-          let g : getD (set seen p n) q 0 ≡ n = ap (λ (j : ℕ). getD (set seen p n) j 0) e ∙ getD-set-same seen p n 0 h in
+          let g : getD (set seen p n) q 0 ≡ n = stored seen p q n e u in
           (ap (λ (j : ℕ). index eq (f j) S) e ∙ sym en ∙ sym g, omega arith)
       go (no e) u =
           let g : getD (set seen p n) q 0 ≡ getD seen q 0 = getD-set-other seen p q n 0 e in
           let w = k q (λ v. u (g ∙ v)) in
           (w .0 ∙ sym g, omega (arith, w .1))
 
-  pub known-new : (seen : List ℕ) (S : List A) (p n : ℕ) → p < length seen → n ≡ index eq (f p) S → n ≡ length S → Known seen S
+  pub known-new : (seen : List ℕ) (S : List A) (p n : ℕ) → n ≡ index eq (f p) S → n ≡ length S → Known seen S
       → Known (set seen p n) (S ++ (f p ∷ []))
-  known-new seen S p n h en hn k q = go (ℕ-discrete q p)
+  known-new seen S p n en hn k q = go (ℕ-discrete q p)
     where
       T : List A
       T = S ++ (f p ∷ [])
@@ -108,7 +118,7 @@ module _ {A : Type 0} (eq : Discrete A) (f : ℕ → A) where
 
       go : Dec (q ≡ p) → (getD (set seen p n) q 0 ≡ 0 → ⊥) → (index eq (f q) T ≡ getD (set seen p n) q 0) × (getD (set seen p n) q 0 < length T)
       go (yes e) u =
-          let g : getD (set seen p n) q 0 ≡ n = ap (λ (j : ℕ). getD (set seen p n) j 0) e ∙ getD-set-same seen p n 0 h in
+          let g : getD (set seen p n) q 0 ≡ n = stored seen p q n e u in
           (ap (λ (j : ℕ). index eq (f j) T) e ∙ index-new eq (f p) S [] (sym en ∙ hn) ∙ sym hn ∙ sym g, omega (arith, len))
       go (no e) u =
           let g : getD (set seen p n) q 0 ≡ getD seen q 0 = getD-set-other seen p q n 0 e in
@@ -145,33 +155,41 @@ pub record Turn {A : Type 0} (eq : Discrete A) (f : ℕ → A) (z : A) (ps : Lis
 pub seen-length : {A : Type 0} (f : ℕ → A) (z : A) (fs : List ℕ) (k : ℕ) → k ≤ length fs → length (z ∷ map f (take k fs)) ≡ k + 1
 seen-length f z fs k h = omega (arith, map-length f (take k fs), length-take-le k fs h)
 
+-- n is the number of what stands at the place at hand; `firsts′` are the distinct places afterwards
 module _ {A : Type 0} (eq : Discrete A) (f : ℕ → A) (z : A) (ps : List ℕ) (D : List A) (W nums firsts seen : List ℕ) (k i n p : ℕ)
-    (hi : i < length ps) (hn : i < length nums) (hp : p < length seen) (ep : p ≡ getD ps i 0)
-    (en : n ≡ index eq (f p) (z ∷ map f (take k firsts))) (t : Turn eq f z ps D W nums firsts seen k i) where
+    (hi : i < length ps) (hn : i < length nums) (hk : k ≤ length firsts) (ep : p ≡ getD ps i 0)
+    (en : n ≡ index eq (f p) (z ∷ map f (take k firsts))) (t : Turn eq f z ps D W nums firsts seen k i) (firsts′ : List ℕ) where
   en′ : n ≡ index eq (f (getD ps i 0)) (z ∷ map f (take k firsts))
   en′ = en ∙ ap (λ (q : ℕ). index eq (f q) (z ∷ map f (take k firsts))) ep
 
-  pub turn-old : k ≤ length firsts → n ≤ k → Turn eq f z ps D W (set nums i n) firsts (set seen p n) k (i + 1)
-  turn-old hk h =
+  pub turn-old : n ≤ k → take k firsts′ ≡ take k firsts → Turn eq f z ps D W (set nums i n) firsts′ (set seen p n) k (i + 1)
+  turn-old h e =
       let len = seen-length f z firsts k hk in
-      let s = step-old eq f ps i n (z ∷ map f (take k firsts)) D hi en′ (omega arith) (t .left) in
+      let S = z ∷ map f (take k firsts) in
+      let m : z ∷ map f (take k firsts′) ≡ S = ap (λ (l : List ℕ). z ∷ map f l) e in
+      let s = step-old eq f ps i n S D hi en′ (omega arith) (t .left) in
       record {
-        left = s .0;
+        left = ap (λ (l : List A). distinct eq l (map f (drop (i + 1) ps))) m ∙ s .0;
         done = step-numbers eq f ps nums i n D W hi hn (s .1) (t .done);
-        known = known-old eq f seen (z ∷ map f (take k firsts)) p n hp en (omega arith) (t .known);
+        known = subst (λ (l : List A). Known eq f (set seen p n) l) (sym m) (known-old eq f seen S p n en (omega arith) (t .known));
       }
 
-  pub turn-new : k < length firsts → k < n → Turn eq f z ps D W (set nums i n) (set firsts k p) (set seen p n) (k + 1) (i + 1)
-  turn-new hk h =
-      let len = seen-length f z firsts k (omega arith) in
-      let most = index-le eq (f p) (z ∷ map f (take k firsts)) in
-      let full : n ≡ length (z ∷ map f (take k firsts)) = omega arith in
-      let s = step-new eq f ps i n (z ∷ map f (take k firsts)) D hi en′ full (t .left) in
-      let m : z ∷ map f (take (k + 1) (set firsts k p)) ≡ (z ∷ map f (take k firsts)) ++ (f p ∷ []) = ap (λ (l : List A). z ∷ l) (map-more f firsts k p hk) in
+  pub turn-new : k < n → take (k + 1) firsts′ ≡ take k firsts ++ (p ∷ []) → Turn eq f z ps D W (set nums i n) firsts′ (set seen p n) (k + 1) (i + 1)
+  turn-new h e =
+      let len = seen-length f z firsts k hk in
+      let S = z ∷ map f (take k firsts) in
+      let most = index-le eq (f p) S in
+      let full : n ≡ length S = omega arith in
+      let s = step-new eq f ps i n S D hi en′ full (t .left) in
+      let m : z ∷ map f (take (k + 1) firsts′) ≡ S ++ (f p ∷ []) = ap (λ (l : List A). z ∷ l) (ap (map f) e ∙ map-append f (take k firsts) (p ∷ [])) in
       record {
         left =
             ap (λ (l : List A). distinct eq l (map f (drop (i + 1) ps))) m
-            ∙ ap (λ (q : ℕ). distinct eq ((z ∷ map f (take k firsts)) ++ (f q ∷ [])) (map f (drop (i + 1) ps))) ep ∙ s .0;
+            ∙ ap (λ (q : ℕ). distinct eq (S ++ (f q ∷ [])) (map f (drop (i + 1) ps))) ep ∙ s .0;
         done = step-numbers eq f ps nums i n D W hi hn (s .1) (t .done);
-        known = subst (λ (l : List A). Known eq f (set seen p n) l) (sym m) (known-new eq f seen (z ∷ map f (take k firsts)) p n hp en full (t .known));
+        known = subst (λ (l : List A). Known eq f (set seen p n) l) (sym m) (known-new eq f seen S p n en full (t .known));
       }
+
+  -- how many distinct ones there are then
+  pub turn-count : k < n → n ≡ k + 1
+  turn-count h = omega (arith, h, en, seen-length f z firsts k hk, index-le eq (f p) (z ∷ map f (take k firsts)))

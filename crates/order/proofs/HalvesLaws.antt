@@ -4,10 +4,10 @@ use mathlib.Core.Path.{_≡_, sym, ap, ap₂, _∙_, subst}
 use mathlib.Core.List.{List, [], _∷_, _++_, append-nil}
 use mathlib.Core.Bool.{Bool, true, false}
 use native.Mathlib.Omega.{arith}
-use lib.ListN.{length, take, drop, replicate, length-append, length-drop, length-replicate, take-append-drop, drop-of-length-le}
+use lib.ListN.{length, take, drop, length-append, length-drop, take-append-drop, drop-of-length-le}
 use lib.Seq.{take-all, take-at, drop-at, length-take-le}
 use borrow.Rule.Slice.PartMut.{putMid}
-use Rattle.section.specs.Section.{Says}
+use Rattle.lists.specs.Tests.{Says}
 use Rattle.order.specs.Order.{Perm, same, then, NoLater, no-later-dec, merged, left, Sorted, stretch, Apart, Adjacent}
 use Rattle.order.proofs.OrderLaws.{later-total, later-trans, later-anti, later-same}
 use Rattle.order.proofs.SortLaws.{perm-sym, apart-perm, apart-adjacent, adjacent-apart, perm-both, perm-length, merged-perm, merged-ordered}
@@ -68,7 +68,3 @@ says-apart s marks a b true p h =
     apart-perm (stretch s marks) (perm-sym (p .perm))
     (adjacent-apart (stretch s marks) (NoLater s marks) (later-trans s marks) (later-anti s marks) (later-same s marks) b (p .ordered) h)
 says-apart s marks a b false p h = λ k. h (apart-adjacent (stretch s marks) b (apart-perm (stretch s marks) (p .perm) k))
-
--- the first m elements of a repeat
-pub room : (m n v : ℕ) → m ≤ n → length (take m (replicate n v)) ≡ m
-room m n v h = length-take-le m (replicate n v) (subst (λ (k : ℕ). m ≤ k) (sym (length-replicate n v)) h)

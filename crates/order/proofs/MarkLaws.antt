@@ -7,7 +7,7 @@ use native.Mathlib.Decide.{decLt}
 use native.Mathlib.Omega.{arith}
 use lib.ListN.{length, getD, take, drop, length-take, List·getD-eq-default, drop-of-length-le}
 use lib.Seq.{slice, take-all}
-use Rattle.section.specs.Section.{Says}
+use Rattle.lists.specs.Tests.{Says}
 use Rattle.order.specs.Order.{Le, stretch, NoLater}
 
 pub mark-none : (s marks : List ℕ) (i : ℕ) → length marks ≤ i → min (getD marks i 0) (length s) ≡ 0
@@ -23,7 +23,7 @@ take-clipped b s = go (decLt b (length s))
         let e : min b (length s) ≡ length s = omega (arith, h) in
         ap (λ (k : ℕ). take k s) e ∙ take-all (length s) s (omega arith) ∙ sym (take-all b s (omega (arith, h)))
 
-slice-clipped : (a b : ℕ) (s : List ℕ) → slice (min a (length s)) (min b (length s)) s ≡ slice a b s
+pub slice-clipped : (a b : ℕ) (s : List ℕ) → slice (min a (length s)) (min b (length s)) s ≡ slice a b s
 slice-clipped a b s = ap (drop (min a (length s))) (take-clipped b s) ∙ go (decLt a (length s))
   where
     past : (k : ℕ) → length s ≤ k → slice k b s ≡ []

@@ -1,4 +1,4 @@
--- Neighbours of a sorted list; the numbers counted up.
+-- Neighbours of a sorted list; a list copied.
 use Prim.Native.Nat.{ℕ, zero, suc, _+_, _-_, _≤_, _<_}
 use mathlib.Core.Path.{_≡_, sym, ap, _∙_, subst}
 use mathlib.Core.List.{List, [], _∷_}
@@ -6,8 +6,7 @@ use native.Mathlib.Omega.{arith}
 use native.Mathlib.Numerals.{add-one}
 use lib.ListN.{length, getD, drop}
 use lib.Seq.{drop-cons}
-use Rattle.lists.specs.Upto.{from}
-use Rattle.order.specs.Order.{Ordered, NoLater, stretch, Adjacent, countFrom}
+use Rattle.order.specs.Order.{Ordered, NoLater, stretch, Adjacent}
 use Rattle.order.proofs.OrderLaws.{later-anti, later-same}
 
 ordered-at : (le : ℕ → ℕ → Type 0) (xs : List ℕ) (j : ℕ) → Ordered le xs → suc j < length xs → le (getD xs j 0) (getD xs (suc j) 0)
@@ -54,20 +53,6 @@ rising-end f [] (suc j) h = tt
 rising-end f (x ∷ []) zero h = tt
 rising-end f (x ∷ y ∷ ord) zero h = absurd (omega arith)
 rising-end f (x ∷ ord) (suc j) h = rising-end f ord j (omega arith)
-
-pub count-next : (k n : ℕ) → k < n → countFrom k (n - k) ≡ k ∷ countFrom (k + 1) (n - (k + 1))
-unfolding from
-count-next k n h = ap (λ (m : ℕ). countFrom k m) (less k n h) ∙ ap (λ (i : ℕ). k ∷ countFrom i (n - (k + 1))) (sym (add-one k))
-  where
-    less : (k n : ℕ) → k < n → n - k ≡ suc (n - (k + 1))
-    less k n h = omega arith
-
-pub count-done : (k n : ℕ) → n ≤ k → countFrom k (n - k) ≡ []
-unfolding from
-count-done k n h = ap (λ (m : ℕ). countFrom k m) (none k n h)
-  where
-    none : (k n : ℕ) → n ≤ k → n - k ≡ 0
-    none k n h = omega arith
 
 pub copy-next : (src : List ℕ) (k : ℕ) → k < length src → drop k src ≡ getD src k 0 ∷ drop (k + 1) src
 copy-next src k h = drop-cons src k 0 h ∙ ap (λ (n : ℕ). getD src k 0 ∷ drop n src) (sym (add-one k))

@@ -53,10 +53,10 @@ module _ {A : Type 0} (eq : Discrete A) where
           let c : index eq (getD ds j z) ds ≡ index eq (getD ds k z) ds = ap (λ (x : A). index eq x ds) e in
           omega arith
 
-count-length : (n i : ℕ) → length (countFrom i n) ≡ n
+pub count-length : (n i : ℕ) → length (countFrom i n) ≡ n
 count-length = length-from (λ (x : ℕ). x)
 
-count-at : (n i k : ℕ) → k < n → getD (countFrom i n) k 0 ≡ i + k
+pub count-at : (n i k : ℕ) → k < n → getD (countFrom i n) k 0 ≡ i + k
 count-at n i k h = getD-from (λ (x : ℕ). x) n i k 0 h
 
 -- ---- marks

@@ -1,6 +1,6 @@
 -- What is distinct among items that stand one after the other in bytes (document 01, "The sheet", sections 5 and 7: compared as written). The bytes
 -- between two marks are a stretch; stretches are ordered as words in a dictionary, and the numbers of stretches are sorted by what they stand for.
-use Prim.Native.Nat.{ℕ, _+_, _<_}
+use Prim.Native.Nat.{ℕ, _+_, _≤_, _<_}
 use mathlib.Core.Path.{_≡_}
 use mathlib.Core.Bool.{Bool, true, false}
 use mathlib.Core.Logic.{_⊎_, inl, inr, ⊎-elim, ite}
@@ -16,6 +16,12 @@ abbrev pub Le : List ℕ → List ℕ → Type 0
 Le [] b = Unit {0}
 Le (x ∷ a) [] = ⊥
 Le (x ∷ a) (y ∷ b) = (x < y) ⊎ ((x ≡ y) × Le a b)
+
+-- two slices that begin with the same r bytes: which comes first is told by what follows
+pub record Shared (s : List ℕ) (a ae b be r : ℕ) : Type 0 where
+  pub inside : (a + r ≤ length s) × (b + r ≤ length s)
+  pub on : Le (slice a ae s) (slice b be s) → Le (slice (a + r) ae s) (slice (b + r) be s)
+  pub back : Le (slice (a + r) ae s) (slice (b + r) be s) → Le (slice a ae s) (slice b be s)
 
 -- the bytes of s from mark i to mark i + 1; nothing of them stands past the end of s
 unfoldable pub stretch : List ℕ → List ℕ → ℕ → List ℕ

@@ -1,20 +1,65 @@
 // Whether no two of many items are alike (document 01, "The sheet", sections 5 and 7: distinct as written). The items
-// are stretches of bytes between marks. Their numbers are sorted by content, and neighbours compared, so that the cost
-// stays near the bytes' and not near the square of the count.
+// are stretches of bytes between marks. The bytes of an item tell its slot, so that items alike share one. An item that
+// finds its slot taken is compared with the first that took it, and set aside; the numbers of those set aside are
+// sorted by content, and neighbours compared. The cost stays near the bytes' and, whatever the items are, not near the
+// square of their count.
 ghost use mathlib.Core.Path.{_≡_};
-ghost use Prim.Native.Nat.{_+_, _≤_, _<_, _^_, min};
+ghost use Prim.Native.Nat.{_+_, _*_, _≤_, _<_, _^_, min};
 ghost use lib.ListN.{length, getD};
 ghost use lib.Seq.{slice};
-ghost use Rattle.section.specs.Section.{Says};
-ghost use Rattle.order.specs.Order.{Le, stretch, NoLater, Ordered, Sorted, left, Next, Apart, Adjacent, countFrom};
+ghost use Rattle.fields.specs.Field.{u32At};
+ghost use Rattle.lists.specs.Tests.{Says};
+ghost use Rattle.order.specs.Order.{Le, Shared, stretch, NoLater, Ordered, Sorted, left, Next, Apart, Adjacent, countFrom};
+ghost use Rattle.order.specs.Slots.{mixed, slotOf, Unused, Thinned};
 
-// Whether the bytes from `a` to `ae` come no later than those from `b` to `be`, as words in a dictionary.
-fn no_later(bytes: &[u8], a: usize, ae: usize, b: usize, be: usize) -> bool
-    requires { ⌜ (ae ≤ length (now bytes)) × (be ≤ length (now bytes)) ⌝ }
-    ensures { λ r. ⌜ Says r (Le (slice a ae (now (bytes .entry))) (slice b be (now (bytes .entry)))) ⌝ }
+fn byte(x: u8) -> usize
+    ensures { λ r. ⌜ (r ≡ x) × (r < 2 ^ 8) ⌝ }
+{
+    x as usize
+}
+
+// The 32-bit number at a position, all of it inside: read without a test for each byte, which would be most of what a
+// word costs.
+fn word(bytes: &[u8], at: usize) -> usize
+    requires { ⌜ at + 4 ≤ length (now bytes) ⌝ }
+    ensures { λ r. ⌜ (r ≡ u32At (now (bytes .entry)) at) × (r < 2 ^ 32) ⌝ }
+{
+    let first = byte(bytes[at]);
+    let second = byte(bytes[at + 1]);
+    let third = byte(bytes[at + 2]);
+    let fourth = byte(bytes[at + 3]);
+    first * 16777216 + second * 65536 + third * 256 + fourth
+}
+
+// How many bytes, word by word, the bytes from `a` to `ae` and those from `b` to `be` share at their beginning.
+fn shared(bytes: &[u8], a: usize, ae: usize, b: usize, be: usize) -> usize
+    requires { ⌜ (a ≤ length (now bytes)) × (ae ≤ length (now bytes)) × (b ≤ length (now bytes)) × (be ≤ length (now bytes)) ⌝ }
+    ensures { λ r. ⌜ Shared (now (bytes .entry)) a ae b be r ⌝ }
 {
     let mut i = a;
     let mut j = b;
+    while i + 4 <= ae {
+        if be < j + 4 {
+            return i - a;
+        }
+        if word(bytes, i) == word(bytes, j) {
+            i += 4;
+            j += 4;
+        } else {
+            return i - a;
+        }
+    }
+    i - a
+}
+
+// Whether the bytes from `a` to `ae` come no later than those from `b` to `be`, as words in a dictionary.
+fn no_later(bytes: &[u8], a: usize, ae: usize, b: usize, be: usize) -> bool
+    requires { ⌜ (a ≤ length (now bytes)) × (ae ≤ length (now bytes)) × (b ≤ length (now bytes)) × (be ≤ length (now bytes)) ⌝ }
+    ensures { λ r. ⌜ Says r (Le (slice a ae (now (bytes .entry))) (slice b be (now (bytes .entry)))) ⌝ }
+{
+    let start = shared(bytes, a, ae, b, be);
+    let mut i = a + start;
+    let mut j = b + start;
     while i < ae {
         if be <= j {
             return false;
@@ -45,14 +90,14 @@ fn mark(bytes: &[u8], marks: &[usize], i: usize) -> usize
     0
 }
 
-fn wide(x: u32) -> usize
-    ensures { λ r. ⌜ (r ≡ x) × (r < 2 ^ 32) ⌝ }
+fn wide(x: u16) -> usize
+    ensures { λ r. ⌜ (r ≡ x) × (r < 2 ^ 16) ⌝ }
 {
     x as usize
 }
 
 // Whether stretch x comes no later than stretch y.
-fn before(bytes: &[u8], marks: &[usize], x: u32, y: u32) -> bool
+fn before(bytes: &[u8], marks: &[usize], x: u16, y: u16) -> bool
     ensures { λ r. ⌜ Says r (NoLater (now (bytes .entry)) (now (marks .entry)) x y) ⌝ }
 {
     let i = wide(x);
@@ -69,7 +114,7 @@ fn before(bytes: &[u8], marks: &[usize], x: u32, y: u32) -> bool
 fn from_left(
     bytes: &[u8],
     marks: &[usize],
-    numbers: &[u32],
+    numbers: &[u16],
     i: usize,
     middle: usize,
     j: usize,
@@ -91,7 +136,7 @@ fn from_left(
 }
 
 // Merges the sorted parts of `numbers` before `middle` and from there on.
-fn merge(bytes: &[u8], marks: &[usize], numbers: &[u32], middle: usize, out: &mut [u32])
+fn merge(bytes: &[u8], marks: &[usize], numbers: &[u16], middle: usize, out: &mut [u16])
     requires { ⌜ (middle ≤ length (now numbers)) × (length (now out) ≡ length (now numbers)) ⌝ }
     ensures { λ r. ⌜ now (out .exit) ≡ left (now (bytes .entry)) (now (marks .entry)) (now (numbers .entry)) 0 middle middle ⌝ }
 {
@@ -111,7 +156,7 @@ fn merge(bytes: &[u8], marks: &[usize], numbers: &[u32], middle: usize, out: &mu
     }
 }
 
-fn copy(dst: &mut [u32], src: &[u32])
+fn copy(dst: &mut [u16], src: &[u16])
     requires { ⌜ length (now dst) ≡ length (now src) ⌝ }
     ensures { λ r. ⌜ now (dst .exit) ≡ now (src .entry) ⌝ }
 {
@@ -123,7 +168,7 @@ fn copy(dst: &mut [u32], src: &[u32])
 }
 
 // Sorts the numbers of stretches by content; `room` is room to work in.
-fn sort(bytes: &[u8], marks: &[usize], numbers: &mut [u32], room: &mut [u32])
+fn sort(bytes: &[u8], marks: &[usize], numbers: &mut [u16], room: &mut [u16])
     requires { ⌜ length (now room) ≡ length (now numbers) ⌝ }
     ensures { λ r. ⌜ Sorted (now (bytes .entry)) (now (marks .entry)) (now (numbers .entry)) (now (numbers .exit)) ⌝ }
 {
@@ -139,7 +184,7 @@ fn sort(bytes: &[u8], marks: &[usize], numbers: &mut [u32], room: &mut [u32])
 }
 
 // Whether no two neighbours of sorted numbers stand for the same bytes: each has to come later than the one before.
-fn rising(bytes: &[u8], marks: &[usize], numbers: &[u32]) -> bool
+fn rising(bytes: &[u8], marks: &[usize], numbers: &[u16]) -> bool
     requires { ⌜ Ordered (NoLater (now bytes) (now marks)) (now numbers) ⌝ }
     ensures { λ r. ⌜ Says r (Adjacent (stretch (now (bytes .entry)) (now (marks .entry))) (now (numbers .entry))) ⌝ }
 {
@@ -154,32 +199,154 @@ fn rising(bytes: &[u8], marks: &[usize], numbers: &[u32]) -> bool
     true
 }
 
-fn count_up(numbers: &mut [u32])
-    requires { ⌜ length (now numbers) ≤ 2 ^ 16 ⌝ }
-    ensures { λ r. ⌜ now (numbers .exit) ≡ countFrom 0 (length (now (numbers .entry))) ⌝ }
+// Whether no two of the numbers stand for the same bytes; `room` is room to work in.
+fn apart(bytes: &[u8], marks: &[usize], numbers: &mut [u16], room: &mut [u16]) -> bool
+    requires { ⌜ length (now room) ≡ length (now numbers) ⌝ }
+    ensures { λ r. ⌜ Says r (Apart (stretch (now (bytes .entry)) (now (marks .entry))) (now (numbers .entry))) ⌝ }
 {
-    let mut k: usize = 0;
-    while k < numbers.len() {
-        numbers[k] = k as u32;
-        k += 1;
-    }
-}
-
-fn distinct_in(bytes: &[u8], marks: &[usize], numbers: &mut [u32], room: &mut [u32]) -> bool
-    requires { ⌜ (length (now numbers) ≤ 2 ^ 16) × (length (now room) ≡ length (now numbers)) ⌝ }
-    ensures { λ r. ⌜ Says r (Apart (stretch (now (bytes .entry)) (now (marks .entry))) (countFrom 0 (length (now (numbers .entry))))) ⌝ }
-{
-    count_up(numbers);
     sort(bytes, marks, numbers, room);
     rising(bytes, marks, numbers)
 }
 
-// Whether no two of the first `count` stretches between marks are alike.
-pub fn distinct(bytes: &[u8], marks: &[usize], count: usize) -> bool
-    requires { ⌜ count ≤ 2 ^ 16 ⌝ }
+// Whether two stretches are alike.
+fn alike(bytes: &[u8], marks: &[usize], x: u16, y: u16) -> bool
+    ensures { λ r. ⌜ Says r (stretch (now (bytes .entry)) (now (marks .entry)) x ≡ stretch (now (bytes .entry)) (now (marks .entry)) y) ⌝ }
+{
+    if before(bytes, marks, x, y) {
+        if before(bytes, marks, y, x) {
+            true
+        } else {
+            false
+        }
+    } else {
+        false
+    }
+}
+
+// An odd factor that carries a word's low bits up.
+const FACTOR: usize = 2654435761;
+
+// Words of 32 bits from a position on, mixed into 32 bits.
+fn mix(bytes: &[u8], at: usize, words: usize) -> usize
+    requires { ⌜ at + 4 * words ≤ length (now bytes) ⌝ }
+    ensures { λ r. ⌜ (r ≡ mixed (now (bytes .entry)) words at 0) × (r < 2 ^ 32) ⌝ }
+{
+    let mut sum: usize = 0;
+    let mut place = at;
+    let mut left = words;
+    while 0 < left {
+        sum = (sum + word(bytes, place)) % 4294967296 * FACTOR % 4294967296;
+        place += 4;
+        left -= 1;
+    }
+    sum
+}
+
+// The slot, of `slots`, of stretch k: the upper bits of its words mixed. What is past its last whole word is left out.
+fn slot_of(bytes: &[u8], marks: &[usize], k: usize, slots: usize) -> usize
+    requires { ⌜ (k < 2 ^ 16) × (0 < slots) × (slots ≤ 2 ^ 17) ⌝ }
+    ensures { λ r. ⌜ (r ≡ slotOf (now (bytes .entry)) (now (marks .entry)) slots k) × (r < slots) ⌝ }
+{
+    let at = mark(bytes, marks, k);
+    let end = mark(bytes, marks, k + 1);
+    if end < at {
+        return 0;
+    }
+    mix(bytes, at, (end - at) / 4) * slots / 4294967296
+}
+
+// Leaves the numbers, of the first `count` stretches, that are still to be compared with each other, and says how many.
+// `firsts` holds the number, plus one, of the first stretch of each slot. Where one is like the first of its slot, those
+// two are left alone.
+fn thin(
+    bytes: &[u8],
+    marks: &[usize],
+    count: usize,
+    numbers: &mut [u16],
+    firsts: &mut [u16],
+) -> usize
+    requires { ⌜ (count < 2 ^ 16) × (count ≤ length (now numbers)) × (count ≤ length (now firsts)) × (0 < length (now firsts)) × (length (now firsts) ≤ 2 ^ 17) × Unused (now firsts) ⌝ }
+    ensures { λ r. ⌜ Thinned (stretch (now (bytes .entry)) (now (marks .entry))) count r (now (numbers .exit)) ⌝ }
+{
+    let slots = firsts.len();
+    let mut left: usize = 0;
+    let mut k: usize = 0;
+    while k < count {
+        let slot = slot_of(bytes, marks, k, slots);
+        let first = firsts[slot];
+        if first == 0 {
+            firsts[slot] = (k + 1) as u16;
+            k += 1;
+        } else {
+            if alike(bytes, marks, first - 1, k as u16) {
+                numbers[0] = first - 1;
+                numbers[1] = k as u16;
+                return 2;
+            } else {
+                numbers[left] = k as u16;
+                left += 1;
+                k += 1;
+            }
+        }
+    }
+    left
+}
+
+fn distinct_in(
+    bytes: &[u8],
+    marks: &[usize],
+    count: usize,
+    numbers: &mut [u16],
+    firsts: &mut [u16],
+) -> bool
+    requires { ⌜ (count < 2 ^ 16) × (count ≤ length (now numbers)) × (count ≤ length (now firsts)) × (0 < length (now firsts)) × (length (now firsts) ≤ 2 ^ 17) × Unused (now firsts) ⌝ }
     ensures { λ r. ⌜ Says r (Apart (stretch (now (bytes .entry)) (now (marks .entry))) (countFrom 0 count)) ⌝ }
 {
-    let mut numbers = [0u32; 65536];
-    let mut room = [0u32; 65536];
-    distinct_in(bytes, marks, &mut numbers[..count], &mut room[..count])
+    let left = thin(bytes, marks, count, numbers, firsts);
+    apart(bytes, marks, &mut numbers[..left], &mut firsts[..left])
+}
+
+fn distinct_few(bytes: &[u8], marks: &[usize], count: usize) -> bool
+    requires { ⌜ count ≤ 64 ⌝ }
+    ensures { λ r. ⌜ Says r (Apart (stretch (now (bytes .entry)) (now (marks .entry))) (countFrom 0 count)) ⌝ }
+{
+    let mut numbers = [0u16; 64];
+    let mut firsts = [0u16; 512];
+    distinct_in(bytes, marks, count, &mut numbers, &mut firsts)
+}
+
+fn distinct_some(bytes: &[u8], marks: &[usize], count: usize) -> bool
+    requires { ⌜ count ≤ 2048 ⌝ }
+    ensures { λ r. ⌜ Says r (Apart (stretch (now (bytes .entry)) (now (marks .entry))) (countFrom 0 count)) ⌝ }
+{
+    let mut numbers = [0u16; 2048];
+    let mut firsts = [0u16; 16384];
+    distinct_in(bytes, marks, count, &mut numbers, &mut firsts)
+}
+
+fn distinct_many(bytes: &[u8], marks: &[usize], count: usize) -> bool
+    requires { ⌜ count < 2 ^ 16 ⌝ }
+    ensures { λ r. ⌜ Says r (Apart (stretch (now (bytes .entry)) (now (marks .entry))) (countFrom 0 count)) ⌝ }
+{
+    let mut numbers = [0u16; 65536];
+    let mut firsts = [0u16; 131072];
+    distinct_in(bytes, marks, count, &mut numbers, &mut firsts)
+}
+
+// Whether no two of the first `count` stretches between marks are alike. The arrays are as long as the count needs:
+// clearing them would be all the time that few items take.
+pub fn distinct(bytes: &[u8], marks: &[usize], count: usize) -> bool
+    requires { ⌜ count < 2 ^ 16 ⌝ }
+    ensures { λ r. ⌜ Says r (Apart (stretch (now (bytes .entry)) (now (marks .entry))) (countFrom 0 count)) ⌝ }
+{
+    if count < 2 {
+        return true;
+    }
+    if count <= 64 {
+        return distinct_few(bytes, marks, count);
+    }
+    if count <= 2048 {
+        return distinct_some(bytes, marks, count);
+    }
+    distinct_many(bytes, marks, count)
 }

@@ -1,6 +1,9 @@
 // The things that a 'just' table and a sheet speak of, as plain values (document 01, "The table" and "Verdicts").
-// Code, definitions and the meaning use these same types. A width record and an action are held as the sheet
-// writes them: shrink limits as sizes, ignored bits zero, no padding.
+// Code and definitions use these same types, and so does the meaning, whose actions alone have their data as a list.
+// A width record and an action are held as the sheet writes them: shrink limits as sizes, ignored bits zero, no
+// padding.
+ghost use mathlib.Core.Path.{_≡_};
+ghost use Rattle.parts.specs.InC.{directionIn};
 
 // Horizontal stands first in a table, in a sheet and in the order of faults.
 pub enum Direction {
@@ -55,4 +58,14 @@ pub struct Verdict {
     pub place: u16,
     pub action: u16,
     pub substitutes: bool,
+}
+
+// A direction by its number, as programs in C and other languages hand it in.
+pub fn direction_in(number: u32) -> Direction
+    ensures { λ r. ⌜ r ≡ directionIn number ⌝ }
+{
+    if number == 0 {
+        return Direction::Horizontal;
+    }
+    Direction::Vertical
 }

@@ -1,28 +1,32 @@
--- What stands at the places, and a list filled in order.
-use Prim.Native.Nat.{ℕ, zero, suc, _+_, _-_, _≤_, _<_, _^_, min}
+-- What stands at the places, and the stretches of glyphs that have one.
+use Prim.Native.Nat.{ℕ, zero, suc, _≤_, _<_, _^_, min}
 use mathlib.Core.Path.{_≡_, refl, sym, ap, ap₂, _∙_}
-use mathlib.Core.List.{List, [], _∷_, _++_, map, append-assoc, append-nil}
+use mathlib.Core.List.{List, _∷_, map}
 use native.Mathlib.Omega.{arith}
 use native.Mathlib.Decide.{decLt}
-use native.Mathlib.Numerals.{add-one}
-use lib.ListN.{length, take, set, replicate}
-use lib.Seq.{take-suc-set, take-all}
+use lib.ListN.{length, take}
 use Rattle.lists.specs.Upto.{from, upto}
+use Rattle.lookup.specs.declared.Found.{Found}
 use Rattle.lookup.specs.Find.{valueOf}
+use Rattle.lookup.specs.Pass.{Constant}
+use Rattle.lookup.proofs.Pass.{constant-value}
 use Rattle.actions.specs.declared.Spot.{Spot}
 use Rattle.actions.specs.declared.Spot.the-variants.{At, Nowhere}
 use Rattle.values.specs.declared.Kind.{Kind}
 use Rattle.values.specs.Values.{spotOf}
-use Rattle.item.specs.Items.{noItem, itemAt}
+use Rattle.item.specs.Items.{itemAt}
 use Rattle.item.proofs.Laws.{item-past}
 use Rattle.number.specs.Numbered.{placed}
-use Rattle.places.specs.declared.Source.the-variants.{Lookup, Absent}
-use Rattle.places.specs.Places.{itemHere, itemsFrom, placeOf, glyphPlace}
+use Rattle.run_code.specs.Spread.{spread}
+use Rattle.run_code.proofs.Spread.{spread-map}
+use Rattle.run_code.proofs.Stretch.{Stored, stored-all}
+use Rattle.places.specs.declared.Source.the-variants.{Lookup}
+use Rattle.places.specs.Places.{itemHere, itemsFrom, placeOf, glyphPlace, Passed}
 
 -- ---- what stands at a place
 
 there : (kind : Kind) (t : List ℕ) → length t ≤ 2 ^ 15 → (spot : Spot) → itemAt kind t (placeOf spot) ≡ itemHere kind t spot
-there kind t h Nowhere = item-past kind t 65535 (omega arith)
+there kind t h Nowhere = item-past kind t (placeOf Nowhere) (omega arith)
 there kind t h (At p) = go (decLt p 65535)
   where
     go : Dec (p < 65535) → itemAt kind t (min p 65535) ≡ itemAt kind t p
@@ -34,49 +38,35 @@ unfolding from
 map-from f g h e zero i = refl
 map-from f g h e (suc n) i = ap₂ (λ a l. a ∷ l) (e i) (map-from f g h e n (suc i))
 
-map-replicate : {A B : Type 0} (g : A → B) (n : ℕ) (x : A) (y : B) → g x ≡ y → map g (replicate n x) ≡ replicate n y
-map-replicate g zero x y e = refl
-map-replicate g (suc n) x y e = ap₂ (λ a l. a ∷ l) e (map-replicate g n x y e)
-
-module _ (kind : Kind) (t : List ℕ) (n : ℕ) (h : length t ≤ 2 ^ 15) (places : List ℕ) where
-  pub looked-there : (at base : ℕ) → places ≡ upto (glyphPlace t n kind at base) n → placed kind t places ≡ itemsFrom kind t n (Lookup at base)
+module _ (kind : Kind) (t : List ℕ) (n : ℕ) (h : length t ≤ 2 ^ 15) where
+  pub looked-there : (at base : ℕ) (places : List ℕ) → places ≡ upto (glyphPlace t n kind at base) n → placed kind t places ≡ itemsFrom kind t n (Lookup at base)
   unfolding itemsFrom glyphPlace
-  looked-there at base e =
+  looked-there at base places e =
       ap (placed kind t) e
       ∙ map-from (λ (g : ℕ). placeOf (spotOf kind base (valueOf t n at g))) (itemAt kind t) (λ (g : ℕ). itemHere kind t (spotOf kind base (valueOf t n at g)))
       (λ g. there kind t h (spotOf kind base (valueOf t n at g))) n 0
 
-  pub absent-there : (m : ℕ) → m ≡ n → places ≡ replicate m 65535 → placed kind t places ≡ itemsFrom kind t n Absent
-  unfolding itemsFrom
-  absent-there m l e =
-      ap (placed kind t) e
-      ∙ map-replicate (itemAt kind t) m 65535 (noItem kind) (item-past kind t 65535 (omega arith))
-      ∙ ap (λ (k : ℕ). replicate k (noItem kind)) l
+  -- what a pass stored, once it has come to its end
+  pub passed : (at base m g : ℕ) (ends places : List ℕ) → Stored (glyphPlace t n kind at base) n ends places m g → m ≤ length ends → (g < n → m ≡ length ends)
+      → Passed kind t n at base ends places (record { count = m; glyph = g })
+  passed at base m g ends places s f stops =
+      record {
+        rise = s .rise;
+        most = s .most;
+        fits = f;
+        stops = stops;
+        items = λ l. sym (spread-map (itemAt kind t) (take m ends) (take m places) 0)
+            ∙ looked-there at base (spread 0 (take m ends) (take m places)) (stored-all (glyphPlace t n kind at base) n ends places m g s l);
+      }
 
--- ---- filling in order
+-- glyphs up to where a value goes have one place
+pub same-place : (t : List ℕ) (n : ℕ) (kind : Kind) (at base glyph until p : ℕ) → Constant t at glyph until → p ≡ glyphPlace t n kind at base glyph
+    → (x : ℕ) → glyph ≤ x → x < min until n → glyphPlace t n kind at base x ≡ p
+unfolding glyphPlace
+same-place t n kind at base glyph until p k e x a b =
+    ap (λ (f : Found). placeOf (spotOf kind base f)) (constant-value t n at glyph until x k a (omega arith) (omega arith)) ∙ sym e
 
-from-next : {A : Type 0} (f : ℕ → A) (n g : ℕ) → 0 < n → from f n g ≡ f g ∷ from f (n - 1) (g + 1)
-unfolding from
-from-next f zero g h = absurd (omega arith)
-from-next f (suc n) g h =
-    let a : suc n - 1 ≡ n = omega arith in
-    let b : g + 1 ≡ suc g = omega arith in
-    ap₂ (λ (m x : ℕ). f g ∷ from f m x) (sym a) (sym b)
-
-pub fill-next : (f : ℕ → ℕ) (ps W : List ℕ) (n g v : ℕ) → g < n → g < length ps → v ≡ f g → take g ps ++ from f (n - g) g ≡ W
-    → take (g + 1) (set ps g v) ++ from f (n - (g + 1)) (g + 1) ≡ W
-fill-next f ps W n g v h hp ev e =
-    let a : take (g + 1) (set ps g v) ≡ take g ps ++ (v ∷ []) = rw add-one (take-suc-set ps g v hp) in
-    let b : n - g - 1 ≡ n - (g + 1) = omega arith in
-    let rest = from f (n - (g + 1)) (g + 1) in
-    ap (λ (l : List ℕ). l ++ rest) a
-    ∙ append-assoc (take g ps) (v ∷ []) rest
-    ∙ ap (λ (x : ℕ). take g ps ++ (x ∷ rest)) ev
-    ∙ ap (λ (l : List ℕ). take g ps ++ l) (ap (λ (m : ℕ). f g ∷ from f m (g + 1)) (sym b) ∙ sym (from-next f (n - g) g (omega arith)))
-    ∙ e
-
-pub fill-end : (f : ℕ → ℕ) (ps W : List ℕ) (n g : ℕ) → n ≤ g → length ps ≤ g → take g ps ++ from f (n - g) g ≡ W → ps ≡ W
-unfolding from
-fill-end f ps W n g h hp e =
-    let z : n - g ≡ 0 = omega arith in
-    sym (append-nil ps) ∙ ap₂ (λ (a : List ℕ) (m : ℕ). a ++ from f m g) (sym (take-all g ps hp)) (sym z) ∙ e
+pub glyph-place : (t : List ℕ) (n : ℕ) (kind : Kind) (at base glyph p : ℕ) (found : Found) → p ≡ placeOf (spotOf kind base found) → found ≡ valueOf t n at glyph
+    → p ≡ glyphPlace t n kind at base glyph
+unfolding glyphPlace
+glyph-place t n kind at base glyph p found e f = e ∙ ap (λ (x : Found). placeOf (spotOf kind base x)) f

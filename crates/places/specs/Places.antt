@@ -1,9 +1,9 @@
 -- What each glyph has of a kind, a cluster or an action list, and where it stands (document 01, "The sheet": the width records of every glyph, every
 -- glyph's actions).
-use Prim.Native.Nat.{ℕ, _<_, _^_, min}
+use Prim.Native.Nat.{ℕ, _≤_, _<_, _^_, min}
 use mathlib.Core.Path.{_≡_}
 use mathlib.Core.List.{List}
-use lib.ListN.{replicate}
+use lib.ListN.{length, take, replicate}
 use Rattle.fields.specs.declared.Fault.the-variants.{Clear}
 use Rattle.lists.specs.Upto.{upto}
 use Rattle.lookup.specs.Lookup.{lookupFault}
@@ -13,6 +13,9 @@ use Rattle.actions.specs.declared.Spot.the-variants.{At, Nowhere}
 use Rattle.values.specs.declared.Kind.{Kind}
 use Rattle.values.specs.Values.{spotOf}
 use Rattle.item.specs.Items.{Item, noItem, itemAt}
+use Rattle.number.specs.Numbered.{placed}
+use Rattle.run_code.specs.Spread.{spread, Rise}
+use Rattle.places.specs.declared.Pass.{Pass}
 use Rattle.places.specs.declared.Source.{Source}
 use Rattle.places.specs.declared.Source.the-variants.{Lookup, Absent}
 
@@ -38,3 +41,12 @@ placeOf Nowhere = 65535
 
 unfoldable pub glyphPlace : List ℕ → ℕ → Kind → ℕ → ℕ → ℕ → ℕ
 glyphPlace t n kind at base glyph = placeOf (spotOf kind base (valueOf t n at glyph))
+
+-- how far a pass over the lookup at `at` came: it found `count` stretches of glyphs with one place, up to a glyph. It stops before the last glyph only
+-- where the room for stretches is full; where it came to the last, the stretches have what the glyphs have
+pub record Passed (kind : Kind) (t : List ℕ) (n at base : ℕ) (ends places : List ℕ) (pass : Pass) : Type 0 where
+  pub rise : Rise 0 (take (pass .count) ends) (pass .glyph)
+  pub most : pass .glyph ≤ n
+  pub fits : pass .count ≤ length ends
+  pub stops : pass .glyph < n → pass .count ≡ length ends
+  pub items : n ≤ pass .glyph → spread 0 (take (pass .count) ends) (placed kind t (take (pass .count) places)) ≡ itemsFrom kind t n (Lookup at base)

@@ -1,14 +1,12 @@
-// Where each glyph's cluster or action list stands (document 01, "The table": a lookup's values), glyphs upward in
-// one pass over the lookup.
+// Where the glyphs' clusters or action lists stand (document 01, "The table": a lookup's values), by stretches of glyphs
+// that have one place, in one pass over the lookup.
 ghost use mathlib.Core.Path.{_≡_};
-ghost use Prim.Native.Nat.{_≤_, _<_, _^_};
+ghost use Prim.Native.Nat.{_≤_, _<_, _^_, min};
 ghost use lib.ListN.{length};
 ghost use Rattle.fields.specs.declared.Fault.the-variants.{Clear};
-ghost use Rattle.lists.specs.Upto.{upto};
 ghost use Rattle.lookup.specs.Lookup.{lookupFault};
 ghost use Rattle.values.specs.Values.{spotOf};
-ghost use Rattle.number.specs.Numbered.{placed};
-ghost use Rattle.places.specs.Places.{itemsFrom, Sound, placeOf, glyphPlace};
+ghost use Rattle.places.specs.Places.{placeOf, Passed};
 use actions::Spot;
 use lookup::Found;
 use values::Kind;
@@ -17,6 +15,12 @@ use values::Kind;
 pub enum Source {
     Lookup { at: usize, base: usize },
     Absent,
+}
+
+fn lower(a: usize, b: usize) -> usize
+    ensures { λ r. ⌜ r ≡ min a b ⌝ }
+{
+    if a < b { a } else { b }
 }
 
 // The place that a value leads to; 65,535 for none.
@@ -34,29 +38,43 @@ fn place_of(kind: Kind, base: usize, found: Found) -> u16
     65535
 }
 
-// The places that the lookup at `at`, which has no fault, gives the glyphs.
-fn place_looked(table: &[u8], glyphs: usize, kind: Kind, at: usize, base: usize, places: &mut [u16])
-    requires { ⌜ (at < 2 ^ 32) × ((base < 2 ^ 16) × ((glyphs < 2 ^ 16) × ((length (now places) ≡ glyphs) × (lookupFault (now table) glyphs at ≡ Clear)))) ⌝ }
-    ensures { λ r. ⌜ now (places .exit) ≡ upto (glyphPlace (now (table .entry)) glyphs kind at base) glyphs ⌝ }
+// How far a pass over the glyphs came: how many stretches of glyphs with one place it found, and the first glyph after
+// them.
+pub struct Pass {
+    pub count: usize,
+    pub glyph: usize,
+}
+
+// The places that the lookup at `at`, which has no fault, gives the glyphs, by stretches of glyphs that have one: where
+// each ends and its place. The pass stops where the room for stretches ends.
+pub fn place_items(
+    table: &[u8],
+    glyphs: usize,
+    kind: Kind,
+    at: usize,
+    base: usize,
+    ends: &mut [u16],
+    places: &mut [u16],
+) -> Pass
+    requires { ⌜ (at < 2 ^ 32) × ((base < 2 ^ 16) × ((glyphs < 2 ^ 16) × (lookupFault (now table) glyphs at ≡ Clear))) ⌝ }
+    requires { ⌜ (length (now table) ≤ 2 ^ 15) × (length (now ends) ≤ length (now places)) ⌝ }
+    ensures { λ r. ⌜ Passed kind (now (table .entry)) glyphs at base (now (ends .exit)) (now (places .exit)) r ⌝ }
 {
     let mut cursor = lookup::begin(table, at);
     let mut glyph: usize = 0;
+    let mut count: usize = 0;
     while glyph < glyphs {
+        if ends.len() <= count {
+            return Pass { count, glyph };
+        }
         let looked = lookup::step(table, glyphs, at, cursor, glyph);
         let found = looked.found;
-        places[glyph] = place_of(kind, base, found);
+        let end = lower(looked.until, glyphs);
+        ends[count] = end as u16;
+        places[count] = place_of(kind, base, found);
         cursor = looked.cursor;
-        glyph += 1;
+        glyph = end;
+        count += 1;
     }
-}
-
-// The places of the glyphs' items of a kind: what stands there is what the glyphs have.
-pub fn place_items(table: &[u8], glyphs: usize, kind: Kind, source: Source, places: &mut [u16])
-    requires { ⌜ (length (now table) ≤ 2 ^ 15) × ((glyphs < 2 ^ 16) × ((length (now places) ≡ glyphs) × Sound (now table) glyphs source)) ⌝ }
-    ensures { λ r. ⌜ placed kind (now (table .entry)) (now (places .exit)) ≡ itemsFrom kind (now (table .entry)) glyphs source ⌝ }
-{
-    match source {
-        Source::Lookup { at, base } => place_looked(table, glyphs, kind, at, base, places),
-        Source::Absent => number::fill(places, 65535),
-    }
+    Pass { count, glyph }
 }

@@ -7,7 +7,8 @@ ghost use Prim.Native.Nat.{_+_, _*_, _≤_, _<_, _^_};
 ghost use lib.ListN.{length};
 ghost use Rattle.lists.specs.Codes.{counted, itemsAt};
 ghost use Rattle.lists.specs.Sections.{runLessCode};
-ghost use Rattle.section.specs.Section.{Says, Parses};
+ghost use Rattle.lists.specs.Tests.{Says};
+ghost use Rattle.section.specs.Section.{Parses};
 ghost use Rattle.pool.specs.Pool.{numberAt, NumbersFrom, NumberRuns, usedAfter};
 
 // How many numbers are used after one more run, `used` being the next new number before it.

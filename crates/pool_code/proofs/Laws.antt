@@ -1,27 +1,34 @@
 -- The bytes of the two sections, and what holds of the distinct items.
-use Prim.Native.Nat.{ℕ, zero, suc, _+_, _≤_, _<_}
-use mathlib.Core.Path.{_≡_, sym, ap, ap₂, _∙_, subst}
-use mathlib.Core.Logic.{ite}
-use mathlib.Core.List.{List, [], _∷_, _++_, map}
-use native.Mathlib.Decide.{ℕ-discrete}
+use Prim.Native.Nat.{ℕ, zero, suc, _+_, _≤_, _<_, _^_}
+use mathlib.Core.Path.{_≡_, refl, sym, ap, ap₂, _∙_, subst}
+use mathlib.Core.Logic.{ite, if-neg}
+use mathlib.Core.List.{List, [], _∷_, _++_, map, append-nil}
+use native.Mathlib.Decide.{ℕ-discrete, decLt}
 use native.Mathlib.Omega.{arith}
-use lib.ListN.{length, getD, drop, take, length-append, drop-of-length-le}
+use lib.ListN.{length, getD, drop, take, replicate, length-append, length-replicate, drop-of-length-le}
+use lib.Seq.{sets, length-take-le}
 use Rattle.fields.specs.Field.{be32}
 use Rattle.lists.specs.Codes.{All, many, counted}
 use Rattle.lists.specs.Distinct.{index, distinct, numbers}
-use Rattle.lists.specs.Runs.{runs}
+use Rattle.lists.specs.Runs.{Run, runs}
 use Rattle.lists.specs.Sections.{runLessCode}
 use Rattle.lists.proofs.ListLaws.{all-append}
+use Rattle.lists.proofs.RunsLaws.{runs-skips}
+use Rattle.lists.proofs.DistinctLaws.{index-self}
 use Rattle.values.specs.declared.Kind.{Kind}
 use Rattle.values.specs.declared.Kind.the-variants.{Clusters, Lists}
 use Rattle.item.specs.Items.{Item, noItem, itemAt, item-discrete, itemCode}
-use Rattle.number.specs.Numbered.{placed, distinctAt, Numbered}
+use Rattle.number.specs.Numbered.{placed, distinctAt, Numbered, Room}
 use Rattle.number.proofs.Laws.{map-length, map-drop}
+use Rattle.places.specs.declared.Pass.{Pass}
 use Rattle.places.specs.declared.Source.{Source}
-use Rattle.places.specs.Places.{itemsFrom}
+use Rattle.places.specs.declared.Source.the-variants.{Lookup, Absent}
+use Rattle.places.specs.Places.{itemsFrom, Passed}
 use Rattle.run_code.specs.RunCode.{runBytes}
+use Rattle.run_code.specs.Spread.{spread, Stretches}
 use Rattle.run_code.proofs.Laws.{number-runs}
-use Rattle.pool_code.specs.Pool.{poolBytes, sections, Short, Pooled}
+use Rattle.run_code.proofs.Spread.{rise-few, spread-distinct, spread-numbers}
+use Rattle.pool_code.specs.Pool.{poolBytes, sections, Short, Rooms, Placed, Tried}
 
 -- ---- items one after the other
 
@@ -52,14 +59,16 @@ module _ (kind : Kind) (t firsts : List ℕ) where
 
   -- ---- the two sections
 
-  pub sections-parts : (nums : List ℕ) → sections kind t firsts nums ≡ be32 (length firsts) ++ (many (itemCode kind) (placed kind t firsts) ++ runBytes 0 1 nums)
+  pub sections-parts : (ends nums : List ℕ)
+      → sections kind t firsts ends nums ≡ be32 (length firsts) ++ (many (itemCode kind) (placed kind t firsts) ++ runBytes 0 1 (spread 0 ends nums))
   unfolding sections
-  sections-parts nums =
-      ap (λ (n : ℕ). be32 n ++ (many (itemCode kind) (placed kind t firsts) ++ runBytes 0 1 nums)) (map-length (itemAt kind t) firsts)
+  sections-parts ends nums =
+      ap (λ (n : ℕ). be32 n ++ (many (itemCode kind) (placed kind t firsts) ++ runBytes 0 1 (spread 0 ends nums))) (map-length (itemAt kind t) firsts)
 
-  pub sections-length : (nums : List ℕ) → length (sections kind t firsts nums) ≡ 4 + length (many (itemCode kind) (placed kind t firsts)) + length (runBytes 0 1 nums)
-  sections-length nums =
-      omega (arith, ap length (sections-parts nums), length-append (many (itemCode kind) (placed kind t firsts)) (runBytes 0 1 nums))
+  pub sections-length : (ends nums : List ℕ)
+      → length (sections kind t firsts ends nums) ≡ 4 + length (many (itemCode kind) (placed kind t firsts)) + length (runBytes 0 1 (spread 0 ends nums))
+  sections-length ends nums =
+      omega (arith, ap length (sections-parts ends nums), length-append (many (itemCode kind) (placed kind t firsts)) (runBytes 0 1 (spread 0 ends nums)))
 
 -- ---- what was numbered is what is written
 
@@ -79,20 +88,147 @@ unfolding itemCode
 none-short Clusters = omega arith
 none-short Lists = omega arith
 
-pub pooled : (kind : Kind) (t : List ℕ) (n : ℕ) (source : Source) (places nums firsts : List ℕ) (k : ℕ) → length places ≡ n
-    → placed kind t places ≡ itemsFrom kind t n source → All (Short kind) (itemsFrom kind t n source) → Numbered kind t places nums firsts k
-    → Pooled kind t n source nums firsts k
-unfolding sections poolBytes distinctAt
-pooled kind t n source places nums firsts k l e s w =
+-- the stretches of glyphs, their places and the numbers of these, once the pass has come to the last glyph
+module _ (kind : Kind) (t : List ℕ) (n at base : ℕ) (ends places nums firsts : List ℕ) (pass : Pass) (k : ℕ) (few : n < 2 ^ 16)
+    (short : All (Short kind) (itemsFrom kind t n (Lookup at base))) (p : Passed kind t n at base ends places pass) (all : n ≤ pass .glyph)
+    (fits : length ends ≤ length places) where
+  held : length (take (pass .count) places) ≡ pass .count
+  held = length-take-le (pass .count) places (omega (arith, p .fits))
+
+  pub pass-few : pass .count < 2 ^ 16
+  pass-few = omega (arith, p .most, rise-few (take (pass .count) ends) 0 (pass .glyph) (p .rise), length-take-le (pass .count) ends (p .fits))
+
+  pub pass-held : pass .count ≡ length (take (pass .count) places)
+  pass-held = sym held
+
+  pub pass-room : (nums₀ firsts₀ nexts₀ lasts₀ : ℕ) → length ends ≤ nums₀ → length ends ≤ firsts₀ → length ends ≤ nexts₀ → lasts₀ ≡ 1021
+      → Room (length (take (pass .count) places)) nums₀ firsts₀ nexts₀ lasts₀
+  pass-room nums₀ firsts₀ nexts₀ lasts₀ a b c d =
+      record {
+        few = omega (arith, held, pass-few);
+        each = omega (arith, held, p .fits);
+        most = omega (arith, held, p .fits);
+        links = omega (arith, held, p .fits);
+        prints = d;
+      }
+
+  pub pass-stretches : length ends ≤ length nums → Stretches (take (pass .count) ends) (take (pass .count) nums)
+  pass-stretches h =
+      record {
+        last = pass .glyph;
+        few = omega (arith, p .most);
+        rise = p .rise;
+        each = length-take-le (pass .count) nums (omega (arith, p .fits)) ∙ sym (length-take-le (pass .count) ends (p .fits));
+      }
+
+  module _ (w : Numbered kind t (take (pass .count) places) (take (length (take (pass .count) places)) nums) firsts k) where
+    pub pass-distinct : k < 2 ^ 16
+    pass-distinct = omega (arith, w .few, held, pass-few)
+
+    each : length (placed kind t (take (pass .count) places)) ≡ length (take (pass .count) ends)
+    each = map-length (itemAt kind t) (take (pass .count) places) ∙ held ∙ sym (length-take-le (pass .count) ends (p .fits))
+
+    -- the distinct items of the glyphs are those of the places
+    distinct-are : distinct (item-discrete kind) (noItem kind ∷ []) (itemsFrom kind t n (Lookup at base)) ≡ noItem kind ∷ placed kind t (take k firsts)
+    unfolding distinctAt
+    distinct-are =
+        ap (distinct (item-discrete kind) (noItem kind ∷ [])) (sym (p .items all))
+        ∙ spread-distinct (item-discrete kind) (take (pass .count) ends) (placed kind t (take (pass .count) places)) (noItem kind ∷ []) 0 (pass .glyph) each (p .rise)
+        ∙ w .found
+
+    numbers-are : numbers (item-discrete kind) (distinct (item-discrete kind) (noItem kind ∷ []) (itemsFrom kind t n (Lookup at base))) (itemsFrom kind t n (Lookup at base))
+        ≡ spread 0 (take (pass .count) ends) (take (pass .count) nums)
+    numbers-are =
+        let eq = item-discrete kind in
+        let ds = noItem kind ∷ placed kind t (take k firsts) in
+        ap₂ (λ (d y : List (Item kind)). numbers eq d y) distinct-are (sym (p .items all))
+        ∙ spread-numbers eq (take (pass .count) ends) (placed kind t (take (pass .count) places)) ds 0
+        ∙ ap (spread 0 (take (pass .count) ends))
+        (ap (λ (d : List (Item kind)). numbers eq d (placed kind t (take (pass .count) places))) (sym (w .found)) ∙ sym (w .numbered)
+        ∙ ap (λ (j : ℕ). take j nums) held)
+
+    pub pass-sections : sections kind t (take k firsts) (take (pass .count) ends) (take (pass .count) nums) ≡ poolBytes kind t n (Lookup at base)
+    unfolding sections poolBytes
+    pass-sections =
+        ap (λ (b : List ℕ). counted (itemCode kind) (placed kind t (take k firsts)) ++ b) (number-runs (spread 0 (take (pass .count) ends) (take (pass .count) nums)))
+        ∙ ap₂ (λ (ys : List (Item kind)) (ns : List ℕ). counted (itemCode kind) ys ++ counted runLessCode (runs ℕ-discrete 0 0 ns)) (ap (drop 1) (sym distinct-are)) (sym numbers-are)
+
+    pub pass-most : k ≤ pass .count
+    pass-most = omega (arith, w .few, held)
+
+    pub pass-short : All (Short kind) (placed kind t (take k firsts))
+    pass-short =
+        subst (All (Short kind)) distinct-are
+        (all-distinct (item-discrete kind) (Short kind) (itemsFrom kind t n (Lookup at base)) (noItem kind ∷ []) (none-short kind, tt) short) .1
+
+-- ---- without a lookup
+
+module _ {A : Type 0} (eq : Discrete A) (z : A) where
+  none-distinct : (n : ℕ) → distinct eq (z ∷ []) (replicate n z) ≡ z ∷ []
+  none-distinct zero = refl
+  none-distinct (suc n) =
+      if-neg (ℕ-discrete (index eq z (z ∷ [])) 1) (λ e. omega (arith, e, index-self eq z [])) (distinct eq ((z ∷ []) ++ (z ∷ [])) (replicate n z)) (distinct eq (z ∷ []) (replicate n z))
+      ∙ none-distinct n
+
+  none-numbers : (n : ℕ) → numbers eq (z ∷ []) (replicate n z) ≡ replicate n 0
+  none-numbers zero = refl
+  none-numbers (suc n) = ap₂ (λ (x : ℕ) (l : List ℕ). x ∷ l) (index-self eq z []) (none-numbers n)
+
+none-runs : (n : ℕ) → runs ℕ-discrete 0 0 (replicate n 0) ≡ []
+none-runs n = ap (runs ℕ-discrete 0 0) (sym (append-nil (replicate n 0))) ∙ runs-skips ℕ-discrete 0 n 0 []
+
+pub absent-bytes : (kind : Kind) (t : List ℕ) (n : ℕ) → poolBytes kind t n Absent ≡ be32 0 ++ be32 0
+unfolding poolBytes itemsFrom
+absent-bytes kind t n =
     let eq = item-discrete kind in
-    let ds = distinct eq (noItem kind ∷ []) (itemsFrom kind t n source) in
-    let d : ds ≡ noItem kind ∷ placed kind t (take k firsts) = ap (distinct eq (noItem kind ∷ [])) (sym e) ∙ w .found in
-    let m : nums ≡ numbers eq ds (itemsFrom kind t n source) =
-    w .numbered ∙ ap (λ (xs : List (Item kind)). numbers eq (distinct eq (noItem kind ∷ []) xs) xs) e in
+    let xs = replicate n (noItem kind) in
+    ap (λ (d : List (Item kind)). counted (itemCode kind) (drop 1 d) ++ counted runLessCode (runs ℕ-discrete 0 0 (numbers eq d xs))) (none-distinct eq (noItem kind) n)
+    ∙ ap (λ (l : List ℕ). counted (itemCode kind) [] ++ counted runLessCode (runs ℕ-discrete 0 0 l)) (none-numbers eq (noItem kind) n)
+    ∙ ap (λ (l : List (Run ℕ)). counted (itemCode kind) [] ++ counted runLessCode l) (none-runs n)
+
+pub absent-placed : (kind : Kind) (t : List ℕ) (n : ℕ) (source : Source) (out₀ out : List ℕ) (to : ℕ) → source ≡ Absent → out ≡ sets out₀ to (be32 0 ++ be32 0)
+    → Placed kind t n source out₀ out to (to + 8)
+absent-placed kind t n source out₀ out to e b =
+    let p : poolBytes kind t n source ≡ be32 0 ++ be32 0 = ap (poolBytes kind t n) e ∙ absent-bytes kind t n in
+    record { end = omega (arith, ap length p); near = omega arith; bytes = b ∙ ap (sets out₀ to) (sym p) }
+
+-- ---- rooms
+
+-- where rooms for 65,536 stretches were lent
+pub tried-all : (kind : Kind) (t : List ℕ) (n : ℕ) (source : Source) (out₀ out : List ℕ) (to r : ℕ) → n < 2 ^ 16 → Tried kind t n source 65536 out₀ out to r
+    → Placed kind t n source out₀ out to r
+tried-all kind t n source out₀ out to r h w = go (decLt 0 r)
+  where
+    go : Dec (0 < r) → Placed kind t n source out₀ out to r
+    go (yes l) = w .done l
+    go (no l) = absurd (omega (arith, w .full (omega (arith, l)) .1))
+
+-- rooms that did not do left the bytes as they were
+pub tried-again : (kind : Kind) (t : List ℕ) (n : ℕ) (source : Source) (room : ℕ) (out₀ out₁ out₂ : List ℕ) (to q r : ℕ) → q ≤ 0
+    → Tried kind t n source room out₀ out₁ to q → Placed kind t n source out₁ out₂ to r → Placed kind t n source out₀ out₂ to r
+tried-again kind t n source room out₀ out₁ out₂ to q r h w p =
+    subst (λ (l : List ℕ). Placed kind t n source l out₂ to r) (w .full (omega arith) .0) p
+
+-- the pass did not come to the last glyph
+pub tried-full : (kind : Kind) (t : List ℕ) (n at base : ℕ) (ends places : List ℕ) (pass : Pass) (room : ℕ) (out₀ out : List ℕ) (to : ℕ)
+    → Passed kind t n at base ends places pass → pass .glyph < n → length ends ≡ room → out ≡ out₀ → Tried kind t n (Lookup at base) room out₀ out to 0
+tried-full kind t n at base ends places pass room out₀ out to p h l e =
     record {
-      few = omega (arith, w .few);
-      sections =
-          ap (λ (b : List ℕ). counted (itemCode kind) (placed kind t (take k firsts)) ++ b) (number-runs nums)
-          ∙ ap₂ (λ (xs : List (Item kind)) (ns : List ℕ). counted (itemCode kind) xs ++ counted runLessCode (runs ℕ-discrete 0 0 ns)) (ap (drop 1) (sym d)) m;
-      short = subst (All (Short kind)) d (all-distinct eq (Short kind) (itemsFrom kind t n source) (noItem kind ∷ []) (none-short kind, tt) s) .1;
+      full = λ z. (e, omega (arith, p .stops h, l, rise-few (take (pass .count) ends) 0 (pass .glyph) (p .rise), length-take-le (pass .count) ends (p .fits)));
+      done = λ z. absurd (omega arith);
     }
+
+pub tried-done : (kind : Kind) (t : List ℕ) (n : ℕ) (source : Source) (room : ℕ) (out₀ out : List ℕ) (to r : ℕ) (firsts ends nums : List ℕ)
+    → sections kind t firsts ends nums ≡ poolBytes kind t n source → r ≡ to + length (sections kind t firsts ends nums) → r < to + 2 ^ 29
+    → out ≡ sets out₀ to (sections kind t firsts ends nums) → Tried kind t n source room out₀ out to r
+tried-done kind t n source room out₀ out to r firsts ends nums e a b c =
+    record {
+      full = λ z. absurd (omega (arith, z, a, sections-length kind t firsts ends nums));
+      done = λ z. record { end = a ∙ ap (λ (l : List ℕ). to + length l) e; near = b; bytes = c ∙ ap (sets out₀ to) e };
+    }
+
+-- fresh rooms for m stretches
+pub fresh : (m : ℕ) → Rooms (length (replicate {A = ℕ} m 0)) (length (replicate {A = ℕ} m 0)) (length (replicate {A = ℕ} m 0)) (length (replicate {A = ℕ} m 0))
+    (length (replicate {A = ℕ} m 0)) (length (replicate {A = ℕ} 1021 0))
+fresh m =
+    record { each = omega arith; numbered = omega arith; distinct = omega arith; links = omega arith; prints = length-replicate {A = ℕ} 1021 0 }

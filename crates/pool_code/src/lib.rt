@@ -1,29 +1,19 @@
 // Sections 5 and 6, or 7 and 8, of a sheet for a table (document 01, "The sheet"): the glyphs' clusters or lists are
-// numbered, and sized or stored from the numbers.
+// numbered by stretches of glyphs that have one place, and stored from the numbers. What would stand past the end of
+// the lent bytes is dropped, so that the sections are sized by storing them into nothing.
 ghost use mathlib.Core.Path.{_≡_};
+ghost use mathlib.Core.List.{_++_};
 ghost use Prim.Native.Nat.{_+_, _*_, _≤_, _<_, _^_};
 ghost use lib.ListN.{length};
 ghost use lib.Seq.{sets};
+ghost use Rattle.fields.specs.Field.{be32};
 ghost use Rattle.lists.specs.Codes.{All, many};
 ghost use Rattle.item.specs.Items.{itemCode};
-ghost use Rattle.number.specs.Numbered.{placed};
-ghost use Rattle.pool_code.specs.Pool.{poolBytes, sections, Short, Ready, Pooled};
+ghost use Rattle.number.specs.Numbered.{placed, Blank};
+ghost use Rattle.run_code.specs.Spread.{Stretches};
+ghost use Rattle.pool_code.specs.Pool.{sections, Short, Ready, Rooms, Placed, Tried};
 use places::Source;
 use values::Kind;
-
-// How many bytes the items at these places are written in.
-fn items_size(table: &[u8], kind: Kind, firsts: &[u16]) -> usize
-    requires { ⌜ (length (now table) ≤ 2 ^ 15) × ((length (now firsts) < 2 ^ 16) × All (Short kind) (placed kind (now table) (now firsts))) ⌝ }
-    ensures { λ r. ⌜ (r ≡ length (many (itemCode kind) (placed kind (now (table .entry)) (now (firsts .entry))))) × (r ≤ 5380 * length (now (firsts .entry))) ⌝ }
-{
-    let mut i: usize = 0;
-    let mut size: usize = 0;
-    while i < firsts.len() {
-        size += item::item_size(table, kind, firsts[i]);
-        i += 1;
-    }
-    size
-}
 
 // Stores the items at these places, and answers where they end.
 fn put_items(table: &[u8], kind: Kind, firsts: &[u16], out: &mut [u8], to: usize) -> usize
@@ -43,68 +33,221 @@ fn put_items(table: &[u8], kind: Kind, firsts: &[u16], out: &mut [u8], to: usize
     end
 }
 
-// How many bytes the two sections take, from a numbering.
-fn sections_size(table: &[u8], kind: Kind, firsts: &[u16], nums: &[u16]) -> usize
-    requires { ⌜ (length (now table) ≤ 2 ^ 15) × ((length (now firsts) < 2 ^ 16) × All (Short kind) (placed kind (now table) (now firsts))) ⌝ }
-    requires { ⌜ length (now nums) < 2 ^ 16 ⌝ }
-    ensures { λ r. ⌜ (r ≡ length (sections kind (now (table .entry)) (now (firsts .entry)) (now (nums .entry)))) × (r < 2 ^ 29) ⌝ }
-{
-    4 + items_size(table, kind, firsts) + run_code::runs_size(nums, 0)
-}
-
 // Stores the two sections, from a numbering, and answers where they end.
 fn put_sections(
     table: &[u8],
     kind: Kind,
     firsts: &[u16],
+    ends: &[u16],
     nums: &[u16],
     out: &mut [u8],
     to: usize,
 ) -> usize
     requires { ⌜ (length (now table) ≤ 2 ^ 15) × ((length (now firsts) < 2 ^ 16) × All (Short kind) (placed kind (now table) (now firsts))) ⌝ }
-    requires { ⌜ (length (now nums) < 2 ^ 16) × (to < 2 ^ 38) ⌝ }
-    ensures { λ r. ⌜ (r ≡ to + length (sections kind (now (table .entry)) (now (firsts .entry)) (now (nums .entry)))) × (r < to + 2 ^ 29)
-        × (now (out .exit) ≡ sets (now (out .entry)) to (sections kind (now (table .entry)) (now (firsts .entry)) (now (nums .entry)))) ⌝ }
+    requires { ⌜ Stretches (now ends) (now nums) × (to < 2 ^ 38) ⌝ }
+    ensures { λ r. ⌜ (r ≡ to + length (sections kind (now (table .entry)) (now (firsts .entry)) (now (ends .entry)) (now (nums .entry)))) × (r < to + 2 ^ 29)
+        × (now (out .exit) ≡ sets (now (out .entry)) to (sections kind (now (table .entry)) (now (firsts .entry)) (now (ends .entry)) (now (nums .entry)))) ⌝ }
 {
     fields::put_u32(out, to, firsts.len() as u32);
     let end = put_items(table, kind, firsts, out, to + 4);
-    run_code::put_runs(nums, 0, 1, out, end)
+    run_code::put_runs(ends, nums, 0, 1, out, end)
 }
 
-// Numbers what the glyphs have, and answers how many distinct items there are.
-fn number_source(
+// Stores the two sections for the lookup at `at`, and answers where they end; or, where the rooms do not hold all
+// stretches of glyphs with one place, stores nothing and answers 0.
+fn put_with(
     table: &[u8],
     glyphs: usize,
     kind: Kind,
-    source: Source,
+    at: usize,
+    base: usize,
+    ends: &mut [u16],
     places: &mut [u16],
     nums: &mut [u16],
     firsts: &mut [u16],
+    nexts: &mut [u16],
+    lasts: &mut [u16],
     seen: &mut [u16],
+    out: &mut [u8],
+    to: usize,
 ) -> usize
-    requires { ⌜ Ready kind (now table) glyphs source (length (now places)) (length (now nums)) (length (now firsts)) (length (now seen)) ⌝ }
-    ensures { λ r. ⌜ Pooled kind (now (table .entry)) glyphs source (now (nums .exit)) (now (firsts .exit)) r ⌝ }
+    requires { ⌜ Ready kind (now table) glyphs (Source.Lookup at base) × (to < 2 ^ 38) ⌝ }
+    requires { ⌜ Rooms (length (now ends)) (length (now places)) (length (now nums)) (length (now firsts)) (length (now nexts)) (length (now lasts)) × (Blank (now lasts) × Blank (now seen)) ⌝ }
+    ensures { λ r. ⌜ Tried kind (now (table .entry)) glyphs (Source.Lookup at base) (length (now (ends .entry))) (now (out .entry)) (now (out .exit)) to r ⌝ }
 {
-    places::place_items(table, glyphs, kind, source, places);
-    number::number_items(table, kind, places, nums, firsts, seen)
+    let pass = places::place_items(table, glyphs, kind, at, base, ends, places);
+    if pass.glyph < glyphs {
+        return 0;
+    }
+    let m = pass.count;
+    let k = number::number_items(table, kind, &places[..m], nums, firsts, nexts, lasts, seen);
+    put_sections(table, kind, &firsts[..k], &ends[..m], &nums[..m], out, to)
 }
 
-// How many bytes the two sections take.
-pub fn pool_size(
+// The same with rooms for few stretches, and for a table of at most 512 bytes.
+fn put_small(
     table: &[u8],
     glyphs: usize,
     kind: Kind,
-    source: Source,
-    places: &mut [u16],
-    nums: &mut [u16],
-    firsts: &mut [u16],
-    seen: &mut [u16],
+    at: usize,
+    base: usize,
+    out: &mut [u8],
+    to: usize,
 ) -> usize
-    requires { ⌜ Ready kind (now table) glyphs source (length (now places)) (length (now nums)) (length (now firsts)) (length (now seen)) ⌝ }
-    ensures { λ r. ⌜ (r ≡ length (poolBytes kind (now (table .entry)) glyphs source)) × (r < 2 ^ 29) ⌝ }
+    requires { ⌜ Ready kind (now table) glyphs (Source.Lookup at base) × (to < 2 ^ 38) ⌝ }
+    ensures { λ r. ⌜ Tried kind (now (table .entry)) glyphs (Source.Lookup at base) 128 (now (out .entry)) (now (out .exit)) to r ⌝ }
 {
-    let k = number_source(table, glyphs, kind, source, places, nums, firsts, seen);
-    sections_size(table, kind, &firsts[..k], nums)
+    let mut ends = [0u16; 128];
+    let mut places = [0u16; 128];
+    let mut nums = [0u16; 128];
+    let mut firsts = [0u16; 128];
+    let mut nexts = [0u16; 128];
+    let mut lasts = [0u16; 1021];
+    let mut seen = [0u16; 512];
+    put_with(
+        table,
+        glyphs,
+        kind,
+        at,
+        base,
+        &mut ends,
+        &mut places,
+        &mut nums,
+        &mut firsts,
+        &mut nexts,
+        &mut lasts,
+        &mut seen,
+        out,
+        to,
+    )
+}
+
+// With rooms for 4,096 stretches, and for any table.
+fn put_medium(
+    table: &[u8],
+    glyphs: usize,
+    kind: Kind,
+    at: usize,
+    base: usize,
+    out: &mut [u8],
+    to: usize,
+) -> usize
+    requires { ⌜ Ready kind (now table) glyphs (Source.Lookup at base) × (to < 2 ^ 38) ⌝ }
+    ensures { λ r. ⌜ Tried kind (now (table .entry)) glyphs (Source.Lookup at base) 4096 (now (out .entry)) (now (out .exit)) to r ⌝ }
+{
+    let mut ends = [0u16; 4096];
+    let mut places = [0u16; 4096];
+    let mut nums = [0u16; 4096];
+    let mut firsts = [0u16; 4096];
+    let mut nexts = [0u16; 4096];
+    let mut lasts = [0u16; 1021];
+    let mut seen = [0u16; 32768];
+    put_with(
+        table,
+        glyphs,
+        kind,
+        at,
+        base,
+        &mut ends,
+        &mut places,
+        &mut nums,
+        &mut firsts,
+        &mut nexts,
+        &mut lasts,
+        &mut seen,
+        out,
+        to,
+    )
+}
+
+// With rooms for a stretch of each glyph.
+fn put_large(
+    table: &[u8],
+    glyphs: usize,
+    kind: Kind,
+    at: usize,
+    base: usize,
+    out: &mut [u8],
+    to: usize,
+) -> usize
+    requires { ⌜ Ready kind (now table) glyphs (Source.Lookup at base) × (to < 2 ^ 38) ⌝ }
+    ensures { λ r. ⌜ Tried kind (now (table .entry)) glyphs (Source.Lookup at base) 65536 (now (out .entry)) (now (out .exit)) to r ⌝ }
+{
+    let mut ends = [0u16; 65536];
+    let mut places = [0u16; 65536];
+    let mut nums = [0u16; 65536];
+    let mut firsts = [0u16; 65536];
+    let mut nexts = [0u16; 65536];
+    let mut lasts = [0u16; 1021];
+    let mut seen = [0u16; 32768];
+    put_with(
+        table,
+        glyphs,
+        kind,
+        at,
+        base,
+        &mut ends,
+        &mut places,
+        &mut nums,
+        &mut firsts,
+        &mut nexts,
+        &mut lasts,
+        &mut seen,
+        out,
+        to,
+    )
+}
+
+// With medium rooms if they are large enough.
+fn put_looked(
+    table: &[u8],
+    glyphs: usize,
+    kind: Kind,
+    at: usize,
+    base: usize,
+    out: &mut [u8],
+    to: usize,
+) -> usize
+    requires { ⌜ Ready kind (now table) glyphs (Source.Lookup at base) × (to < 2 ^ 38) ⌝ }
+    ensures { λ r. ⌜ Placed kind (now (table .entry)) glyphs (Source.Lookup at base) (now (out .entry)) (now (out .exit)) to r ⌝ }
+{
+    let end = put_medium(table, glyphs, kind, at, base, out, to);
+    if 0 < end {
+        return end;
+    }
+    put_large(table, glyphs, kind, at, base, out, to)
+}
+
+// With small rooms for a small table, if they are large enough.
+fn put_lookup(
+    table: &[u8],
+    glyphs: usize,
+    kind: Kind,
+    at: usize,
+    base: usize,
+    out: &mut [u8],
+    to: usize,
+) -> usize
+    requires { ⌜ Ready kind (now table) glyphs (Source.Lookup at base) × (to < 2 ^ 38) ⌝ }
+    ensures { λ r. ⌜ Placed kind (now (table .entry)) glyphs (Source.Lookup at base) (now (out .entry)) (now (out .exit)) to r ⌝ }
+{
+    if 512 < table.len() {
+        return put_looked(table, glyphs, kind, at, base, out, to);
+    }
+    let end = put_small(table, glyphs, kind, at, base, out, to);
+    if 0 < end {
+        return end;
+    }
+    put_looked(table, glyphs, kind, at, base, out, to)
+}
+
+// Stores two counts of 0.
+fn put_none(out: &mut [u8], to: usize)
+    requires { ⌜ to < 2 ^ 40 ⌝ }
+    ensures { λ r. ⌜ now (out .exit) ≡ sets (now (out .entry)) to (be32 0 ++ be32 0) ⌝ }
+{
+    fields::put_u32(out, to, 0);
+    fields::put_u32(out, to + 4, 0);
 }
 
 // Stores the two sections, and answers where they end.
@@ -113,17 +256,15 @@ pub fn put_pool(
     glyphs: usize,
     kind: Kind,
     source: Source,
-    places: &mut [u16],
-    nums: &mut [u16],
-    firsts: &mut [u16],
-    seen: &mut [u16],
     out: &mut [u8],
     to: usize,
 ) -> usize
-    requires { ⌜ Ready kind (now table) glyphs source (length (now places)) (length (now nums)) (length (now firsts)) (length (now seen)) × (to < 2 ^ 38) ⌝ }
-    ensures { λ r. ⌜ (r ≡ to + length (poolBytes kind (now (table .entry)) glyphs source)) × (r < to + 2 ^ 29)
-        × (now (out .exit) ≡ sets (now (out .entry)) to (poolBytes kind (now (table .entry)) glyphs source)) ⌝ }
+    requires { ⌜ Ready kind (now table) glyphs source × (to < 2 ^ 38) ⌝ }
+    ensures { λ r. ⌜ Placed kind (now (table .entry)) glyphs source (now (out .entry)) (now (out .exit)) to r ⌝ }
 {
-    let k = number_source(table, glyphs, kind, source, places, nums, firsts, seen);
-    put_sections(table, kind, &firsts[..k], nums, out, to)
+    let Source::Lookup { at, base } = source else {
+        put_none(out, to);
+        return to + 8;
+    };
+    put_lookup(table, glyphs, kind, at, base, out, to)
 }

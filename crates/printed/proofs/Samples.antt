@@ -6,11 +6,11 @@ use lib.ListN.{replicate}
 use Rattle.printed.specs.Printed.{newline, digitOf, lineOf, linesOf, printedSheet, decimalOf, printedRefusal}
 
 -- n lines of the sheet's zeros
-zeros : ℕ → List ℕ
+pub zeros : ℕ → List ℕ
 zeros zero = []
 zeros (suc n) = replicate 8 48 ++ (newline ∷ zeros n)
 
-sample : printedSheet (0 ∷ 0 ∷ 0 ∷ 1 ∷ replicate 64 0) ≡ replicate 7 48 ++ (49 ∷ newline ∷ zeros 16)
+pub sample : printedSheet (0 ∷ 0 ∷ 0 ∷ 1 ∷ replicate 64 0) ≡ replicate 7 48 ++ (49 ∷ newline ∷ zeros 16)
 unfolding printedSheet linesOf lineOf digitOf zeros
 sample = refl
 

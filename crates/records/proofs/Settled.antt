@@ -1,6 +1,6 @@
 -- What a line's call settles, before its verdicts are stored, lets them be stored, and with them gives the call's outcome.
 use Prim.Native.Nat.{ℕ, _≤_}
-use mathlib.Core.Path.{_≡_, refl, ap, _∙_, subst}
+use mathlib.Core.Path.{_≡_, refl, ap, _∙_}
 use mathlib.Core.Bool.{Bool, true, false, _&&_}
 use mathlib.Core.List.{List, _++_}
 use native.Mathlib.Omega.{arith}
@@ -13,7 +13,6 @@ use Rattle.fields.specs.declared.Fault.{Fault}
 use Rattle.fields.specs.declared.Fault.the-variants.{Clear, Bad}
 use Rattle.fields.specs.declared.Refusal.the-variants.{UnequalLengths, LongLine, ShortRoom}
 use Rattle.fields.specs.Laws.{then-first, then-second, rule-holds}
-use Rattle.parts.specs.declared.Direction.{Direction}
 use Rattle.parts.specs.declared.Verdict.{Verdict}
 use Rattle.meaning.specs.Meaning.{Side}
 use Rattle.meaning.specs.Ask.{sideOf}
@@ -22,10 +21,10 @@ use Rattle.table.specs.Means.{meaningOf}
 use Rattle.lines.specs.Line.{Line, walkOf, classesOf, beforeOf, afterOf, verdictsFrom, verdictsOf}
 use Rattle.line.specs.declared.Settled.{Settled}
 use Rattle.line.specs.Justified.{Outcome, Lent, equalLengths, lineFault, settled, justified}
-use Rattle.line.specs.Settle.{lineBy, lentBy, Settlement, settlementIs, settlementIn}
+use Rattle.line.specs.Settle.{lentBy, Settlement, settlementIs, settlementIn}
 use Rattle.line_verdicts.specs.Cursor.{Fits, moved}
 use Rattle.records.specs.Stored.{lineVerdicts, filledWith, Storable}
-use Rattle.records.specs.Outcome.{outcomeIs, Settles}
+use Rattle.records.specs.Outcome.{outcomeIs}
 
 and-first : (a b : Bool) → a && b ≡ true → a ≡ true
 and-first true b e = refl
@@ -146,16 +145,3 @@ module _ (t : List ℕ) (n : ℕ) (l : Line) (cs : List ℕ) (bs fs : List ℤ) 
             let v : vs cs′ bs′ fs′ ≡ verdictsOf s l = same-verdicts cs′ bs′ fs′ (classes-are o w) (before-are o w) (after-are o w) in
             let h : zs ≡ verdictsOf s l ++ drop (length (verdictsOf s l)) ys = f ∙ (λ i. filledWith (v i) (z i) ys) ∙ stored-all (verdictsOf s l) ys in
             λ i. outcomeIs (answer-is o w i) (classes-are o w i) (before-are o w i) (after-are o w i) (h i)
-
--- what is settled, at the list of verdicts that is lent
-pub settles-at : (t : List ℕ) (n : ℕ) (l : Line) (cs : List ℕ) (bs fs : List ℤ) (ys : List Verdict) (r : Settled) (cs′ : List ℕ) (bs′ fs′ : List ℤ)
-    → Settles t n l (length ys) cs bs fs r cs′ bs′ fs′ → settlementIs r cs′ bs′ fs′ ≡ settlementIn (justified t n l (lentBy cs bs fs ys))
-unfolding Settles
-settles-at t n l cs bs fs ys r cs′ bs′ fs′ e = e ys refl
-
--- the target as the machine holds it
-pub settles-by : (t : List ℕ) (n : ℕ) (d : Direction) (starts ends : Bool) (size : ℕ) (gs : List ℕ) (advances : List ℤ) {x y : ℤ} (room : ℕ) (cs : List ℕ) (bs fs : List ℤ) (r : Settled)
-    (cs′ : List ℕ) (bs′ fs′ : List ℤ) → x ≡ y → Settles t n (lineBy d starts ends size gs advances x) room cs bs fs r cs′ bs′ fs′
-    → Settles t n (lineBy d starts ends size gs advances y) room cs bs fs r cs′ bs′ fs′
-settles-by t n d starts ends size gs advances room cs bs fs r cs′ bs′ fs′ e h =
-    subst (λ (z : ℤ). Settles t n (lineBy d starts ends size gs advances z) room cs bs fs r cs′ bs′ fs′) e h

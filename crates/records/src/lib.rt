@@ -5,10 +5,9 @@ ghost use Prim.Native.Nat.{_<_};
 ghost use lib.ListN.{length, set};
 ghost use Rattle.line.specs.Justified.{justified};
 ghost use Rattle.line.specs.Settle.{lineBy, lentBy};
-ghost use Rattle.records.specs.Outcome.{outcomeIs, Settles};
+ghost use Rattle.records.specs.Outcome.{outcomeIs};
 ghost use Rattle.records.specs.Stored.{lineVerdicts, filledWith, Storable};
 use line::LineAnswer;
-use line::Settled;
 use line_verdicts::Cursor;
 use parts::Direction;
 use parts::Verdict;
@@ -34,8 +33,17 @@ fn fill<'v, 'a>(
     after: &'a [i32],
     n: usize,
 )
-    requires { ⌜ Storable (now table) count direction size (now glyphs) (now classes) (now before) (now after) n (length (now list)) ⌝ }
-    ensures { λ _. ⌜ now (list .exit) ≡ filledWith (lineVerdicts (now (table .entry)) count direction size (now (glyphs .entry)) (now (classes .entry)) (now (before .entry)) (now (after .entry))) n (now (list .entry)) ⌝ }
+    requires { ⌜
+        Storable (now table) count direction size (now glyphs) (now classes) (now before) (now after)
+        n (length (now list))
+        ⌝ }
+    ensures { λ _. ⌜
+        now (list .exit)
+        ≡ filledWith
+        (lineVerdicts (now (table .entry)) count direction size (now (glyphs .entry))
+        (now (classes .entry)) (now (before .entry)) (now (after .entry)))
+        n (now (list .entry))
+        ⌝ }
 {
     let mut cursor = Cursor {
         next: 0,
@@ -62,42 +70,6 @@ fn fill<'v, 'a>(
     }
 }
 
-// All of a line's call but the storing of its verdicts. What is lent to be written has a lifetime of its own, and
-// comes back.
-fn settle<'a, 'b>(
-    table: &'a [u8],
-    count: u32,
-    direction: Direction,
-    starts: bool,
-    ends: bool,
-    size: u32,
-    glyphs: &'a [u16],
-    advances: &'a [i32],
-    target: i32,
-    room: usize,
-    classes: &'b mut [u8],
-    before: &'b mut [i32],
-    after: &'b mut [i32],
-) -> Settled
-    ensures { λ r. ⌜ Settles (now (table .entry)) count (lineBy direction starts ends size (now (glyphs .entry)) (now (advances .entry)) target) room (now (classes .entry)) (now (before .entry)) (now (after .entry)) r (now (classes .exit)) (now (before .exit)) (now (after .exit)) ⌝ }
-{
-    line::settle(
-        table,
-        count,
-        direction,
-        starts,
-        ends,
-        size,
-        glyphs,
-        advances,
-        target,
-        room,
-        classes,
-        before,
-        after,
-    )
-}
-
 // One call for a line: its classes, movements, remainder and verdicts, or the refusal.
 pub fn justify<'a, 'v>(
     table: &'a [u8],
@@ -114,10 +86,15 @@ pub fn justify<'a, 'v>(
     after: &'a mut [i32],
     verdicts: &'v mut [Verdict],
 ) -> LineAnswer
-    ensures { λ r. ⌜ outcomeIs r (now (classes .exit)) (now (before .exit)) (now (after .exit)) (now (verdicts .exit)) ≡ justified (now (table .entry)) count (lineBy direction starts ends size (now (glyphs .entry)) (now (advances .entry)) target) (lentBy (now (classes .entry)) (now (before .entry)) (now (after .entry)) (now (verdicts .entry))) ⌝ }
+    ensures { λ r. ⌜
+        outcomeIs r (now (classes .exit)) (now (before .exit)) (now (after .exit)) (now (verdicts .exit))
+        ≡ justified (now (table .entry)) count
+        (lineBy direction starts ends size (now (glyphs .entry)) (now (advances .entry)) target)
+        (lentBy (now (classes .entry)) (now (before .entry)) (now (after .entry)) (now (verdicts .entry)))
+        ⌝ }
 {
     let room = verdicts.len();
-    let settled = settle(
+    let settled = line::settle(
         table,
         count,
         direction,

@@ -6,8 +6,8 @@ use mathlib.Core.List.{List, [], _∷_, _++_}
 use native.Mathlib.Decide.{ℕ-discrete}
 use native.Mathlib.Omega.{arith}
 use native.Mathlib.Nat.{add-zero}
-use lib.ListN.{length, drop, getD, replicate, length-drop, drop-of-length-le}
-use lib.Seq.{drop-cons, getD-drop}
+use lib.ListN.{length, drop, getD, set, replicate, length-drop}
+use lib.Seq.{sets, drop-cons, getD-drop, drop-drop}
 use Rattle.fields.specs.Field.{be16, be32}
 use Rattle.lists.specs.Codes.{many, counted}
 use Rattle.lists.specs.Runs.{Run, push, runs, OkRuns}
@@ -15,6 +15,8 @@ use Rattle.lists.specs.Sections.{runCode, runLessCode, runSection}
 use Rattle.lists.proofs.RunsLaws.{Apart, runs-ok, runs-skips, runs-block}
 use Rattle.lists.proofs.CodeLaws.{many-length}
 use Rattle.run_code.specs.RunCode.{lessCode, runBytes, RunTo}
+use Rattle.run_code.specs.Spread.{spread, Rise}
+use Rattle.run_code.proofs.Spread.{spread-same, spread-first, spread-none}
 
 -- ---- a stretch of equal elements
 
@@ -63,29 +65,74 @@ module _ (skip : ℕ) where
       go (yes p) rs o = later rs o
       go (no p) rs o = put rs
 
-  pub runs-skipped : (xs : List ℕ) (i r : ℕ) → RunTo xs i r → getD xs i 0 ≡ skip
-      → runs ℕ-discrete skip i (drop i xs) ≡ runs ℕ-discrete skip r (drop r xs)
-  runs-skipped xs i r t e =
-      let k : i + (r - i) ≡ r = omega (arith, t .0) in
-      ap (runs ℕ-discrete skip i) (t .2 ∙ ap (λ (v : ℕ). replicate (r - i) v ++ drop r xs) e)
-      ∙ runs-skips ℕ-discrete skip (r - i) i (drop r xs) ∙ ap (λ (m : ℕ). runs ℕ-discrete skip m (drop r xs)) k
+  -- the stretches ends and xs from stretch i on, which begins at index first; those from i to r - 1 have one element
+  module _ (ends xs : List ℕ) (i r first n : ℕ) (l : length xs ≡ length ends) (t : RunTo xs i r) (o : Rise first (drop i ends) n) where
+    abbrev v : ℕ
+    v = getD xs i 0
 
-  pub runs-taken : (xs : List ℕ) (i r : ℕ) → RunTo xs i r → (getD xs i 0 ≡ skip → ⊥)
-      → runs ℕ-discrete skip i (drop i xs) ≡ record { first = i; last = r - 1; value = getD xs i 0 } ∷ runs ℕ-discrete skip r (drop r xs)
-  runs-taken xs i r t h =
-      let v : ℕ = getD xs i 0 in
-      let k : r - i ≡ suc (r - 1 - i) = omega (arith, t .0) in
-      let m : suc (r - 1) ≡ r = omega (arith, t .0) in
-      let g : getD (drop r xs) 0 0 ≡ getD xs r 0 = getD-drop r xs 0 0 ∙ ap (λ (q : ℕ). getD xs q 0) (add-zero r) in
-      let a : Apart r v (runs ℕ-discrete skip r (drop r xs)) =
-      head-apart (drop r xs) r v h (λ z e. t .3 (omega (arith, length-drop r xs)) (sym g ∙ e)) in
-      ap (runs ℕ-discrete skip i) (t .2 ∙ ap (λ (q : ℕ). replicate q v ++ drop r xs) k)
-      ∙ runs-block ℕ-discrete skip (r - 1 - i) i (r - 1) v (drop r xs) (omega (arith, t .0)) h
-      (subst (λ (q : ℕ). Apart q v (runs ℕ-discrete skip q (drop r xs))) (sym m) a)
-      ∙ ap (λ (q : ℕ). record { first = i; last = r - 1; value = v } ∷ runs ℕ-discrete skip q (drop r xs)) m
+    abbrev past : ℕ
+    past = getD ends (r - 1) 0
 
-  pub runs-done : (xs : List ℕ) (i : ℕ) → length xs ≤ i → runs ℕ-discrete skip i (drop i xs) ≡ []
-  runs-done xs i h = ap (runs ℕ-discrete skip i) (drop-of-length-le xs h)
+    pub run-step : (first < past) × Rise past (drop r ends) n
+        × (spread first (drop i ends) (drop i xs) ≡ replicate (past - first) v ++ spread past (drop r ends) (drop r xs))
+    run-step =
+        let k : r - i ≡ suc (r - 1 - i) = omega (arith, t .0) in
+        let a : getD (drop i ends) (r - 1 - i) 0 ≡ past =
+        getD-drop i ends (r - 1 - i) 0 ∙ (let e : i + (r - 1 - i) ≡ r - 1 = omega (arith, t .0) in ap (λ (m : ℕ). getD ends m 0) e) in
+        let b : drop (suc (r - 1 - i)) (drop i ends) ≡ drop r ends =
+        drop-drop (suc (r - 1 - i)) i ends ∙ (let e : i + suc (r - 1 - i) ≡ r = omega (arith, t .0) in ap (λ (m : ℕ). drop m ends) e) in
+        let w = spread-same (r - 1 - i) first n v (drop i ends) (drop r xs) (omega (arith, t .0, t .1, l, length-drop r xs, length-drop i ends)) o in (
+          omega (arith, w .0, a),
+          subst (λ (m : ℕ). Rise m (drop r ends) n) a (subst (λ (m : List ℕ). Rise (getD (drop i ends) (r - 1 - i) 0) m n) b (w .1)),
+          ap (spread first (drop i ends)) (t .2 ∙ ap (λ (m : ℕ). replicate m v ++ drop r xs) k) ∙ w .2
+              ∙ ap₂ (λ (p : ℕ) (m : List ℕ). replicate (p - first) v ++ spread p m (drop r xs)) a b,
+        )
+
+    pub runs-skipped : v ≡ skip
+        → runs ℕ-discrete skip first (spread first (drop i ends) (drop i xs)) ≡ runs ℕ-discrete skip past (spread past (drop r ends) (drop r xs))
+    runs-skipped e =
+        let w = run-step in
+        let k : first + (past - first) ≡ past = omega (arith, w .0) in
+        ap (runs ℕ-discrete skip first) (w .2 ∙ ap (λ (x : ℕ). replicate (past - first) x ++ spread past (drop r ends) (drop r xs)) e)
+        ∙ runs-skips ℕ-discrete skip (past - first) first (spread past (drop r ends) (drop r xs))
+        ∙ ap (λ (m : ℕ). runs ℕ-discrete skip m (spread past (drop r ends) (drop r xs))) k
+
+    pub runs-taken : (v ≡ skip → ⊥)
+        → runs ℕ-discrete skip first (spread first (drop i ends) (drop i xs))
+        ≡ record { first = first; last = past - 1; value = v } ∷ runs ℕ-discrete skip past (spread past (drop r ends) (drop r xs))
+    runs-taken h =
+        let w = run-step in
+        let k : past - first ≡ suc (past - 1 - first) = omega (arith, w .0) in
+        let m : suc (past - 1) ≡ past = omega (arith, w .0) in
+        let ys = spread past (drop r ends) (drop r xs) in
+        let g : getD (drop r xs) 0 0 ≡ getD xs r 0 = getD-drop r xs 0 0 ∙ ap (λ (q : ℕ). getD xs q 0) (add-zero r) in
+        let b : length (drop r xs) ≡ length (drop r ends) = omega (arith, l, length-drop r xs, length-drop r ends) in
+        let a : Apart past v (runs ℕ-discrete skip past ys) =
+        head-apart ys past v h (λ z e. let f = spread-first past n (drop r ends) (drop r xs) 0 b (w .1) z in t .3 (omega (arith, f .0, length-drop r xs)) (sym g ∙ sym (f .1) ∙ e)) in
+        ap (runs ℕ-discrete skip first) (w .2 ∙ ap (λ (q : ℕ). replicate q v ++ ys) k)
+        ∙ runs-block ℕ-discrete skip (past - 1 - first) first (past - 1) v ys (omega (arith, w .0)) h
+        (subst (λ (q : ℕ). Apart q v (runs ℕ-discrete skip q ys)) (sym m) a)
+        ∙ ap (λ (q : ℕ). record { first = first; last = past - 1; value = v } ∷ runs ℕ-discrete skip q ys) m
+
+  pub runs-done : (ends xs : List ℕ) (i first : ℕ) → length xs ≡ length ends → length xs ≤ i → runs ℕ-discrete skip first (spread first (drop i ends) (drop i xs)) ≡ []
+  runs-done ends xs i first l h =
+      ap (runs ℕ-discrete skip first) (spread-none first (drop i ends) (drop i xs) (omega (arith, l, length-drop i ends)))
+
+-- ---- a store before one that was made
+
+set-swap : (l : List ℕ) (i j x y : ℕ) → i < j → set (set l j y) i x ≡ set (set l i x) j y
+set-swap [] i j x y h = refl
+set-swap (z ∷ l) i zero x y h = absurd (omega arith)
+set-swap (z ∷ l) zero (suc j) x y h = refl
+set-swap (z ∷ l) (suc i) (suc j) x y h = ap (λ (m : List ℕ). z ∷ m) (set-swap l i j x y (omega arith))
+
+set-before : (ys l : List ℕ) (i j x : ℕ) → i < j → set (sets l j ys) i x ≡ sets (set l i x) j ys
+set-before [] l i j x h = refl
+set-before (y ∷ ys) l i j x h = set-before ys (set l j y) i (suc j) x (omega arith) ∙ ap (λ (m : List ℕ). sets m (suc j) ys) (set-swap l i j x y h)
+
+pub sets-before : (xs ys l : List ℕ) (i j : ℕ) → i + length xs ≤ j → sets (sets l j ys) i xs ≡ sets (sets l i xs) j ys
+sets-before [] ys l i j h = refl
+sets-before (x ∷ xs) ys l i j h = ap (λ (m : List ℕ). sets m (suc i) xs) (set-before ys l i j x (omega arith)) ∙ sets-before xs ys (set l i x) (suc i) j (omega arith)
 
 -- ---- runs as bytes
 

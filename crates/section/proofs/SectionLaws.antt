@@ -11,7 +11,8 @@ use Rattle.fields.specs.Laws.{u32At-fits}
 use Rattle.lists.specs.Codes.{All, many, counted, PrefixFree, Found, Absent, itemsAt}
 use Rattle.lists.proofs.CodeLaws.{be32-free, be16-at, be32-at}
 use Rattle.lists.proofs.ReadLaws.{refuse-short, refuse-long, refuse-items, accept-items}
-use Rattle.section.specs.Section.{Says, Room}
+use Rattle.lists.specs.Tests.{Says}
+use Rattle.section.specs.Section.{Room}
 
 -- what a test says
 pub says-yes : {b : Bool} (P : Type 0) → b ≡ true → Says b P → P

@@ -9,11 +9,6 @@ use Rattle.lists.specs.Codes.{Found, Absent}
 use Rattle.section.specs.declared.Read.{Read}
 use Rattle.section.specs.declared.Read.the-variants.{Upto, Absent as Nothing}
 
--- a bool that says whether P holds
-abbrev pub Says : Bool → Type 0 → Type 0
-Says true P = P
-Says false P = P → ⊥
-
 -- what a reader of a code's valid values answers at a place
 abbrev pub Parses : {A : Type 0} → (A → List ℕ) → (A → Type 0) → List ℕ → ℕ → Read → Type 0
 Parses code ok bytes at (Upto q) = Found code ok bytes at q

@@ -6,7 +6,8 @@ ghost use lib.ListN.{length};
 ghost use Rattle.fields.specs.Field.{u32At};
 ghost use Rattle.lists.specs.Codes.{itemsAt};
 ghost use Rattle.lists.specs.Sections.{runSection};
-ghost use Rattle.section.specs.Section.{Says, Parses, Room};
+ghost use Rattle.lists.specs.Tests.{Says};
+ghost use Rattle.section.specs.Section.{Parses, Room};
 ghost use Rattle.section.specs.RunSection.{runAt, Follows, GoodRuns, Below};
 
 // What a reader finds at a position: the bytes of a valid value, up to the place named, or those of none.

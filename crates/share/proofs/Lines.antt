@@ -11,10 +11,10 @@ use lib.IntN.{ℤ, pos, negℤ, _+ℤ_, negℤ-+ℤ}
 use lib.ListN.{length, drop, take, getD, replicate}
 use borrow.Author.Tests.{le-leb, lt-leb, leb-true}
 use Rattle.share.specs.Share.{total, still, plus, stages, goesBack, noPart, movements, remainder, most, within}
-use Rattle.share.specs.Line.{Glyph, apart, sideStages, sideFactors, sideExtras, evens, odds, lineMoves, beforeMoves, afterMoves, lineLeft, lineFits, signedOf, glyphsOf, Parts, Lent}
+use Rattle.share.specs.Line.{Glyph, apart, sideStages, sideFactors, sideExtras, evens, odds, lineMoves, beforeMoves, afterMoves, lineLeft, lineFits, signedOf, glyphsOf, Parts, Lent, nothingMoves, sumℤ}
 use Rattle.share.specs.Inner.{weave, factorsAt, lineOf, Moved, stageCount, Fit}
 use Rattle.share.proofs.Lists.{length-still}
-use Rattle.share.proofs.Theory.{sum-is-gap, length-movesBy, no-part-still, both, empty, remainder-is}
+use Rattle.share.proofs.Theory.{sum-is-gap, length-movesBy, no-part-still, both, remainder-is}
 use Rattle.share.proofs.Halves.{total-halves, length-halves, getD-evens, getD-odds, length-weave}
 use Rattle.share.proofs.Stages.{at-stage, at-end}
 
@@ -164,7 +164,7 @@ line-sum gs gap = omega (arith, total-halves (lineMoves gs gap), sum-is-gap (sid
 
 -- WHEN THERE IS A REMAINDER
 pub line-remainder : (gs : List Glyph) (gap : ℕ)
-    → lineLeft gs gap ≡ cond (empty (sideStages gs) (sideFactors gs) stages && empty (sideStages gs) (sideExtras gs) stages) gap 0
+    → lineLeft gs gap ≡ cond (nothingMoves gs) gap 0
 unfolding lineLeft
 line-remainder gs gap = remainder-is (sideStages gs) (sideFactors gs) (sideExtras gs) gap
 
@@ -186,10 +186,6 @@ line-still gs gap i e =
     )
 
 -- ---- with signs
-
-abbrev pub sumℤ : List ℤ → ℤ
-sumℤ [] = pos 0
-sumℤ (z ∷ zs) = z +ℤ sumℤ zs
 
 -- the sum of sizes with a sign is their sum with that sign
 pub sum-signed : (b : Bool) (l : List ℕ) → sumℤ (map (signedOf b) l) ≡ signedOf b (total l)

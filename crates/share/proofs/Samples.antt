@@ -1,4 +1,4 @@
--- Lines worked out (document 01, "Sample lines and tables", the starred lines on sharing, and some more): one list of cases, one theorem.
+-- Lines worked out, beside the starred ones (crates/samples): one list of cases, one theorem.
 use mathlib.Core.Path.{_≡_, refl}
 use mathlib.Core.Bool.{Bool, true, false}
 use mathlib.Core.List.{List, [], _∷_}
@@ -20,16 +20,8 @@ glyph stage extra before after = record { stage = stage; extra = extra; before =
 
 abbrev pub samples : List Sample
 samples =
-    -- factors 3, 3, 3: a gap below their total, the total, and one more
-    record { glyphs = glyph 0 0 0 3 ∷ glyph 0 0 0 3 ∷ glyph 0 0 0 3 ∷ []; gap = 7; fits = true; before = 0 ∷ 0 ∷ 0 ∷ []; after = 2 ∷ 2 ∷ 3 ∷ []; left = 0 }
-    ∷ record { glyphs = glyph 0 0 0 3 ∷ glyph 0 0 0 3 ∷ glyph 0 0 0 3 ∷ []; gap = 9; fits = true; before = 0 ∷ 0 ∷ 0 ∷ []; after = 3 ∷ 3 ∷ 3 ∷ []; left = 0 }
-    ∷ record { glyphs = glyph 0 0 0 3 ∷ glyph 0 0 0 3 ∷ glyph 0 0 0 3 ∷ []; gap = 10; fits = true; before = 0 ∷ 0 ∷ 0 ∷ []; after = 3 ∷ 3 ∷ 4 ∷ []; left = 0 }
     -- a unit lost by rounding goes to the side where the running total wins it, not to the last one
-    ∷ record { glyphs = glyph 0 0 3 3 ∷ glyph 0 0 3 3 ∷ []; gap = 6; fits = true; before = 1 ∷ 1 ∷ []; after = 2 ∷ 2 ∷ []; left = 0 }
-    -- no factor, none unlimited
-    ∷ record { glyphs = glyph 0 0 0 0 ∷ glyph 1 0 0 0 ∷ []; gap = 5; fits = true; before = 0 ∷ 0 ∷ []; after = 0 ∷ 0 ∷ []; left = 5 }
-    -- two unlimited glyphs of one stage
-    ∷ record { glyphs = glyph 1 1 0 0 ∷ glyph 1 1 0 0 ∷ []; gap = 5; fits = true; before = 0 ∷ 0 ∷ []; after = 2 ∷ 3 ∷ []; left = 0 }
+    record { glyphs = glyph 0 0 3 3 ∷ glyph 0 0 3 3 ∷ []; gap = 6; fits = true; before = 1 ∷ 1 ∷ []; after = 2 ∷ 2 ∷ []; left = 0 }
     -- no glyph
     ∷ record { glyphs = []; gap = 4; fits = true; before = []; after = []; left = 4 }
     -- a before side stands ahead of its after side
@@ -67,9 +59,4 @@ worked-out =
     more (record { fits = refl; before = refl; after = refl; left = refl }) (
     more (record { fits = refl; before = refl; after = refl; left = refl }) (
     more (record { fits = refl; before = refl; after = refl; left = refl }) (
-    more (record { fits = refl; before = refl; after = refl; left = refl }) (
-    more (record { fits = refl; before = refl; after = refl; left = refl }) (
-    more (record { fits = refl; before = refl; after = refl; left = refl }) (
-    more (record { fits = refl; before = refl; after = refl; left = refl }) (
-    more (record { fits = refl; before = refl; after = refl; left = refl }) (
-    more (record { fits = refl; before = refl; after = refl; left = refl }) none)))))))))))))
+    more (record { fits = refl; before = refl; after = refl; left = refl }) none))))))))

@@ -8,7 +8,7 @@ use native.Mathlib.Omega.{arith}
 use lib.Dec.{leb, ltb, eqb}
 use lib.ListN.{length, getD}
 use borrow.Author.Tests.{ltb-true, ltb-false, leb-true, leb-false, eqb-true, eq-eqb, ne-eqb, le-ltb}
-use Rattle.share.specs.Share.{total, still, plus, ofStage, shares, stageMoves, stageLeft, stagesMoves, stagesLeft, backMoves, backLeft, movesBy, leftBy, stages, goesBack, noPart, movements, remainder}
+use Rattle.share.specs.Share.{total, still, plus, ofStage, shares, stageMoves, stageLeft, stagesMoves, stagesLeft, backMoves, backLeft, movesBy, leftBy, stages, goesBack, noPart, movements, remainder, empty}
 use Rattle.share.proofs.Lists.{total-plus, total-still, length-plus, length-still, length-ofStage, length-shares, getD-plus, getD-still, getD-ofStage, getD-shares, total-shares, no-shares, total-shares-le}
 
 -- ---- the sum
@@ -154,11 +154,6 @@ pub no-part-still : (i : ℕ) (ks fs us : List ℕ) (gap : ℕ) → getD ks i no
 no-part-still i ks fs us gap e = still-by noPart i ks fs us stages goesBack gap (ap (λ (k : ℕ). among k stages) e ∙ noPart-apart)
 
 -- ---- the remainder
-
--- the total of each stage is 0
-abbrev pub empty : List ℕ → List ℕ → List ℕ → Bool
-empty ks vs [] = true
-empty ks vs (s ∷ ss) = eqb (total (ofStage s ks vs)) 0 && empty ks vs ss
 
 pub both : (a b : Bool) → (a && b) ≡ true → (a ≡ true) × (b ≡ true)
 both true b e = (refl, e)

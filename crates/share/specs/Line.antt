@@ -2,11 +2,11 @@
 -- movements of its two sides.
 use Prim.Native.Nat.{ℕ, _≤_}
 use mathlib.Core.Path.{_≡_}
-use mathlib.Core.Bool.{Bool, true, false}
+use mathlib.Core.Bool.{Bool, true, false, _&&_}
 use mathlib.Core.List.{List, [], _∷_}
 use lib.ListN.{length}
-use lib.IntN.{ℤ, pos, negℤ}
-use Rattle.share.specs.Share.{stages, noPart, movements, remainder, within}
+use lib.IntN.{ℤ, pos, negℤ, _+ℤ_}
+use Rattle.share.specs.Share.{stages, noPart, movements, remainder, within, empty}
 
 -- a glyph's part: its stage mark, 1 where it is unlimited and else 0, and the factors of its two sides
 pub record Glyph : Type 0 where
@@ -66,6 +66,15 @@ lineFits gs = within (sideStages gs) (sideFactors gs) stages
 abbrev pub signedOf : Bool → ℕ → ℤ
 signedOf true x = negℤ (pos x)
 signedOf false x = pos x
+
+-- no stage has a factor total above 0, and none an unlimited glyph
+abbrev pub nothingMoves : List Glyph → Bool
+nothingMoves gs = empty (sideStages gs) (sideFactors gs) stages && empty (sideStages gs) (sideExtras gs) stages
+
+-- the sum of numbers with signs
+abbrev pub sumℤ : List ℤ → ℤ
+sumℤ [] = pos 0
+sumℤ (z ∷ zs) = z +ℤ sumℤ zs
 
 -- the glyphs whose stage marks, extra weights and factors stand in four lists
 abbrev pub glyphsOf : List ℕ → List ℕ → List ℕ → List ℕ → List Glyph

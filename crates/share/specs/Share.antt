@@ -27,7 +27,7 @@ total (x ∷ xs) = x + total xs
 abbrev pub still : List ℕ → List ℕ
 still = map (λ (x : ℕ). 0)
 
--- side by side
+-- side by side, of two lists of one length
 abbrev pub plus : List ℕ → List ℕ → List ℕ
 plus [] ys = ys
 plus (x ∷ xs) [] = x ∷ xs
@@ -42,7 +42,7 @@ ofStage s (k ∷ ks) (v ∷ vs) = cond (eqb k s) v 0 ∷ ofStage s ks vs
 -- ---- one stage
 
 -- step 1's formula: of r, a side's part of the total t is what stands at its running total less what stands at the side ahead of it, whose running
--- total is c
+-- total is c. With t = 0 every side's part is nothing: the two terms are one number
 abbrev pub shareAt : ℕ → ℕ → ℕ → ℕ → ℕ
 shareAt r t c w = r * (c + w) / t - r * c / t
 
@@ -108,3 +108,10 @@ most = 8589934592
 abbrev pub within : List ℕ → List ℕ → List ℕ → Bool
 within ks fs [] = true
 within ks fs (s ∷ ss) = leb (total (ofStage s ks fs)) most && within ks fs ss
+
+-- ---- when there is a remainder
+
+-- the total of each of these stages is 0
+abbrev pub empty : List ℕ → List ℕ → List ℕ → Bool
+empty ks vs [] = true
+empty ks vs (s ∷ ss) = eqb (total (ofStage s ks vs)) 0 && empty ks vs ss

@@ -377,6 +377,23 @@ pub fn share_line(
     ensures { λ r. ⌜ now (after .exit) ≡ map (signedOf shrink) (afterMoves (glyphsOf (now (marks .entry)) (now (extras .entry)) (now (first .entry)) (now (second .entry))) gap) ⌝ }
 {
     let n = marks.len();
+    // Most lines are short, and less room is sooner cleared.
+    if n <= 128 {
+        let mut befores = [0u64; 128];
+        let mut afters = [0u64; 128];
+        return share_in(
+            shrink,
+            gap,
+            marks,
+            extras,
+            first,
+            second,
+            &mut befores[..n],
+            &mut afters[..n],
+            before,
+            after,
+        );
+    }
     let mut befores = [0u64; 1024];
     let mut afters = [0u64; 1024];
     share_in(

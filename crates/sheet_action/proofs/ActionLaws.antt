@@ -11,17 +11,14 @@ use Rattle.fields.specs.Laws.{u16At-fits, u32At-fits}
 use Rattle.lists.specs.Codes.{All, many, Found, Absent}
 use Rattle.lists.specs.Sections.{byte}
 use Rattle.lists.proofs.CodeLaws.{be16-free, be32-free}
-use Rattle.section.specs.Section.{Says}
+use Rattle.lists.specs.Tests.{Says}
+use Rattle.lists.proofs.SectionLaws.{many-byte}
 use Rattle.section.proofs.SectionLaws.{field16, field32}
 use Rattle.meaning.specs.Meaning.{Action}
 use Rattle.meaning.specs.Limits.{OkContent, OkAction}
 use Rattle.meaning.specs.Sheet.{actionCode}
 use Rattle.sheet_action.specs.Action.{bytesAt, actionAt, GoodAction}
 use Rattle.sheet_action.proofs.ContentLaws.{bytes-length}
-
-many-byte : (xs : List ℕ) → many byte xs ≡ xs
-many-byte [] = refl
-many-byte (x ∷ xs) = ap (λ (l : List ℕ). x ∷ l) (many-byte xs)
 
 all-bytes : (s : List ℕ) → ((i : ℕ) → i < length s → getD s i 0 < 256) → All (λ (b : ℕ). b < 256) s
 all-bytes [] h = tt

@@ -8,7 +8,7 @@ use native.Mathlib.Omega.{arith}
 use lib.ListN.{length, getD, drop, length-drop}
 use lib.Seq.{getD-take, getD-drop, length-take-le}
 use Rattle.fields.specs.Field.{u16At}
-use Rattle.section.specs.Section.{Says}
+use Rattle.lists.specs.Tests.{Says}
 use Rattle.meaning.specs.Limits.{OkContent}
 use Rattle.sheet_action.specs.Action.{bytesAt, AllBelow}
 

@@ -68,7 +68,7 @@ pub fn ask_action(bytes: &[u8], direction: Direction, glyph: u16, number: u16) -
     ensures { λ r. ⌜ ActionReply (now (bytes .entry)) direction glyph number r ⌝ }
 {
     if !sheet_read::is_sheet(bytes) {
-        return sheet_parts::no_action(Sought::Refused(Refusal::NotSheet));
+        return answers::no_action(Sought::Refused(Refusal::NotSheet));
     }
     sheet_parts::action_of(bytes, direction, glyph, number)
 }

@@ -23,7 +23,8 @@ use Rattle.parts.specs.declared.Entry.{Entry}
 use Rattle.meaning.specs.Discrete.{Entry-discrete}
 use Rattle.meaning.specs.Limits.{OkEntry}
 use Rattle.meaning.specs.Sheet.{entryCode}
-use Rattle.meaning.proofs.SheetLaws.{WideEntry, entry-free}
+use Rattle.meaning.specs.Wide.{WideEntry}
+use Rattle.meaning.proofs.SheetLaws.{entry-free}
 use Rattle.sheet_cells.specs.Cells.{entryAt, byteAt, OkEntries, OkNumbers, OkCells}
 
 -- ---- an entry and a byte in bytes

@@ -11,7 +11,8 @@ use Rattle.lists.proofs.ReadLaws.{items-length, refuse-count}
 use Rattle.parts.specs.declared.Pair.{Pair}
 use Rattle.meaning.specs.Limits.{OkCluster, Rising}
 use Rattle.meaning.specs.Sheet.{pairCode}
-use Rattle.meaning.proofs.SheetLaws.{WidePair, pair-free, cluster-free, few-pairs}
+use Rattle.meaning.specs.Wide.{WidePair}
+use Rattle.meaning.proofs.SheetLaws.{pair-free, cluster-free, few-pairs}
 use Rattle.section.specs.Section.{Room}
 use Rattle.section.proofs.SectionLaws.{field16, field32, items-outside, items-good, items-bad}
 use Rattle.sheet_clusters.specs.Clusters.{pairAt, GoodPair, GoodPairs, clusterCode, SomeCluster}

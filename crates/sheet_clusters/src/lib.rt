@@ -1,14 +1,15 @@
 // The clusters of a direction of a sheet (document 01, "The sheet", sections 5 and 6), read out of bytes at a position:
 // the distinct clusters, and the runs of glyphs that have one of them.
 use section::Read;
-ghost use Prim.Native.Nat.{_+_, _*_, _≤_, _<_, _^_};
+ghost use Prim.Native.Nat.{_+_, _*_, _≤_, _<_, _^_, min};
 ghost use lib.ListN.{length};
-ghost use Rattle.fields.specs.Field.{u16At};
+ghost use Rattle.fields.specs.Field.{u16At, u32At};
 ghost use Rattle.lists.specs.Codes.{counted, itemsAt};
 ghost use Rattle.meaning.specs.Discrete.{cluster-discrete};
 ghost use Rattle.meaning.specs.Limits.{OkFlags, OkLimits};
-ghost use Rattle.meaning.proofs.SheetLaws.{clusterBytes};
-ghost use Rattle.section.specs.Section.{Says, Parses};
+ghost use Rattle.meaning.specs.Sheet.{clusterBytes};
+ghost use Rattle.lists.specs.Tests.{Says};
+ghost use Rattle.section.specs.Section.{Parses};
 ghost use Rattle.pool.specs.Pool.{Items};
 ghost use Rattle.order.specs.Scan.{Scans};
 ghost use Rattle.sheet_clusters.specs.Clusters.{limitsAt, pairAt, GoodPair, GoodPairs, clusterCode, SomeCluster, OkClusters};
@@ -138,7 +139,7 @@ fn scan_clusters(bytes: &[u8], at: usize, count: usize, marks: &mut [usize]) -> 
 
 // Section 5, with room for the marks. Each cluster is some glyph's, so there are no more clusters than glyphs.
 fn read_marked(bytes: &[u8], at: usize, glyphs: usize, marks: &mut [usize]) -> Read
-    requires { ⌜ (glyphs < 2 ^ 16) × (glyphs < length (now marks)) ⌝ }
+    requires { ⌜ (glyphs < 2 ^ 16) × (min glyphs (u32At (now bytes) at) < length (now marks)) ⌝ }
     ensures { λ r. ⌜ Parses (counted clusterCode) (Items cluster-discrete SomeCluster glyphs) (now (bytes .entry)) at r ⌝ }
 {
     // A count; what it counts is read cluster by cluster.
@@ -162,13 +163,55 @@ fn read_marked(bytes: &[u8], at: usize, glyphs: usize, marks: &mut [usize]) -> R
     }
 }
 
-// Section 5: at most as many distinct clusters as there are glyphs.
-fn read_distinct(bytes: &[u8], at: usize, glyphs: usize) -> Read
+fn read_none(bytes: &[u8], at: usize, glyphs: usize) -> Read
+    requires { ⌜ (glyphs < 2 ^ 16) × (u32At (now bytes) at < 1) ⌝ }
+    ensures { λ r. ⌜ Parses (counted clusterCode) (Items cluster-discrete SomeCluster glyphs) (now (bytes .entry)) at r ⌝ }
+{
+    let mut marks = [0usize; 1];
+    read_marked(bytes, at, glyphs, &mut marks)
+}
+
+fn read_few(bytes: &[u8], at: usize, glyphs: usize) -> Read
+    requires { ⌜ (glyphs < 2 ^ 16) × (u32At (now bytes) at < 64) ⌝ }
+    ensures { λ r. ⌜ Parses (counted clusterCode) (Items cluster-discrete SomeCluster glyphs) (now (bytes .entry)) at r ⌝ }
+{
+    let mut marks = [0usize; 64];
+    read_marked(bytes, at, glyphs, &mut marks)
+}
+
+fn read_some(bytes: &[u8], at: usize, glyphs: usize) -> Read
+    requires { ⌜ (glyphs < 2 ^ 16) × (u32At (now bytes) at < 2048) ⌝ }
+    ensures { λ r. ⌜ Parses (counted clusterCode) (Items cluster-discrete SomeCluster glyphs) (now (bytes .entry)) at r ⌝ }
+{
+    let mut marks = [0usize; 2048];
+    read_marked(bytes, at, glyphs, &mut marks)
+}
+
+fn read_many(bytes: &[u8], at: usize, glyphs: usize) -> Read
     requires { ⌜ glyphs < 2 ^ 16 ⌝ }
     ensures { λ r. ⌜ Parses (counted clusterCode) (Items cluster-discrete SomeCluster glyphs) (now (bytes .entry)) at r ⌝ }
 {
     let mut marks = [0usize; 65536];
     read_marked(bytes, at, glyphs, &mut marks)
+}
+
+// Section 5: at most as many distinct clusters as there are glyphs. The room for marks is as long as the count needs:
+// clearing it would be all the time that few clusters take.
+fn read_distinct(bytes: &[u8], at: usize, glyphs: usize) -> Read
+    requires { ⌜ glyphs < 2 ^ 16 ⌝ }
+    ensures { λ r. ⌜ Parses (counted clusterCode) (Items cluster-discrete SomeCluster glyphs) (now (bytes .entry)) at r ⌝ }
+{
+    let count = fields::u32_at(bytes, at);
+    if count == 0 {
+        return read_none(bytes, at, glyphs);
+    }
+    if count < 64 {
+        return read_few(bytes, at, glyphs);
+    }
+    if count < 2048 {
+        return read_some(bytes, at, glyphs);
+    }
+    read_many(bytes, at, glyphs)
 }
 
 // Sections 5 and 6: the clusters of `glyphs` glyphs.

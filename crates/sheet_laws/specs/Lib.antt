@@ -1,2 +1,3 @@
 pub mod Outcomes
+pub mod Writing
 pub mod Demand3

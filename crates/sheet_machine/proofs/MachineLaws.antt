@@ -13,7 +13,8 @@ use Rattle.lists.specs.Sections.{runSection, numbered}
 use Rattle.lists.proofs.CodeLaws.{be32-at, be32-free}
 use Rattle.lists.proofs.ReadLaws.{first-absent, second-absent, both-found}
 use Rattle.lists.proofs.SectionLaws.{run-section-free}
-use Rattle.section.specs.Section.{Says, Parses}
+use Rattle.lists.specs.Tests.{Says}
+use Rattle.section.specs.Section.{Parses}
 use Rattle.section.specs.RunSection.{Below}
 use Rattle.section.specs.declared.Read.{Read}
 use Rattle.section.specs.declared.Read.the-variants.{Upto, Absent as Nothing}
@@ -21,8 +22,7 @@ use Rattle.section.proofs.SectionLaws.{field32}
 use Rattle.meaning.specs.Discrete.{Entry-discrete}
 use Rattle.meaning.specs.Meaning.{Machine}
 use Rattle.meaning.specs.Limits.{OkMachine, OkMaybe}
-use Rattle.meaning.specs.Sheet.{entryCode}
-use Rattle.meaning.proofs.SheetLaws.{machineBytes}
+use Rattle.meaning.specs.Sheet.{entryCode, machineBytes}
 use Rattle.sheet_machine.specs.Machine.{Sizes, OkLeast, withinBytes, OkWithin, NoMachine, OneMachine}
 
 -- ---- sections 2 to 4, one after another

@@ -18,12 +18,13 @@ use Rattle.lists.proofs.CodeLaws.{be32-at, be32-free, many-free, many-length}
 use Rattle.lists.proofs.DistinctLaws.{in-order, in-order-lt, elements-numbers}
 use Rattle.lists.proofs.ReadLaws.{items-at, items-wide, items-length, items-getD}
 use Rattle.lists.proofs.SectionLaws.{byte-free, all-distinct, numbers-length}
-use Rattle.section.specs.Section.{Says}
+use Rattle.lists.specs.Tests.{Says}
 use Rattle.parts.specs.declared.Entry.{Entry}
 use Rattle.meaning.specs.Discrete.{Entry-discrete}
 use Rattle.meaning.specs.Limits.{OkEntry}
 use Rattle.meaning.specs.Sheet.{entryCode}
-use Rattle.meaning.proofs.SheetLaws.{WideEntry, entry-free}
+use Rattle.meaning.specs.Wide.{WideEntry}
+use Rattle.meaning.proofs.SheetLaws.{entry-free}
 use Rattle.sheet_cells.specs.Cells.{entryAt, byteAt, OkCells}
 use Rattle.sheet_cells.proofs.CellLaws.{entry-wide, entry-at, byte-at}
 use Rattle.sheet_machine.specs.Machine.{Sizes, LeastBy, rowAt, Readable, Least, OkLeast, OfCells}

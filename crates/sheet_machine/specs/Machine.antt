@@ -8,7 +8,7 @@ use lib.ListN.{length, getD, drop}
 use Rattle.fields.specs.Field.{u16At, u32At}
 use Rattle.lists.specs.Codes.{Found}
 use Rattle.lists.specs.Sections.{runSection, numbered}
-use Rattle.section.specs.Section.{Says}
+use Rattle.lists.specs.Tests.{Says}
 use Rattle.section.specs.RunSection.{Below}
 use Rattle.parts.specs.declared.Entry.{Entry}
 use Rattle.meaning.specs.Discrete.{Entry-discrete}

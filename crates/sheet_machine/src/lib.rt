@@ -3,11 +3,11 @@
 use section::Read;
 ghost use Prim.Native.Nat.{_*_, _<_, _^_};
 ghost use Rattle.lists.specs.Sections.{numbered};
-ghost use Rattle.section.specs.Section.{Says, Parses};
+ghost use Rattle.lists.specs.Tests.{Says};
+ghost use Rattle.section.specs.Section.{Parses};
 ghost use Rattle.meaning.specs.Discrete.{Entry-discrete};
 ghost use Rattle.meaning.specs.Limits.{OkMaybe};
-ghost use Rattle.meaning.specs.Sheet.{entryCode};
-ghost use Rattle.meaning.proofs.SheetLaws.{machineBytes};
+ghost use Rattle.meaning.specs.Sheet.{entryCode, machineBytes};
 ghost use Rattle.sheet_cells.specs.Cells.{OkCells};
 ghost use Rattle.sheet_machine.specs.Machine.{Readable, LeastBy, rowAt, Sizes, Stands, OfCells, OkLeast, withinBytes, OkWithin, NoMachine, OneMachine};
 

@@ -10,13 +10,16 @@ use Rattle.lists.specs.Codes.{many, counted}
 use Rattle.lists.specs.Sections.{byte}
 use Rattle.lists.specs.Upto.{from}
 use Rattle.lists.proofs.ListLaws.{all-at, elem-none}
+use Rattle.lists.proofs.SectionLaws.{many-byte}
 use Rattle.parts.specs.declared.HeldAction.{HeldAction}
 use Rattle.meaning.specs.Meaning.{Action}
 use Rattle.meaning.specs.Limits.{OkContent, OkAction, OkActions}
 use Rattle.meaning.specs.Sheet.{actionCode}
 use Rattle.meaning.specs.Ask.{maybe, nothing, act, held}
-use Rattle.meaning.proofs.SheetLaws.{WideAction, few-actions}
+use Rattle.meaning.specs.Wide.{WideAction}
+use Rattle.meaning.proofs.SheetLaws.{few-actions}
 use Rattle.actions.specs.Actions.{bytesAt, contentAt, actionAt, clipped}
+use Rattle.answers.proofs.Laws.{held-is}
 use Rattle.answers.specs.declared.ActionAnswer.{ActionAnswer}
 use Rattle.answers.specs.declared.Sought.the-variants.{Nothing}
 use Rattle.answers.specs.Says.{given, actionIn, saysAction, noAction, roomAfter}
@@ -26,10 +29,6 @@ use Rattle.sheet_walk.proofs.PassLaws.{opened}
 use Rattle.sheet_parts.specs.Places.{ActionIn}
 use Rattle.sheet_parts.proofs.MachineLaws.{at-some}
 use Rattle.sheet_parts.proofs.RecordLaws.{part-is, part-bytes, read16, read32}
-
-many-byte : (l : List ℕ) → many byte l ≡ l
-many-byte [] = refl
-many-byte (x ∷ l) = ap (λ (k : List ℕ). x ∷ k) (many-byte l)
 
 -- ---- bytes that stand at a place
 
@@ -101,11 +100,6 @@ action-is n a t bytes rest o e =
 clip : (a : Action) → length (a .content) ≤ 76 → clipped a ≡ a
 clip a h = ap (λ (l : List ℕ). record { class = a .class; kind = a .kind; content = l }) (take-all 76 (a .content) h)
 
-pub held-is : (a : Action) (h : HeldAction) → h ≡ held a → actionIn h ≡ a
-held-is a h e =
-    ap actionIn e
-    ∙ ap (λ (l : List ℕ). record { class = a .class; kind = a .kind; content = l }) (take-append-seam (a .content) (replicate (76 - length (a .content)) 0))
-
 -- ---- of a list that stands at a place
 
 module _ (s : List ℕ) (bytes : Bytes s) (at k : ℕ) where
@@ -148,7 +142,7 @@ module _ (s : List ℕ) (bytes : Bytes s) (at k : ℕ) where
         let c : clipped (actionAt (take (length s - q) (drop q s)) 0) ≡ a =
         ap clipped (ap (λ (x : List ℕ). actionAt x 0) (part-is s q)
         ∙ action-is n a (drop q s) (part-bytes s q bytes) (many actionCode (drop (suc k) l) ++ rest) oa (action-first n l rest o e)) ∙ clip a (oa .2) in
-        ap (λ (x : Action). given (act x)) (held-is _ h eh ∙ c) ∙ ap given (sym (ap (maybe act) (at-some l k zero-action b)))
+        ap (λ (x : Action). given (act x)) (held-is _ eh ∙ c) ∙ ap given (sym (ap (maybe act) (at-some l k zero-action b)))
 
 -- ---- no action: zeros stand in the room
 

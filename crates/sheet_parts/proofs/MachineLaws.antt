@@ -26,9 +26,9 @@ use Rattle.parts.specs.declared.Entry.{Entry}
 use Rattle.meaning.specs.Meaning.{Machine, Meaning}
 use Rattle.meaning.specs.Discrete.{Entry-discrete}
 use Rattle.meaning.specs.Limits.{OkMachine, OkMaybe, Valid}
-use Rattle.meaning.specs.Sheet.{sizesCode, entryCode, write}
+use Rattle.meaning.specs.Sheet.{sizesCode, entryCode, write, machineBytes}
 use Rattle.meaning.specs.Ask.{glyphCount, along, sizes, class, cell, nothing, number, both, entry, maybe, machinePart, cellOf, sideOf, askSide, ask}
-use Rattle.meaning.proofs.SheetLaws.{machineBytes, WideSizes}
+use Rattle.meaning.specs.Wide.{WideSizes}
 use Rattle.answers.specs.declared.CellAnswer.{CellAnswer}
 use Rattle.answers.specs.Says.{given, saysCell}
 use Rattle.sheet_machine.specs.Machine.{Sizes, Readable}

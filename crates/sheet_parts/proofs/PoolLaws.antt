@@ -17,9 +17,10 @@ use Rattle.parts.specs.declared.Pair.{Pair}
 use Rattle.meaning.specs.Meaning.{Action, Meaning}
 use Rattle.meaning.specs.Discrete.{cluster-discrete, list-discrete}
 use Rattle.meaning.specs.Limits.{OkCluster, OkActions, Valid}
-use Rattle.meaning.specs.Sheet.{write}
+use Rattle.meaning.specs.Sheet.{write, clusterBytes, listBytes}
 use Rattle.meaning.specs.Ask.{along, width, action, nothing, pair, act, maybe, recordOf, sideOf, askSide, ask}
-use Rattle.meaning.proofs.SheetLaws.{FewPairs, FewActions, few-pairs, few-actions, clusterBytes, listBytes}
+use Rattle.meaning.specs.Wide.{FewPairs, FewActions}
+use Rattle.meaning.proofs.SheetLaws.{few-pairs, few-actions}
 use Rattle.answers.specs.declared.RecordAnswer.{RecordAnswer}
 use Rattle.answers.specs.declared.ActionAnswer.{ActionAnswer}
 use Rattle.answers.specs.Says.{given, saysRecord, saysAction}

@@ -18,7 +18,7 @@ use Rattle.meaning.specs.Limits.{OkFlags, OkPair, OkCluster}
 use Rattle.meaning.specs.Sheet.{pairCode}
 use Rattle.cluster.specs.Faults.{classAt}
 use Rattle.cluster.specs.Pairs.{pairAt, pairsAt, clusterAt}
-use Rattle.meaning.proofs.SheetLaws.{WidePair}
+use Rattle.meaning.specs.Wide.{WidePair}
 use Rattle.sheet_clusters.specs.Clusters.{clusterCode}
 use Rattle.sheet_walk.proofs.PassLaws.{opened}
 

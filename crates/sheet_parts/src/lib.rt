@@ -9,12 +9,10 @@ use answers::SizesAnswer;
 use answers::Sought;
 use parts::Direction;
 use parts::Entry;
-use parts::HeldAction;
 ghost use mathlib.Core.Path.{_≡_};
 ghost use Prim.Native.Nat.{_%_, _<_, _≤_, _^_};
 ghost use lib.ListN.{length};
-ghost use Rattle.section.specs.Section.{Says};
-ghost use Rattle.answers.specs.Says.{noAction};
+ghost use Rattle.lists.specs.Tests.{Says};
 ghost use Rattle.sheet_parts.specs.Places.{HasMachine, CellIn, RecordIn, ActionIn};
 ghost use Rattle.sheet_parts.specs.Parts.{CountOf, SizesOf, ClassOf, CellOf, RecordOf, ActionOf};
 
@@ -151,31 +149,16 @@ pub fn record_of(bytes: &[u8], direction: Direction, glyph: u16, class: u8) -> R
     record_in(bytes, place, class)
 }
 
-// An answer without an action: all zeros stand in its place.
-pub fn no_action(sought: Sought) -> ActionAnswer
-    ensures { λ r. ⌜ r ≡ record { sought = sought; action = noAction } ⌝ }
-{
-    ActionAnswer {
-        sought,
-        action: HeldAction {
-            class: 0,
-            kind: 0,
-            size: 0,
-            bytes: [0u8; 76],
-        },
-    }
-}
-
 // The action with a number in the list at a position. Its fields and its data stand there as in a table.
 fn action_in(bytes: &[u8], at: usize, number: usize) -> ActionAnswer
     ensures { λ r. ⌜ ActionIn (now (bytes .entry)) at number r ⌝ }
 {
     if fields::u32_at(bytes, at) <= number {
-        return no_action(Sought::Nothing);
+        return answers::no_action(Sought::Nothing);
     }
     let place = sheet_walk::action_place(bytes, at, number);
     if bytes.len() < place {
-        return no_action(Sought::Nothing);
+        return answers::no_action(Sought::Nothing);
     }
     let action = actions::action_at(&bytes[place..], 0);
     ActionAnswer {
@@ -192,7 +175,7 @@ pub fn action_of(bytes: &[u8], direction: Direction, glyph: u16, number: u16) ->
     let runs = sheet_walk::list_place(bytes, at, fields::u32_at(bytes, at));
     let list = sheet_walk::value_of(bytes, runs, glyph as usize, 1, 0);
     if list == 0 {
-        return no_action(Sought::Nothing);
+        return answers::no_action(Sought::Nothing);
     }
     let place = sheet_walk::list_place(bytes, at, list - 1);
     action_in(bytes, place, number as usize)

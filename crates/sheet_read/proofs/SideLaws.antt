@@ -10,8 +10,8 @@ use Rattle.section.specs.declared.Read.{Read}
 use Rattle.section.specs.declared.Read.the-variants.{Upto, Absent as Nothing}
 use Rattle.meaning.specs.Meaning.{Side}
 use Rattle.meaning.specs.Limits.{OkMaybe, OkSide}
-use Rattle.meaning.specs.Sheet.{writeSide}
-use Rattle.meaning.proofs.SheetLaws.{machineBytes, clusterBytes, listBytes, machine-free, clusters-free, side-parts}
+use Rattle.meaning.specs.Sheet.{writeSide, machineBytes, clusterBytes, listBytes}
+use Rattle.meaning.proofs.SheetLaws.{machine-free, clusters-free, side-parts}
 use Rattle.sheet_clusters.specs.Clusters.{OkClusters}
 use Rattle.sheet_lists.specs.Lists.{OkLists}
 use Rattle.sheet_read.specs.Whole.{valuesBytes, OkValues}

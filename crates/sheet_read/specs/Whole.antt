@@ -4,8 +4,7 @@ use mathlib.Core.List.{List, _++_}
 use Rattle.parts.specs.declared.Pair.{Pair}
 use Rattle.meaning.specs.Meaning.{Action, Side}
 use Rattle.meaning.specs.Limits.{OkSide}
-use Rattle.meaning.specs.Sheet.{writeSide}
-use Rattle.meaning.proofs.SheetLaws.{clusterBytes, listBytes}
+use Rattle.meaning.specs.Sheet.{writeSide, clusterBytes, listBytes}
 use Rattle.sheet_clusters.specs.Clusters.{OkClusters}
 use Rattle.sheet_lists.specs.Lists.{OkLists}
 

@@ -6,7 +6,8 @@ use section::Read;
 ghost use Prim.Native.Nat.{_<_, _^_};
 ghost use Rattle.meaning.specs.Limits.{OkSide};
 ghost use Rattle.meaning.specs.Sheet.{writeSide, IsSheet};
-ghost use Rattle.section.specs.Section.{Says, Parses};
+ghost use Rattle.lists.specs.Tests.{Says};
+ghost use Rattle.section.specs.Section.{Parses};
 ghost use Rattle.sheet_read.specs.Whole.{valuesBytes, OkValues, sidesBytes, OkSides};
 ghost use Rattle.sheet_read.specs.Check.{SheetChecked};
 

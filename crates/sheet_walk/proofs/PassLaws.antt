@@ -13,7 +13,7 @@ use Rattle.lists.specs.Sections.{byte}
 use Rattle.lists.proofs.CodeLaws.{be32-free, be32-at, many-length}
 use Rattle.section.specs.Section.{Room}
 use Rattle.meaning.specs.Sheet.{actionCode}
-use Rattle.meaning.proofs.SheetLaws.{WideAction}
+use Rattle.meaning.specs.Wide.{WideAction}
 use Rattle.sheet_walk.specs.Passes.{Passes, ItemsEnd, AtLeast, Reaches}
 
 -- what is left once k items are passed, the items standing at a place without their count

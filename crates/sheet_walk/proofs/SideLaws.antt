@@ -21,8 +21,9 @@ use Rattle.meaning.specs.Meaning.{Machine, Meaning}
 use Rattle.meaning.specs.Discrete.{Entry-discrete, cluster-discrete, list-discrete}
 use Rattle.meaning.specs.Limits.{OkMaybe, OkCluster, OkActions, Valid, OkSide}
 use Rattle.meaning.specs.Ask.{sideOf}
-use Rattle.meaning.specs.Sheet.{sizesCode, entryCode, sizesOf, kindsOf, cellsOf, writeSide, write}
-use Rattle.meaning.proofs.SheetLaws.{machineBytes, clusterBytes, listBytes, WideSizes, WideEntry, FewPairs, FewActions, few-pairs, few-actions, side-parts}
+use Rattle.meaning.specs.Sheet.{sizesCode, entryCode, sizesOf, kindsOf, cellsOf, writeSide, write, machineBytes, clusterBytes, listBytes}
+use Rattle.meaning.specs.Wide.{WideSizes, WideEntry, FewPairs, FewActions}
+use Rattle.meaning.proofs.SheetLaws.{few-pairs, few-actions, side-parts}
 use Rattle.sheet_clusters.specs.Clusters.{clusterCode, OkClusters}
 use Rattle.sheet_action.specs.Action.{listCode}
 use Rattle.sheet_lists.specs.Lists.{OkLists}

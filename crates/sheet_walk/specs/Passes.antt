@@ -14,8 +14,7 @@ use Rattle.parts.specs.declared.Direction.the-variants.{Horizontal, Vertical}
 use Rattle.meaning.specs.Meaning.{Machine, Meaning}
 use Rattle.meaning.specs.Discrete.{Entry-discrete}
 use Rattle.meaning.specs.Ask.{sideOf}
-use Rattle.meaning.specs.Sheet.{entryCode, cellsOf, classSection, writeSide}
-use Rattle.meaning.proofs.SheetLaws.{clusterBytes, listBytes}
+use Rattle.meaning.specs.Sheet.{entryCode, cellsOf, classSection, writeSide, clusterBytes, listBytes}
 
 -- where the bytes `whole` of a valid value stand at a place, its bytes `left` stand at q, the same after them
 abbrev pub Passes : {A : Type 0} → (A → List ℕ) → (A → List ℕ) → (A → Type 0) → List ℕ → ℕ → ℕ → Type 0

@@ -1,10 +1,10 @@
 -- The sheet by its parts as they are stored, and what an accepted table gives them.
-use Prim.Native.Nat.{ℕ, suc, _+_, _≤_, _<_, _^_}
+use Prim.Native.Nat.{ℕ, zero, suc, _+_, _≤_, _<_, _^_}
 use mathlib.Core.Path.{_≡_, refl, sym, ap, ap₂, _∙_}
 use mathlib.Core.List.{List, [], _∷_, _++_}
 use native.Mathlib.Omega.{arith}
-use lib.ListN.{length, drop, take, replicate, set, length-append, length-replicate}
-use lib.Seq.{sets, length-take-le}
+use lib.ListN.{length, getD, drop, take, set, length-append}
+use lib.Seq.{sets, length-sets}
 use borrow.Author.Tests.{le-leb, lt-leb}
 use Rattle.fields.specs.declared.Refusal.{Refusal}
 use Rattle.fields.specs.declared.Fault.{Fault}
@@ -17,7 +17,7 @@ use Rattle.table.specs.Table.{headerFault, directionFault, tableFault}
 use Rattle.table.specs.Means.{meaningOf}
 use Rattle.table.proofs.Laws.{short, few-glyphs}
 use Rattle.side_write.specs.Side.{sideBytes, Ready as Ready-side}
-use Rattle.sheet_write.specs.Written.{sheetOf, refused, bytes, lengthBy, sheetLength, stored, writtenBy, written, Ready}
+use Rattle.sheet_write.specs.Written.{sheetOf, refused, bytes, lengthBy, sheetLength, stored, writtenBy, written, Draft}
 
 -- ---- the sheet
 
@@ -48,23 +48,14 @@ module _ (t : List ℕ) (n : ℕ) where
     unfolding tableFault
     second-clear = then-second _ _ (then-second _ _ e)
 
--- what a direction needs, the rooms as they are lent
-module _ (t : List ℕ) (n p m f s : ℕ) (r : Ready t n p m f s) (at : ℕ) (h : at < 2 ^ 16) where
-  side-ready : directionFault t n at ≡ Clear → {p′ m′ f′ s′ : ℕ} → p′ ≡ p → m′ ≡ m → f′ ≡ f → s′ ≡ s → Ready-side t n at p′ m′ f′ s′
-  side-ready c ep em ef es =
-      record {
-        bytes = bytes-few t n (r .clear);
-        near = h;
-        clear = c;
-        held = ep ∙ r .held;
-        room = record { glyphs = r .room .glyphs; each = em ∙ r .room .each; most = ef ∙ r .room .most; positions = es ∙ r .room .positions };
-      }
+    side-ready : (at : ℕ) → at < 2 ^ 16 → directionFault t n at ≡ Clear → Ready-side t n at
+    side-ready at h c = record { bytes = bytes-few; few = glyphs-few; near = h; clear = c }
 
-  pub first-ready : at ≡ u16At t 6 → {p′ m′ f′ s′ : ℕ} → p′ ≡ p → m′ ≡ m → f′ ≡ f → s′ ≡ s → Ready-side t n at p′ m′ f′ s′
-  first-ready e = side-ready (ap (directionFault t n) e ∙ first-clear t n (r .clear))
+    pub first-ready : (at : ℕ) → at < 2 ^ 16 → at ≡ u16At t 6 → Ready-side t n at
+    first-ready at h e = side-ready at h (ap (directionFault t n) e ∙ first-clear)
 
-  pub second-ready : at ≡ u16At t 8 → {p′ m′ f′ s′ : ℕ} → p′ ≡ p → m′ ≡ m → f′ ≡ f → s′ ≡ s → Ready-side t n at p′ m′ f′ s′
-  second-ready e = side-ready (ap (directionFault t n) e ∙ second-clear t n (r .clear))
+    pub second-ready : (at : ℕ) → at < 2 ^ 16 → at ≡ u16At t 8 → Ready-side t n at
+    second-ready at h e = side-ready at h (ap (directionFault t n) e ∙ second-clear)
 
 -- ---- the room
 
@@ -78,12 +69,12 @@ sets-front [] l h = refl
 sets-front (x ∷ xs) [] h = absurd (omega arith)
 sets-front (x ∷ xs) (y ∷ l) h = sets-cons x l xs 0 ∙ ap (λ (r : List ℕ). x ∷ r) (sets-front xs l (omega arith))
 
-pub stored-fits : (sheet room after : List ℕ) (n : ℕ) → n ≡ length sheet → n ≤ length room → after ≡ sets room 0 sheet
+pub stored-fits : (sheet room after : List ℕ) (n : ℕ) → n ≡ length sheet → n ≤ length room → after ≡ sheet ++ drop n room
     → record { said = bytes n; room = after } ≡ stored sheet room
 unfolding stored
 stored-fits sheet room after n e h s =
     let l : length sheet ≤ length room = omega arith in
-    ap₂ (λ (k : ℕ) (r : List ℕ). record { said = bytes k; room = r }) e (s ∙ sets-front sheet room l) ∙ simp (le-leb (length sheet) (length room) l)
+    ap₂ (λ (k : ℕ) (r : List ℕ). record { said = bytes k; room = r }) e (s ∙ ap (λ (k : ℕ). sheet ++ drop k room) e) ∙ simp (le-leb (length sheet) (length room) l)
 
 pub stored-short : (sheet room : List ℕ) (n : ℕ) → n ≡ length sheet → length room < n → record { said = refused 16; room = room } ≡ stored sheet room
 unfolding stored
@@ -108,15 +99,25 @@ module _ (t : List ℕ) (n : ℕ) where
   unfolding written writtenBy
   written-clear room e = ap (λ (f : Fault). writtenBy f (sheetOf t n) room) (sym e)
 
--- ---- fresh rooms; stated over any size, so that no list of 65,536 elements is looked into
+-- ---- the draft
 
-pub zeros-part : (n m : ℕ) → n ≤ m → n ≡ length (take n (replicate {A = ℕ} m 0))
-zeros-part n m h = sym (length-take-le n (replicate m 0) (omega (arith, length-replicate {A = ℕ} m 0)))
+take-front : (xs l : List ℕ) → take (length xs) (xs ++ l) ≡ xs
+take-front [] l = refl
+take-front (x ∷ xs) l = ap (λ (r : List ℕ). x ∷ r) (take-front xs l)
 
-pub fresh : (t : List ℕ) (n : ℕ) → tableFault t n ≡ Clear → {p m f s : ℕ} → p ≡ n → m ≡ n → f ≡ n → s ≡ 65536 → Ready t n p m f s
-fresh t n e ep em ef es =
-    record { clear = e; held = ep; room = record { glyphs = glyphs-few t n e; each = em; most = ef; positions = es } }
+pub drafted : (sheet draft after : List ℕ) → after ≡ sets draft 0 sheet → Draft sheet after
+drafted sheet draft after e h =
+    let l : length sheet ≤ length draft = omega (arith, h, ap length e, length-sets draft 0 sheet) in
+    ap (take (length sheet)) (e ∙ sets-front sheet draft l) ∙ take-front sheet (drop (length sheet) draft)
 
--- the same, the rooms lent another time
-pub again : (t : List ℕ) (n p m f s : ℕ) → Ready t n p m f s → {p′ m′ f′ s′ : ℕ} → p′ ≡ p → m′ ≡ m → f′ ≡ f → s′ ≡ s → Ready t n p′ m′ f′ s′
-again t n p m f s r ep em ef es = fresh t n (r .clear) (ep ∙ r .held) (em ∙ r .room .each) (ef ∙ r .room .most) (es ∙ r .room .positions)
+-- a list copied up to index i
+pub copied-more : (bs l₀ l : List ℕ) (i : ℕ) → i < length bs → i < length l₀ → l ≡ take i bs ++ drop i l₀ → set l i (getD bs i 0) ≡ take (i + 1) bs ++ drop (i + 1) l₀
+copied-more bs l₀ l i hb hl e = ap (λ (x : List ℕ). set x i (getD bs i 0)) e ∙ go bs l₀ i hb hl
+  where
+    go : (bs l₀ : List ℕ) (i : ℕ) → i < length bs → i < length l₀ → set (take i bs ++ drop i l₀) i (getD bs i 0) ≡ take (i + 1) bs ++ drop (i + 1) l₀
+    go [] l₀ i hb hl = absurd (omega arith)
+    go (b ∷ bs) [] i hb hl = absurd (omega arith)
+    go (b ∷ bs) (x ∷ l₀) zero hb hl = refl
+    go (b ∷ bs) (x ∷ l₀) (suc i) hb hl =
+        let s : suc i + 1 ≡ suc (i + 1) = omega arith in
+        ap (λ (r : List ℕ). b ∷ r) (go bs l₀ i (omega arith) (omega arith)) ∙ ap (λ (k : ℕ). take k (b ∷ bs) ++ drop k (x ∷ l₀)) (sym s)

@@ -1,11 +1,11 @@
 -- Writing the sheet of a table (document 01, "The sheet" and "Numbers of refusal"): the first bytes of the room are what is written for the table's
 -- meaning, and the rest of the room is as it was; or the refusal that bars the table; or refusal 16, given exactly where the sheet is longer than the room.
 -- A refusal changes no byte.
-use Prim.Native.Nat.{ℕ}
+use Prim.Native.Nat.{ℕ, _≤_}
 use mathlib.Core.Bool.{cond}
 use mathlib.Core.Path.{_≡_}
 use mathlib.Core.List.{List, _++_}
-use lib.ListN.{length, drop}
+use lib.ListN.{length, take, drop}
 use lib.Dec.{leb}
 use Rattle.fields.specs.declared.Fault.{Fault}
 use Rattle.fields.specs.declared.Fault.the-variants.{Clear, Bad}
@@ -13,7 +13,6 @@ use Rattle.fields.specs.Refusals.{numberOf}
 use Rattle.meaning.specs.Sheet.{write}
 use Rattle.table.specs.Table.{tableFault}
 use Rattle.table.specs.Means.{meaningOf}
-use Rattle.number.specs.Numbered.{Room}
 use Rattle.sheet_write.specs.declared.LengthAnswer.{LengthAnswer}
 use Rattle.sheet_write.specs.declared.LengthAnswer.the-variants as length-answer
 use Rattle.sheet_write.specs.declared.WriteAnswer.{WriteAnswer}
@@ -64,9 +63,6 @@ writtenBy (Bad r at) sheet room = record { said = refused (numberOf r); room = r
 unfoldable pub written : List ℕ → ℕ → List ℕ → Outcome
 written t n room = writtenBy (tableFault t n) (sheetOf t n) room
 
--- ---- an accepted table, and rooms for its glyphs
-
-pub record Ready (t : List ℕ) (n places nums firsts seen : ℕ) : Type 0 where
-  pub clear : tableFault t n ≡ Clear
-  pub held : places ≡ n
-  pub room : Room n nums firsts seen
+-- a draft begins with the sheet, if it is long enough
+abbrev pub Draft : List ℕ → List ℕ → Type 0
+Draft sheet draft = length sheet ≤ length draft → take (length sheet) draft ≡ sheet

@@ -1,12 +1,13 @@
-// The sheet of a table (document 01, "The sheet"): its length, and writing it into lent bytes. The sheet is sized
-// first and written after, so nothing is stored before refusal 16 is judged.
+// The sheet of a table (document 01, "The sheet"): its length, and writing it into lent bytes. Its length is known
+// before a byte is stored into them, so that refusal 16 changes nothing.
 ghost use mathlib.Core.Path.{_≡_};
-ghost use Prim.Native.Nat.{_<_, _^_};
-ghost use lib.ListN.{length};
+ghost use mathlib.Core.List.{_++_};
+ghost use Prim.Native.Nat.{_≤_, _<_, _^_};
+ghost use lib.ListN.{length, take, drop};
 ghost use lib.Seq.{sets};
 ghost use Rattle.fields.specs.declared.Fault.the-variants.{Clear};
 ghost use Rattle.table.specs.Table.{tableFault};
-ghost use Rattle.sheet_write.specs.Written.{sheetOf, saysLength, saysWritten, sheetLength, Outcome, stored, written, Ready};
+ghost use Rattle.sheet_write.specs.Written.{sheetOf, saysLength, saysWritten, sheetLength, Outcome, stored, written, Draft};
 use fields::Fault;
 use fields::Refusal;
 
@@ -22,103 +23,92 @@ pub enum WriteAnswer {
     Refused(Refusal),
 }
 
-// The length of the sheet of an accepted table.
-fn length_with(
-    table: &[u8],
-    glyphs: usize,
-    places: &mut [u16],
-    nums: &mut [u16],
-    firsts: &mut [u16],
-    seen: &mut [u16],
-) -> usize
-    requires { ⌜ Ready (now table) glyphs (length (now places)) (length (now nums)) (length (now firsts)) (length (now seen)) ⌝ }
-    ensures { λ r. ⌜ (r ≡ length (sheetOf (now (table .entry)) glyphs)) × (r < 2 ^ 32) ⌝ }
-{
-    let first = fields::u16_at(table, 6);
-    let horizontal = side_write::side_size(table, glyphs, first, places, nums, firsts, seen);
-    let second = fields::u16_at(table, 8);
-    let vertical = side_write::side_size(table, glyphs, second, places, nums, firsts, seen);
-    4 + horizontal + vertical
-}
-
-// Stores the sheet of an accepted table; what would stand past the room is dropped.
-fn put_with(
-    table: &[u8],
-    glyphs: usize,
-    places: &mut [u16],
-    nums: &mut [u16],
-    firsts: &mut [u16],
-    seen: &mut [u16],
-    room: &mut [u8],
-)
-    requires { ⌜ Ready (now table) glyphs (length (now places)) (length (now nums)) (length (now firsts)) (length (now seen)) ⌝ }
-    ensures { λ r. ⌜ now (room .exit) ≡ sets (now (room .entry)) 0 (sheetOf (now (table .entry)) glyphs) ⌝ }
+// Stores the sheet of an accepted table, and answers where it ends; what would stand past the room is dropped.
+fn put_sheet(table: &[u8], glyphs: usize, room: &mut [u8]) -> usize
+    requires { ⌜ tableFault (now table) glyphs ≡ Clear ⌝ }
+    ensures { λ r. ⌜ (r ≡ length (sheetOf (now (table .entry)) glyphs)) × (r < 2 ^ 32)
+        × (now (room .exit) ≡ sets (now (room .entry)) 0 (sheetOf (now (table .entry)) glyphs)) ⌝ }
 {
     fields::put_u32(room, 0, glyphs as u32);
     let first = fields::u16_at(table, 6);
-    let end = side_write::put_side(table, glyphs, first, places, nums, firsts, seen, room, 4);
+    let end = side_write::put_side(table, glyphs, first, room, 4);
     let second = fields::u16_at(table, 8);
-    side_write::put_side(table, glyphs, second, places, nums, firsts, seen, room, end);
+    side_write::put_side(table, glyphs, second, room, end)
 }
 
-// Writes the sheet of an accepted table where the room is long enough.
-fn write_with(
-    table: &[u8],
-    glyphs: usize,
-    places: &mut [u16],
-    nums: &mut [u16],
-    firsts: &mut [u16],
-    seen: &mut [u16],
-    room: &mut [u8],
-) -> WriteAnswer
-    requires { ⌜ Ready (now table) glyphs (length (now places)) (length (now nums)) (length (now firsts)) (length (now seen)) ⌝ }
-    ensures { λ r. ⌜ record { said = saysWritten r; room = now (room .exit) } ≡ stored (sheetOf (now (table .entry)) glyphs) (now (room .entry)) ⌝ }
-{
-    let size = length_with(table, glyphs, places, nums, firsts, seen);
-    if room.len() < size {
-        return WriteAnswer::Refused(Refusal::ShortRoom);
-    }
-    put_with(table, glyphs, places, nums, firsts, seen, room);
-    WriteAnswer::Written(size as u32)
-}
-
-// The length of the sheet of an accepted table, with the rooms that the numbering needs.
+// The length of the sheet of an accepted table: where it ends in a room of no length.
 fn length_accepted(table: &[u8], glyphs: usize) -> usize
     requires { ⌜ tableFault (now table) glyphs ≡ Clear ⌝ }
     ensures { λ r. ⌜ (r ≡ length (sheetOf (now (table .entry)) glyphs)) × (r < 2 ^ 32) ⌝ }
 {
-    let mut places = [0u16; 65536];
-    let mut nums = [0u16; 65536];
-    let mut firsts = [0u16; 65536];
-    let mut seen = [0u16; 65536];
-    length_with(
-        table,
-        glyphs,
-        &mut places[..glyphs],
-        &mut nums[..glyphs],
-        &mut firsts[..glyphs],
-        &mut seen,
-    )
+    let mut none = [0u8; 0];
+    put_sheet(table, glyphs, &mut none)
 }
 
-// The same for writing.
+// Stores the first `count` bytes of a list from the start of the room on.
+fn copy(bytes: &[u8], count: usize, room: &mut [u8])
+    requires { ⌜ (count ≤ length (now bytes)) × (count ≤ length (now room)) ⌝ }
+    ensures { λ r. ⌜ now (room .exit) ≡ take count (now (bytes .entry)) ++ drop count (now (room .entry)) ⌝ }
+{
+    let mut i: usize = 0;
+    while i < count {
+        room[i] = bytes[i];
+        i += 1;
+    }
+}
+
+// Stores the sheet, which is `size` bytes long, into a room that is long enough: from the draft, if it fits there.
+fn put_again(table: &[u8], glyphs: usize, draft: &[u8], size: usize, room: &mut [u8])
+    requires { ⌜ (tableFault (now table) glyphs ≡ Clear) × ((size ≡ length (sheetOf (now table) glyphs)) × (size ≤ length (now room))) ⌝ }
+    requires { ⌜ Draft (sheetOf (now table) glyphs) (now draft) ⌝ }
+    ensures { λ r. ⌜ now (room .exit) ≡ sheetOf (now (table .entry)) glyphs ++ drop size (now (room .entry)) ⌝ }
+{
+    if size <= draft.len() {
+        copy(draft, size, room);
+    } else {
+        put_sheet(table, glyphs, room);
+    }
+}
+
+// Writes the sheet of an accepted table where the room is long enough. It is stored into `draft` first, which tells its
+// length before a byte of the room is changed.
+fn write_by(table: &[u8], glyphs: usize, draft: &mut [u8], room: &mut [u8]) -> WriteAnswer
+    requires { ⌜ tableFault (now table) glyphs ≡ Clear ⌝ }
+    ensures { λ r. ⌜ record { said = saysWritten r; room = now (room .exit) } ≡ stored (sheetOf (now (table .entry)) glyphs) (now (room .entry)) ⌝ }
+{
+    let size = put_sheet(table, glyphs, draft);
+    if room.len() < size {
+        return WriteAnswer::Refused(Refusal::ShortRoom);
+    }
+    put_again(table, glyphs, draft, size, room);
+    WriteAnswer::Written(size as u32)
+}
+
+// With a draft for a small sheet, and for a larger one.
+fn write_small(table: &[u8], glyphs: usize, room: &mut [u8]) -> WriteAnswer
+    requires { ⌜ tableFault (now table) glyphs ≡ Clear ⌝ }
+    ensures { λ r. ⌜ record { said = saysWritten r; room = now (room .exit) } ≡ stored (sheetOf (now (table .entry)) glyphs) (now (room .entry)) ⌝ }
+{
+    let mut draft = [0u8; 1024];
+    write_by(table, glyphs, &mut draft, room)
+}
+
+fn write_large(table: &[u8], glyphs: usize, room: &mut [u8]) -> WriteAnswer
+    requires { ⌜ tableFault (now table) glyphs ≡ Clear ⌝ }
+    ensures { λ r. ⌜ record { said = saysWritten r; room = now (room .exit) } ≡ stored (sheetOf (now (table .entry)) glyphs) (now (room .entry)) ⌝ }
+{
+    let mut draft = [0u8; 65536];
+    write_by(table, glyphs, &mut draft, room)
+}
+
 fn write_accepted(table: &[u8], glyphs: usize, room: &mut [u8]) -> WriteAnswer
     requires { ⌜ tableFault (now table) glyphs ≡ Clear ⌝ }
     ensures { λ r. ⌜ record { said = saysWritten r; room = now (room .exit) } ≡ stored (sheetOf (now (table .entry)) glyphs) (now (room .entry)) ⌝ }
 {
-    let mut places = [0u16; 65536];
-    let mut nums = [0u16; 65536];
-    let mut firsts = [0u16; 65536];
-    let mut seen = [0u16; 65536];
-    write_with(
-        table,
-        glyphs,
-        &mut places[..glyphs],
-        &mut nums[..glyphs],
-        &mut firsts[..glyphs],
-        &mut seen,
-        room,
-    )
+    if table.len() <= 512 {
+        return write_small(table, glyphs, room);
+    }
+    write_large(table, glyphs, room)
 }
 
 // The length of a table's sheet, without writing it, or the table's refusal.

@@ -13,7 +13,7 @@ use Rattle.fields.specs.Field.{Bytes}
 use Rattle.fields.specs.Laws.{then-first, then-second, u16At-fits}
 use Rattle.lists.specs.Codes.{All}
 use Rattle.lists.specs.Upto.{from, upto}
-use Rattle.meaning.specs.Meaning.{Side}
+use Rattle.meaning.specs.Meaning.{Side, emptySide}
 use Rattle.meaning.specs.Sheet.{clusterSection, clusterRunSection, listSection, listRunSection, writeSide}
 use Rattle.values.specs.declared.Kind.the-variants.{Clusters, Lists}
 use Rattle.values.specs.Values.{spotOf, clusterHere, listHere, clusterOf, listOf, valuesFault}
@@ -21,7 +21,7 @@ use Rattle.lookup.specs.Find.{valueOf}
 use Rattle.actions.specs.declared.Spot.{Spot}
 use Rattle.actions.specs.declared.Spot.the-variants.{At, Nowhere}
 use Rattle.table.specs.Table.{machineOffset, widthOffset, actionOffset, widthLookup, machinePart, actionPart, directionFault}
-use Rattle.table.specs.Means.{machineOf, listsOf, emptySide, sideAt, directionOf}
+use Rattle.table.specs.Means.{machineOf, listsOf, sideAt, directionOf}
 use Rattle.table.proofs.Laws.{present-none, present-some}
 use Rattle.item.specs.Items.{itemAt, item-discrete, itemCode}
 use Rattle.places.specs.declared.Source.{Source}
@@ -227,25 +227,23 @@ module _ (t : List ℕ) (n : ℕ) where
                 subst (λ (s : Source). All (Short Lists) (itemsFrom Lists t n s)) (sym (lists-some z o))
                 (looked-short t n Lists (actionOffset t at) (actionOffset t at) w (lists-clear z o))
 
--- ---- what the two kinds need, from what the direction has; the rooms as they are lent
+-- ---- what the two kinds need, from what the direction has
 
-module _ (t : List ℕ) (n at p m f s : ℕ) (r : Ready t n at p m f s) (w : Bytes t) (source : Source) where
-  pub clusters-ready : {p′ m′ f′ s′ : ℕ} → source ≡ clusterSource t at → p′ ≡ p → m′ ≡ m → f′ ≡ f → s′ ≡ s → Ready-pool Clusters t n source p′ m′ f′ s′
-  clusters-ready e ep em ef es =
+module _ (t : List ℕ) (n at : ℕ) (r : Ready t n at) (w : Bytes t) (source : Source) where
+  pub clusters-ready : source ≡ clusterSource t at → Ready-pool Clusters t n source
+  clusters-ready e =
       record {
         bytes = r .bytes;
+        few = r .few;
         sound = subst (Sound t n) (sym e) (clusters-sound t n at (r .clear) w (r .near));
         short = subst (λ (x : Source). All (Short Clusters) (itemsFrom Clusters t n x)) (sym e) (clusters-short t n at (r .clear) w (r .near));
-        held = ep ∙ r .held;
-        room = record { glyphs = r .room .glyphs; each = em ∙ r .room .each; most = ef ∙ r .room .most; positions = es ∙ r .room .positions };
       }
 
-  pub lists-ready : {p′ m′ f′ s′ : ℕ} → source ≡ listSource t at → p′ ≡ p → m′ ≡ m → f′ ≡ f → s′ ≡ s → Ready-pool Lists t n source p′ m′ f′ s′
-  lists-ready e ep em ef es =
+  pub lists-ready : source ≡ listSource t at → Ready-pool Lists t n source
+  lists-ready e =
       record {
         bytes = r .bytes;
+        few = r .few;
         sound = subst (Sound t n) (sym e) (lists-sound t n at (r .clear) w (r .near));
         short = subst (λ (x : Source). All (Short Lists) (itemsFrom Lists t n x)) (sym e) (lists-short t n at (r .clear) w (r .near));
-        held = ep ∙ r .held;
-        room = record { glyphs = r .room .glyphs; each = em ∙ r .room .each; most = ef ∙ r .room .most; positions = es ∙ r .room .positions };
       }

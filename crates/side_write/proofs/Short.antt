@@ -24,7 +24,7 @@ use Rattle.actions.proofs.Laws.{list-ok}
 use Rattle.values.specs.declared.Kind.{Kind}
 use Rattle.values.specs.declared.Kind.the-variants.{Clusters, Lists}
 use Rattle.values.specs.Values.{spotOf, spotFault, glyphFault, valuesFault}
-use Rattle.list_code.proofs.Laws.{many-byte}
+use Rattle.lists.proofs.SectionLaws.{many-byte}
 use Rattle.item.specs.Items.{noItem, itemAt, itemCode}
 use Rattle.places.specs.declared.Source.the-variants.{Lookup, Absent}
 use Rattle.places.specs.Places.{itemHere, itemsFrom}

@@ -9,7 +9,6 @@ use Rattle.fields.specs.declared.Fault.the-variants.{Clear}
 use Rattle.meaning.specs.Sheet.{writeSide}
 use Rattle.table.specs.Table.{machineOffset, widthOffset, actionOffset, widthLookup, directionFault}
 use Rattle.table.specs.Means.{directionOf}
-use Rattle.number.specs.Numbered.{Room}
 use Rattle.places.specs.declared.Source.{Source}
 use Rattle.places.specs.declared.Source.the-variants.{Lookup, Absent}
 
@@ -26,10 +25,9 @@ clusterSource t at = cond (eqb at 0) Absent (Lookup (widthLookup at) (widthOffse
 unfoldable pub listSource : List ℕ → ℕ → Source
 listSource t at = cond (eqb at 0) Absent (cond (eqb (actionOffset t at) 0) Absent (Lookup (actionOffset t at) (actionOffset t at)))
 
--- a direction without fault, and rooms for n glyphs
-pub record Ready (t : List ℕ) (n at places nums firsts seen : ℕ) : Type 0 where
+-- a direction without fault
+pub record Ready (t : List ℕ) (n at : ℕ) : Type 0 where
   pub bytes : length t ≤ 2 ^ 15
+  pub few : n < 2 ^ 16
   pub near : at < 2 ^ 16
   pub clear : directionFault t n at ≡ Clear
-  pub held : places ≡ n
-  pub room : Room n nums firsts seen

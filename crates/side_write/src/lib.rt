@@ -1,5 +1,5 @@
-// One direction of a sheet for a table (document 01, "The sheet", sections 1 to 8): how many bytes it takes, and
-// storing it. The direction's offset in the table is 0 where it is absent.
+// One direction of a sheet for a table (document 01, "The sheet", sections 1 to 8), stored. The direction's offset in
+// the table is 0 where it is absent.
 ghost use mathlib.Core.Path.{_≡_};
 ghost use Prim.Native.Nat.{_+_, _<_, _^_};
 ghost use lib.ListN.{length};
@@ -50,93 +50,16 @@ fn list_source(table: &[u8], at: usize) -> Source
     }
 }
 
-// How many bytes the direction takes.
-pub fn side_size(
-    table: &[u8],
-    glyphs: usize,
-    at: usize,
-    places: &mut [u16],
-    nums: &mut [u16],
-    firsts: &mut [u16],
-    seen: &mut [u16],
-) -> usize
-    requires { ⌜ Ready (now table) glyphs at (length (now places)) (length (now nums)) (length (now firsts)) (length (now seen)) ⌝ }
-    ensures { λ r. ⌜ (r ≡ length (sideBytes (now (table .entry)) glyphs at)) × (r < 2 ^ 30 + 2 ^ 20) ⌝ }
-{
-    let machine = machine_code::machine_size(table, glyphs, machine_place(table, at), nums);
-    let widths = cluster_source(table, at);
-    let clusters = pool_code::pool_size(
-        table,
-        glyphs,
-        Kind::Clusters,
-        widths,
-        places,
-        nums,
-        firsts,
-        seen,
-    );
-    let actions = list_source(table, at);
-    let lists = pool_code::pool_size(
-        table,
-        glyphs,
-        Kind::Lists,
-        actions,
-        places,
-        nums,
-        firsts,
-        seen,
-    );
-    machine + clusters + lists
-}
-
-// Stores the direction, and answers where it ends.
-pub fn put_side(
-    table: &[u8],
-    glyphs: usize,
-    at: usize,
-    places: &mut [u16],
-    nums: &mut [u16],
-    firsts: &mut [u16],
-    seen: &mut [u16],
-    out: &mut [u8],
-    to: usize,
-) -> usize
-    requires { ⌜ Ready (now table) glyphs at (length (now places)) (length (now nums)) (length (now firsts)) (length (now seen)) × (to < 2 ^ 36) ⌝ }
+// Stores the direction, and answers where it ends; what would stand past the end of the bytes is dropped.
+pub fn put_side(table: &[u8], glyphs: usize, at: usize, out: &mut [u8], to: usize) -> usize
+    requires { ⌜ Ready (now table) glyphs at × (to < 2 ^ 36) ⌝ }
     ensures { λ r. ⌜ (r ≡ to + length (sideBytes (now (table .entry)) glyphs at)) × (r < to + 2 ^ 30 + 2 ^ 20)
         × (now (out .exit) ≡ sets (now (out .entry)) to (sideBytes (now (table .entry)) glyphs at)) ⌝ }
 {
-    let machine_end = machine_code::put_machine(
-        table,
-        glyphs,
-        machine_place(table, at),
-        nums,
-        out,
-        to,
-    );
+    let machine = machine_place(table, at);
+    let machine_end = machine_code::put_machine(table, glyphs, machine, out, to);
     let widths = cluster_source(table, at);
-    let cluster_end = pool_code::put_pool(
-        table,
-        glyphs,
-        Kind::Clusters,
-        widths,
-        places,
-        nums,
-        firsts,
-        seen,
-        out,
-        machine_end,
-    );
+    let cluster_end = pool_code::put_pool(table, glyphs, Kind::Clusters, widths, out, machine_end);
     let actions = list_source(table, at);
-    pool_code::put_pool(
-        table,
-        glyphs,
-        Kind::Lists,
-        actions,
-        places,
-        nums,
-        firsts,
-        seen,
-        out,
-        cluster_end,
-    )
+    pool_code::put_pool(table, glyphs, Kind::Lists, actions, out, cluster_end)
 }

@@ -12,7 +12,7 @@ use Rattle.parts.specs.declared.Pair.{Pair}
 use Rattle.machine.specs.Cells.{classCount, classAt, entryAt, stateArray}
 use Rattle.machine.specs.Rows.{rowCount}
 use Rattle.values.specs.Values.{clusterOf, listOf}
-use Rattle.meaning.specs.Meaning.{Machine, Action, Side, Meaning}
+use Rattle.meaning.specs.Meaning.{Machine, Action, Side, emptySide, Meaning}
 use Rattle.table.specs.Table.{machineOffset, widthOffset, actionOffset, widthLookup}
 
 -- the cell with an index, counted row by row
@@ -36,10 +36,6 @@ machineOf t n offset = cond (eqb offset 0) none (some (machineAt t n (offset + 8
 unfoldable pub listsOf : List ℕ → ℕ → ℕ → List (List Action)
 listsOf t n offset = cond (eqb offset 0) (replicate n []) (upto (listOf t n offset offset) n)
 
--- what an absent direction means: no machine, no width records, no actions
-unfoldable pub emptySide : ℕ → Side
-emptySide n = record { machine = none; clusters = replicate n []; lists = replicate n [] }
-
 unfoldable pub sideAt : List ℕ → ℕ → ℕ → Side
 sideAt t n at =
     record {
@@ -48,6 +44,7 @@ sideAt t n at =
       lists = listsOf t n (actionOffset t at);
     }
 
+-- an absent direction means what an empty one means
 unfoldable pub directionOf : List ℕ → ℕ → ℕ → Side
 directionOf t n at = cond (eqb at 0) (emptySide n) (sideAt t n at)
 

@@ -12,16 +12,15 @@ use borrow.Author.Tests.{eq-eqb}
 use Rattle.lists.specs.Upto.{from, upto}
 use Rattle.parts.specs.declared.Direction.{Direction}
 use Rattle.parts.specs.declared.Direction.the-variants.{Horizontal, Vertical}
-use Rattle.meaning.specs.Meaning.{Meaning}
+use Rattle.meaning.specs.Meaning.{Meaning, emptySide}
 use Rattle.meaning.specs.Ask.{Question, ask}
 use Rattle.meaning.specs.Sheet.{write}
-use Rattle.meaning.proofs.SheetLaws as sheet
 use Rattle.lookup.specs.declared.Found.the-variants.{Nothing}
 use Rattle.lookup.specs.Find.{valueOf}
 use Rattle.values.specs.declared.Kind.the-variants.{Clusters}
 use Rattle.values.specs.Values.{spotOf, clusterHere, clusterOf, listOf}
 use Rattle.table.specs.Table.{machineOffset, widthOffset, actionOffset, widthLookup}
-use Rattle.table.specs.Means.{machineOf, listsOf, emptySide, sideAt, directionOf, meaningOf}
+use Rattle.table.specs.Means.{machineOf, listsOf, sideAt, directionOf, meaningOf}
 use Rattle.table_laws.specs.Absent.{EmptyDirection, offsetOf, other}
 
 -- a list of one value over and over
@@ -32,11 +31,6 @@ from-same f x (suc n) i h = ap₂ (λ (a : _) (l : List _). a ∷ l) (h i (omega
 
 upto-same : {A : Type 0} (f : ℕ → A) (x : A) (n : ℕ) → ((k : ℕ) → k < n → f k ≡ x) → upto f n ≡ replicate n x
 upto-same f x n h = from-same f x n 0 (λ k a b. h k (omega arith))
-
--- the empty direction of a table is the one that the sheet's laws speak of
-pub empty-side : (n : ℕ) → emptySide n ≡ sheet.emptySide n
-unfolding emptySide
-empty-side n = refl
 
 module _ (t : List ℕ) (n : ℕ) where
   -- a part at offset 0 is absent

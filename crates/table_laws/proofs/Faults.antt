@@ -29,14 +29,14 @@ use Rattle.table_laws.specs.Order.{First, Free, FirstGlyph, tableParts, 
 -- ---- a chain of faults
 
 -- the faults of a list, one after the other
-abbrev chain : List Fault → Fault
+abbrev pub chain : List Fault → Fault
 chain [] = Clear
 chain (f ∷ fs) = f then chain fs
 
-clear-not-bad : {r : Refusal} {at : ℕ} {f : Fault} → f ≡ Clear → f ≡ Bad r at → ⊥
+pub clear-not-bad : {r : Refusal} {at : ℕ} {f : Fault} → f ≡ Clear → f ≡ Bad r at → ⊥
 clear-not-bad {r} {at} {f} p q = let z : _≡_ {A = ℕ} 0 1 = cc in omega arith
 
-chain-first : (fs : List Fault) (r : Refusal) (at : ℕ) → chain fs ≡ Bad r at → First fs r at
+pub chain-first : (fs : List Fault) (r : Refusal) (at : ℕ) → chain fs ≡ Bad r at → First fs r at
 chain-first [] r at e = clear-not-bad refl e
 chain-first (f ∷ fs) r at e = go f refl (chain-first fs r at)
   where
@@ -44,16 +44,16 @@ chain-first (f ∷ fs) r at e = go f refl (chain-first fs r at)
     go Clear p ih = inr (p, ih (sym (then-go (chain fs) p) ∙ e))
     go (Bad s q) p ih = inl (sym (then-stop (chain fs) p) ∙ e)
 
-first-chain : (fs : List Fault) (r : Refusal) (at : ℕ) → First fs r at → chain fs ≡ Bad r at
+pub first-chain : (fs : List Fault) (r : Refusal) (at : ℕ) → First fs r at → chain fs ≡ Bad r at
 first-chain [] r at h = absurd h
 first-chain (f ∷ fs) r at (inl p) = then-stop (chain fs) p ∙ p
 first-chain (f ∷ fs) r at (inr h) = then-go (chain fs) (h .0) ∙ first-chain fs r at (h .1)
 
-chain-free : (fs : List Fault) → chain fs ≡ Clear → Free fs
+pub chain-free : (fs : List Fault) → chain fs ≡ Clear → Free fs
 chain-free [] e = tt
 chain-free (f ∷ fs) e = (then-first _ _ e, chain-free fs (then-second _ _ e))
 
-free-chain : (fs : List Fault) → Free fs → chain fs ≡ Clear
+pub free-chain : (fs : List Fault) → Free fs → chain fs ≡ Clear
 free-chain [] h = refl
 free-chain (f ∷ fs) h = then-go (chain fs) (h .0) ∙ free-chain fs (h .1)
 
@@ -185,7 +185,7 @@ check-refuses t n r = (
 
 -- ---- the header
 
-rule-bad : (b : Bool) (r s : Refusal) (at p : ℕ) → rule b r at ≡ Bad s p → (b ≡ false) × (r ≡ s) × (at ≡ p)
+pub rule-bad : (b : Bool) (r s : Refusal) (at p : ℕ) → rule b r at ≡ Bad s p → (b ≡ false) × (r ≡ s) × (at ≡ p)
 unfolding rule
 rule-bad true r s at p e = absurd (clear-not-bad refl e)
 rule-bad false r s at p e = (refl, cc, cc)

@@ -15,12 +15,12 @@ use Rattle.lists.proofs.UptoLaws.{length-from, elem-past}
 use Rattle.parts.specs.declared.Direction.{Direction}
 use Rattle.parts.specs.declared.Direction.the-variants.{Horizontal, Vertical}
 use Rattle.parts.specs.declared.Pair.{Pair}
-use Rattle.meaning.specs.Meaning.{Machine, Action}
+use Rattle.meaning.specs.Meaning.{Machine, Action, emptySide}
 use Rattle.meaning.specs.Ask.{class, width, action, along, nothing, number, pair, act, maybe, machinePart, recordOf, askSide, ask}
 use Rattle.machine.specs.Cells.{classAt}
 use Rattle.values.specs.Values.{clusterOf, listOf}
 use Rattle.table.specs.Table.{machineOffset, widthOffset, actionOffset, widthLookup, Accepted, tableFault}
-use Rattle.table.specs.Means.{machineAt, machineOf, listsOf, emptySide, sideAt, directionOf, meaningOf}
+use Rattle.table.specs.Means.{machineAt, machineOf, listsOf, sideAt, directionOf, meaningOf}
 use Rattle.table_laws.proofs.Faults.{good-header}
 
 module _ (t : List ℕ) (n : ℕ) where

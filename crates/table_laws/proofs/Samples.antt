@@ -25,7 +25,8 @@ use Rattle.lookup.specs.Lookup.{countedFault, formatFault, lookupFault}
 use Rattle.values.specs.declared.Kind.the-variants.{Clusters}
 use Rattle.values.specs.Values.{spotOf, spotFault, glyphFault, valuesFault}
 use Rattle.table.specs.Table.{present, offsetsFault, machinePart, actionPart, directionFault, tableFault, Accepted}
-use Rattle.table.specs.Means.{emptySide, directionOf, meaningOf}
+use Rattle.meaning.specs.Meaning.{emptySide}
+use Rattle.table.specs.Means.{directionOf, meaningOf}
 use Rattle.table_laws.specs.Order.{GoodHeader}
 use Rattle.table_laws.specs.Absent.{EmptyDirection}
 use Rattle.table_laws.specs.Samples.{bareTable, hollowTable, strayTable}
@@ -57,7 +58,6 @@ bare-meaning n = refl
 
 -- and its sheet is N and sixteen counts of 0
 pub bare-sheet : (n : ℕ) → write (meaningOf bareTable n) ≡ be32 n ++ replicate 64 0
-unfolding emptySide
 bare-sheet n = ap write (bare-meaning n) ∙ empty-sheet n
 
 -- ---- a direction that is present and holds nothing

@@ -29,7 +29,8 @@ use Rattle.values.specs.declared.Kind.{Kind}
 use Rattle.values.specs.declared.Kind.the-variants.{Clusters, Lists}
 use Rattle.values.specs.Values.{spotOf, spotFault, glyphFault, valuesFault, clusterHere, listHere, clusterOf, listOf}
 use Rattle.table.specs.Table.{machineOffset, widthOffset, actionOffset, widthLookup, present, offsetsFault, machinePart, actionPart, directionFault, tableFault, Accepted}
-use Rattle.table.specs.Means.{machineAt, machineOf, listsOf, emptySide, sideAt, directionOf, meaningOf}
+use Rattle.meaning.specs.Meaning.{emptySide}
+use Rattle.table.specs.Means.{machineAt, machineOf, listsOf, sideAt, directionOf, meaningOf}
 use Rattle.table_laws.proofs.Machines.{machine-ok}
 use Rattle.table_laws.proofs.Faults.{good-header}
 

@@ -14,8 +14,8 @@ use Rattle.parts.specs.declared.Direction.the-variants.{Horizontal, Vertical}
 use Rattle.parts.specs.declared.Pair.{Pair}
 use Rattle.lists.specs.Upto.{upto}
 use Rattle.lists.proofs.UptoLaws.{length-from, getD-upto, elem-upto, elem-past}
-use Rattle.meaning.specs.Meaning.{Machine, Action, Side}
-use Rattle.meaning.specs.Ask.{Part, sizes, class, cell, width, action, along, Answer, nothing, number, both, entry, pair, act, maybe, machinePart, cellOf, recordOf, askSide, ask}
+use Rattle.meaning.specs.Meaning.{Machine, Action, Side, emptySide}
+use Rattle.meaning.specs.Ask.{Part, sizes, class, cell, width, action, along, Answer, nothing, number, both, entry, pair, act, maybe, machinePart, cellOf, recordOf, sideOf, askSide, ask}
 use Rattle.machine.specs.Cells.{classCount, classAt, cellAt}
 use Rattle.machine.specs.Rows.{rowCount}
 use Rattle.lookup.specs.Find.{valueOf}
@@ -27,7 +27,7 @@ use Rattle.values.specs.declared.Kind.{Kind}
 use Rattle.values.specs.declared.Kind.the-variants.{Clusters, Lists}
 use Rattle.values.specs.Values.{spotOf, clusterHere, listHere, clusterOf, listOf}
 use Rattle.table.specs.Table.{machineOffset, widthOffset, actionOffset, widthLookup}
-use Rattle.table.specs.Means.{cellBy, machineAt, machineOf, listsOf, emptySide, sideAt, directionOf, meaningOf}
+use Rattle.table.specs.Means.{cellBy, machineAt, machineOf, listsOf, sideAt, directionOf, meaningOf}
 use Rattle.table_parts.specs.Places.{directionAt, machineIn, clusterSpot, listSpot, numbered, actionSpot, actionHere}
 use Rattle.table_parts.proofs.Rows.{cell-by, index-below}
 
@@ -72,6 +72,14 @@ module _ (t : List ℕ) (n : ℕ) (d : Direction) where
 
   abbrev pub side : Side
   side = directionOf t n (directionAt t d)
+
+  pub side-is : sideOf d (meaningOf t n) ≡ side
+  unfolding meaningOf
+  side-is = go d
+    where
+      go : (e : Direction) → sideOf e (meaningOf t n) ≡ directionOf t n (directionAt t e)
+      go Horizontal = refl
+      go Vertical = refl
 
   pub asked : (p : Part) → ask (meaningOf t n) (along d p) ≡ askSide side p
   unfolding ask meaningOf

@@ -1,17 +1,13 @@
 -- The steps to a place of specs/Places.antt, over values as read.
-use Prim.Native.Nat.{ℕ, _+_, _-_, _<_}
+use Prim.Native.Nat.{ℕ, _+_, _<_}
 use mathlib.Core.Path.{_≡_, ap, subst, _∙_}
 use mathlib.Core.List.{List}
-use lib.ListN.{length, replicate}
-use lib.Seq.{take-append-seam}
 use borrow.Author.Tests.{eq-eqb, ne-eqb}
 use Rattle.fields.specs.declared.Fault.{Fault}
 use Rattle.fields.specs.Field.{u16At}
 use Rattle.parts.specs.declared.Direction.{Direction}
-use Rattle.parts.specs.declared.HeldAction.{HeldAction}
-use Rattle.meaning.specs.Meaning.{Action}
-use Rattle.meaning.specs.Ask.{Answer, held}
-use Rattle.answers.specs.Says.{actionIn, unlessBad}
+use Rattle.meaning.specs.Ask.{Answer}
+use Rattle.answers.specs.Says.{unlessBad}
 use Rattle.lookup.specs.declared.Found.{Found}
 use Rattle.lookup.specs.Find.{valueOf}
 use Rattle.actions.specs.declared.Spot.{Spot}
@@ -26,12 +22,6 @@ use Rattle.table_parts.specs.Components.{unlessFault}
 -- the offset of a spot that is there
 pub below-at : {n p : ℕ} {s : Spot} → s ≡ At p → Below n s → p < n
 below-at {n} {p} {s} e b = subst (Below n) e b
-
--- an action in its room is that action
-pub held-is : (a : Action) {h : HeldAction} → h ≡ held a → actionIn h ≡ a
-held-is a {h} e =
-    ap actionIn e
-    ∙ ap (λ (l : List ℕ). record { class = a .class; kind = a .kind; content = l }) (take-append-seam (a .content) (replicate (76 - length (a .content)) 0))
 
 -- a call answers by the fault that was found
 pub judged : {f g : Fault} (a : Answer) → f ≡ g → unlessBad f a ≡ unlessBad g a

@@ -5,7 +5,7 @@
 ghost use mathlib.Core.Path.{_≡_};
 ghost use Prim.Native.Nat.{_<_, _^_};
 ghost use Rattle.meaning.specs.Ask.{maybe, pair, recordOf, ask, glyphCount, sizes, class, cell, width, action, along};
-ghost use Rattle.answers.specs.Says.{given, unlessBad, saysCount, saysSizes, saysClass, saysCell, saysRecord, saysAction, noAction, roomAfter};
+ghost use Rattle.answers.specs.Says.{given, unlessBad, saysCount, saysSizes, saysClass, saysCell, saysRecord, saysAction, roomAfter};
 ghost use Rattle.cluster.specs.Pairs.{clusterAt};
 ghost use Rattle.actions.specs.Actions.{Below};
 ghost use Rattle.table.specs.Table.{tableFault};
@@ -23,7 +23,6 @@ use answers::SizesAnswer;
 use answers::Sought;
 use fields::Fault;
 use parts::Direction;
-use parts::HeldAction;
 use values::Kind;
 
 // Where a direction's offsets stand; 0 for an absent one.
@@ -160,18 +159,6 @@ pub fn action_spot(table: &[u8], count: u32, direction: Direction, glyph: u16, n
     }
 }
 
-// The room of an action where none was found.
-pub fn no_action() -> HeldAction
-    ensures { λ r. ⌜ r ≡ noAction ⌝ }
-{
-    HeldAction {
-        class: 0,
-        kind: 0,
-        size: 0,
-        bytes: [0u8; 76],
-    }
-}
-
 // The action of a glyph with a number in a direction. Data of more than 76 bytes, which no action of an accepted
 // table has, is cut there.
 pub fn action_of(
@@ -188,10 +175,7 @@ pub fn action_of(
             sought: Sought::Found,
             action: actions::action_at(table, at),
         },
-        Spot::Nowhere => ActionAnswer {
-            sought: Sought::Nothing,
-            action: no_action(),
-        },
+        Spot::Nowhere => answers::no_action(Sought::Nothing),
     }
 }
 
@@ -263,10 +247,7 @@ pub fn ask_action(
 {
     match table::table_fault(table, count) {
         Fault::Clear => action_of(table, count, direction, glyph, number),
-        Fault::Bad { refusal, at: _ } => ActionAnswer {
-            sought: Sought::Refused(refusal),
-            action: no_action(),
-        },
+        Fault::Bad { refusal, at: _ } => answers::no_action(Sought::Refused(refusal)),
     }
 }
 

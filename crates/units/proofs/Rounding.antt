@@ -61,7 +61,7 @@ negℤ-times (pos (suc m)) n = refl
 negℤ-times (negsuc m) n = sym (negℤ-negℤ (pos (suc m * n)))
 
 -- the order turns round with the signs
-turned : (x y : ℤ) → ltZ x y ≡ ltZ (negℤ y) (negℤ x)
+pub turned : (x y : ℤ) → ltZ x y ≡ ltZ (negℤ y) (negℤ x)
 turned (pos zero) (pos zero) = refl
 turned (pos zero) (pos (suc b)) = lt-ltb 0 (suc b) (omega arith)
 turned (pos (suc a)) (pos zero) = le-ltb (suc a) 0 (omega arith)

@@ -8,6 +8,7 @@ use lib.Dec.{eqb}
 use lib.ListN.{getD}
 use Rattle.fields.specs.declared.Fault.{Fault}
 use Rattle.fields.specs.declared.Fault.the-variants.{Clear}
+use Rattle.fields.specs.Field.{u16At}
 use Rattle.fields.specs.Faults.{_then_}
 use Rattle.fields.specs.Walk.{each}
 use Rattle.parts.specs.declared.Pair.{Pair}
@@ -39,6 +40,10 @@ itemFault t glyphs Lists at = listFault t glyphs at
 abbrev pub spotFault : List ℕ → ℕ → Kind → Spot → Fault
 spotFault t glyphs kind (At p) = itemFault t glyphs kind p
 spotFault t glyphs kind Nowhere = Clear
+
+-- the first fault of what the value that stands at `p` leads to
+unfoldable pub placeFault : List ℕ → ℕ → Kind → ℕ → ℕ → Fault
+placeFault t glyphs kind base p = spotFault t glyphs kind (spotOf kind base (Value (u16At t p)))
 
 -- the first fault of what a glyph's value leads to; the lookup stands at `at`
 unfoldable pub glyphFault : List ℕ → ℕ → Kind → ℕ → ℕ → ℕ → Fault

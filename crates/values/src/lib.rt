@@ -1,14 +1,14 @@
 // What the values of a direction's two lookups lead to (document 01, "The table"): clusters of width records and
 // lists of actions. The lookup is judged first, then, glyphs upward, what each value leads to (refusals 4 to 6 and 8).
 ghost use mathlib.Core.Path.{_≡_};
-ghost use Prim.Native.Nat.{ℕ, _+_, _≤_, _<_, _^_};
-ghost use lib.ListN.{length};
+ghost use mathlib.Core.Bool.{cond};
+ghost use Prim.Native.Nat.{_+_, _-_, _*_, _≤_, _<_, _^_, min};
 ghost use Rattle.fields.specs.declared.Fault.the-variants.{Clear};
 ghost use Rattle.fields.specs.Walk.{each};
 ghost use Rattle.lookup.specs.declared.Found.the-variants.{Value};
 ghost use Rattle.lookup.specs.Lookup.{lookupFault};
 ghost use Rattle.actions.specs.Actions.{Below};
-ghost use Rattle.values.specs.Values.{spotOf, itemFault, spotFault, glyphFault, valuesFault, Judged};
+ghost use Rattle.values.specs.Values.{spotOf, itemFault, spotFault, placeFault, glyphFault, valuesFault, Judged};
 use actions::Spot;
 use fields::Fault;
 use lookup::Found;
@@ -84,6 +84,49 @@ fn judge_spot(table: &[u8], glyphs: usize, kind: Kind, spot: Spot, judged: &mut 
     }
 }
 
+// How many values a run of glyphs has: in an array those of glyphs below `glyphs`, else one for all.
+fn value_count(glyphs: usize, from: usize, until: usize, array: bool) -> usize
+    requires { ⌜ (from < until) × (from < glyphs) ⌝ }
+    ensures { λ r. ⌜ (r ≡ cond array (min until glyphs - from) 1) × (r ≤ glyphs) ⌝ }
+{
+    if !array {
+        return 1;
+    }
+    if until < glyphs {
+        return until - from;
+    }
+    glyphs - from
+}
+
+// The first fault of what `count` values, which stand from `place` on, lead to.
+fn places_fault(
+    table: &[u8],
+    glyphs: usize,
+    kind: Kind,
+    base: usize,
+    place: usize,
+    count: usize,
+    judged: &mut [u8],
+) -> Fault
+    requires { ⌜ (base < 2 ^ 16) × (place + 2 * count < 2 ^ 42) ⌝ }
+    requires { ⌜ Judged (now table) glyphs kind (now judged) ⌝ }
+    ensures { λ r. ⌜ (r ≡ each (placeFault (now (table .entry)) glyphs kind base) (λ p. p + 2) count place) × Judged (now (table .entry)) glyphs kind (now (judged .exit)) ⌝ }
+{
+    let mut p = place;
+    let mut left = count;
+    while 0 < left {
+        let value = fields::u16_at(table, p) as u16;
+        let spot = spot_of(kind, base, Found::Value(value));
+        let fault = judge_spot(table, glyphs, kind, spot, judged);
+        if let Fault::Bad { refusal: _, at: _ } = fault {
+            return fault;
+        }
+        p += 2;
+        left -= 1;
+    }
+    Fault::Clear
+}
+
 // The first fault of what the values of the lookup at `at`, which has none itself, lead to.
 fn glyphs_fault(
     table: &[u8],
@@ -97,18 +140,22 @@ fn glyphs_fault(
     requires { ⌜ Judged (now table) glyphs kind (now judged) ⌝ }
     ensures { λ r. ⌜ r ≡ each (glyphFault (now (table .entry)) glyphs kind at base) (λ g. g + 1) glyphs 0 ⌝ }
 {
+    let format = fields::u16_at(table, at);
     let mut cursor = lookup::begin(table, at);
     let mut glyph: usize = 0;
     while glyph < glyphs {
-        let looked = lookup::step(table, glyphs, at, cursor, glyph);
-        let found = looked.found;
-        let fault = judge_spot(table, glyphs, kind, spot_of(kind, base, found), judged);
+        let run = runs::next_run(table, format, at, cursor, glyph);
+        let from = run.from;
+        if glyphs <= from {
+            return Fault::Clear;
+        }
+        let count = value_count(glyphs, from, run.until, run.array);
+        let fault = places_fault(table, glyphs, kind, base, run.place, count, judged);
         if let Fault::Bad { refusal: _, at: _ } = fault {
             return fault;
         }
-        // The glyphs up to there have the same value.
-        cursor = looked.cursor;
-        glyph = looked.until;
+        cursor = run.cursor;
+        glyph = run.until;
     }
     Fault::Clear
 }
@@ -125,6 +172,10 @@ pub fn values_fault(table: &[u8], glyphs: usize, kind: Kind, at: usize, base: us
     // No cluster or list without fault stands past the table, which has at most 32,768 bytes.
     if table.len() <= 1024 {
         let mut judged = [0u8; 1024];
+        return glyphs_fault(table, glyphs, kind, at, base, &mut judged);
+    }
+    if table.len() <= 4096 {
+        let mut judged = [0u8; 4096];
         return glyphs_fault(table, glyphs, kind, at, base, &mut judged);
     }
     let mut judged = [0u8; 32768];

@@ -7,15 +7,15 @@ use native.Mathlib.Omega.{arith}
 use mathlib.Core.List.{List, [], _∷_, _++_}
 use lib.ListN.{length, getD, replicate}
 use mathlib.Core.Logic.{_⊎_, inl, inr, ⊎-elim}
-use lib.Dec.{ltb, eqb, leb·suc-suc}
-use lib.IntN.{ℤ, pos, negsuc, negℤ, natAbs, _-ℤ_, _*ℤ_, +ℤ-idl}
+use lib.Dec.{ltb, eqb}
+use lib.IntN.{ℤ, pos, negsuc, negℤ, natAbs, negℤ-negℤ, _-ℤ_, _*ℤ_, +ℤ-idl}
 use lib.Signed.{ltZ, leZ, shrZ}
 use mir.Syntax.{w64}
 use mir.Val.{SFits, toZ, ofZ}
 use mir.ValLaws.{toZ-ofZ}
-use borrow.Author.Tests.{lt-ltb, le-ltb, ltb-true, ltb-false, eq-eqb, ne-eqb}
+use borrow.Author.Tests.{ltb-true, ltb-false, eq-eqb, ne-eqb}
 use Rattle.units.specs.Fixed.{fixedOf, farOut, factorOf}
-use Rattle.units.proofs.Rounding.{above-factor, below-factor, not-below, fixed-near, negative-near}
+use Rattle.units.proofs.Rounding.{turned, above-factor, below-factor, not-below, fixed-near, negative-near}
 use Rattle.verdict.specs.Verdict.{below, above, reaches, lower, upper, threshold, grows, breaks, adds, substitutes, stretches, kindFires, firesOf, heldFires}
 use Rattle.fields.specs.Field.{u16At, u32At}
 use Rattle.meaning.specs.Meaning.{Action}
@@ -75,18 +75,6 @@ minus-fits z f h = subst (SFits w64) (sym (minus-is z f)) (negative-fits z h)
 minus : (z : ℤ) → SFits w64 z → natAbs z < 2 ^ 63 → toZ w64 (ofZ w64 (pos 0 -ℤ toZ w64 (ofZ w64 z))) ≡ negℤ z
 minus z f h = toZ-ofZ w64 _ (minus-fits z f h) ∙ minus-is z f
 
--- the order turns round with the signs
-turned : (x y : ℤ) → ltZ x (negℤ y) ≡ ltZ y (negℤ x)
-turned (pos zero) (pos zero) = refl
-turned (pos zero) (pos (suc b)) = sym (le-ltb (suc b) 0 (omega arith))
-turned (pos (suc a)) (pos zero) = le-ltb (suc a) 0 (omega arith)
-turned (pos (suc a)) (pos (suc b)) = refl
-turned (pos zero) (negsuc b) = lt-ltb 0 (suc b) (omega arith)
-turned (pos (suc a)) (negsuc b) = leb·suc-suc (suc a) b
-turned (negsuc a) (pos zero) = sym (lt-ltb 0 (suc a) (omega arith))
-turned (negsuc a) (pos (suc b)) = sym (leb·suc-suc (suc b) a)
-turned (negsuc a) (negsuc b) = refl
-
 -- ---- the two comparisons
 
 -- `limit` is what the bits say, and `factor` its factor
@@ -121,7 +109,8 @@ module _ (limit : ℤ) (bits : ℕ) (p : SFits w64 limit) (h : bits < 2 ^ 32) (e
         → ltZ (toZ w64 (ofZ w64 g)) (toZ w64 (ofZ w64 (pos 0 -ℤ toZ w64 (ofZ w64 factor)))) ≡ below g (fixedOf bits) size
     is-below g r =
         ap₂ (λ (x y : ℤ). ltZ x y) (toZ-ofZ w64 g r) (minus factor q factor-small)
-        ∙ turned g factor
+        ∙ turned g (negℤ factor)
+        ∙ ap (λ (x : ℤ). ltZ x (negℤ g)) (negℤ-negℤ factor)
         ∙ ap (λ (x : ℤ). ltZ x (negℤ g)) factor-is
         ∙ sym (below-factor g (fixedOf bits) size (negative-near bits h))
 

@@ -1,4 +1,4 @@
--- Actions at growths (document 01, "Sample lines and tables", the starred lines on verdicts, and some more): one list of cases, one theorem.
+-- Actions at growths, beside the starred lines (crates/samples): one list of cases, one theorem.
 -- Each is at 12 pt, 786,432 units, and for a glyph of class 7.
 use Prim.Native.Nat.{ℕ}
 use mathlib.Core.Path.{_≡_, refl}
@@ -31,9 +31,7 @@ sample action growth fires = record { action = action; growth = growth; fires = 
 abbrev pub samples : List Sample
 samples =
     -- lower 0, upper 0.5 em
-    sample (ligature 0 32768) (pos 393216) No
-    ∷ sample (ligature 0 32768) (pos 393217) Plain
-    ∷ sample (ligature 0 32768) (pos 0) No
+    sample (ligature 0 32768) (pos 0) No
     ∷ sample (ligature 0 32768) (negℤ (pos 1)) Plain
     -- lower -0.5 em; lower above upper, at no growth
     ∷ sample (ligature 0xFFFF8000 0) (negℤ (pos 393216)) No

@@ -14,7 +14,7 @@ pub enum Fires {
     Substitutes,
 }
 
-// Whether the growth is below limit × size.
+// Whether the growth is below limit × size / 65,536.
 fn is_below(growth: Units, bits: u32, size: u32) -> bool
     ensures { λ r. ⌜ r ≡ below (growth .0) (fixedOf bits) size ⌝ }
 {
@@ -23,7 +23,7 @@ fn is_below(growth: Units, bits: u32, size: u32) -> bool
     growth.0 < -least.0
 }
 
-// Whether the growth is above limit × size.
+// Whether the growth is above limit × size / 65,536.
 fn is_above(growth: Units, bits: u32, size: u32) -> bool
     ensures { λ r. ⌜ r ≡ above (growth .0) (fixedOf bits) size ⌝ }
 {

@@ -126,12 +126,12 @@ Stops m l = (cs : List ℕ) × (k : ℕ) × (k ≤ most m l) × (after m l k ≡
 
 module _ (m : Machine) (l : Line) (ok : Fits m l) where
   Stands : ℕ → Type 0
-  Stands n = (s : Conf) × (spent : ℕ) × At m l s spent × (s .count ≡ n)
+  Stands n = (s : Conf) × (spent : ℕ) × At m l (m .rows) s spent × (s .count ≡ n)
 
   -- n steps: still going by the rules, or it is settled already
   reach : (n : ℕ) → Stands n ⊎ (Stops m l ⊎ Never m l)
   unfolding Stands begin
-  reach zero = inl (begin l, 0, at-first m l ok, refl)
+  reach zero = inl (begin l, 0, at-first m l ok (m .rows), refl)
   reach (suc n) = go (reach n)
     where
       Out : Type 0
@@ -140,18 +140,18 @@ module _ (m : Machine) (l : Line) (ok : Fits m l) where
       more : (s : Conf) → s .count ≡ n → s .count + 1 ≡ suc n
       more s e = omega arith
 
-      moves : (s : Conf) (spent : ℕ) → At m l s spent → s .count ≡ n → spent < m .rows → stays (met m l s .flags) ≡ false → Dec (s .place < glyphs l) → Out
-      moves s spent a e few st (yes h) = inl (_, 0, at-moves m l ok s spent a few st h, more s e)
+      moves : (s : Conf) (spent : ℕ) → At m l (m .rows) s spent → s .count ≡ n → spent < m .rows → stays (met m l s .flags) ≡ false → Dec (s .place < glyphs l) → Out
+      moves s spent a e few st (yes h) = inl (_, 0, at-moves m l ok (m .rows) s spent a few st h, more s e)
       moves s spent a e few st (no h) =
-          inr (inl (_, _, stop-most m l ok s spent a few, at-stops m l ok s spent a few st (omega arith)))
+          inr (inl (_, _, stop-most m l ok s spent a few, at-stops m l ok (m .rows) s spent a few st (omega arith)))
 
-      stay : (s : Conf) (spent : ℕ) → At m l s spent → s .count ≡ n → spent < m .rows → (b : Bool) → stays (met m l s .flags) ≡ b → Out
-      stay s spent a e few true st = inl (_, spent + 1, at-stays m l ok s spent a few st, more s e)
+      stay : (s : Conf) (spent : ℕ) → At m l (m .rows) s spent → s .count ≡ n → spent < m .rows → (b : Bool) → stays (met m l s .flags) ≡ b → Out
+      stay s spent a e few true st = inl (_, spent + 1, at-stays m l ok (m .rows) s spent a few st, more s e)
       stay s spent a e few false st = moves s spent a e few st (decLt (s .place) (glyphs l))
 
-      spend : (s : Conf) (spent : ℕ) → At m l s spent → s .count ≡ n → Dec (spent < m .rows) → Out
+      spend : (s : Conf) (spent : ℕ) → At m l (m .rows) s spent → s .count ≡ n → Dec (spent < m .rows) → Out
       spend s spent a e (yes few) = stay s spent a e few (stays (met m l s .flags)) refl
-      spend s spent a e (no q) = inr (inr (spent-never m l ok s spent a (omega arith)))
+      spend s spent a e (no q) = inr (inr (spent-never m l ok (m .rows) s spent a (omega arith)))
 
       go : Stands n ⊎ (Stops m l ⊎ Never m l) → Out
       go (inr w) = inr w

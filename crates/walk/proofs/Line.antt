@@ -78,7 +78,7 @@ padded-more f line i v out h short e ev =
 
 -- ---- the machine's classes of a line
 
-pub fits-of : {t : List ℕ} {here rows : ℕ} {kinds : List ℕ} (starts ends : Bool) → Sound t here rows → Kinds t here kinds → Fits (machineAt t here rows) (lineOf kinds starts ends)
+pub fits-of : {t : List ℕ} {here : ℕ} {kinds : List ℕ} (starts ends : Bool) → Sound t here → Kinds t here kinds → Fits (machineAt t here) (lineOf kinds starts ends)
 fits-of starts ends ok line =
     record { rows-low = ok .rows-low; classes-low = ok .classes-low; closed = ok .closed; kinds-low = line .low }
 

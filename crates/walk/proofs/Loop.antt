@@ -5,15 +5,17 @@ use mathlib.Core.Bool.{Bool, true, false, cond, not, _&&_, false≢true}
 use mathlib.Core.Option.{Option, orElse}
 use mathlib.Core.List.{List}
 use native.Mathlib.Omega.{arith}
-use native.Mathlib.Nat.{mul-le-mul}
 use lib.Dec.{leb}
-use lib.ListN.{length, replicate}
+use lib.ListN.{length, getD, replicate}
+use Rattle.fields.specs.Field.{u16At}
+use Rattle.machine.specs.Cells.{entryAt, cellAt, classCount}
+use Rattle.machine.specs.Rows.{rowCount}
 use borrow.Author.Tests.{leb-true, leb-false}
 use Rattle.parts.specs.declared.Entry.{Entry}
 use Rattle.units.specs.Flags.{setsMark, stays, markClass, currentClass}
 use Rattle.walk.specs.declared.Walked.{Walked}
 use Rattle.walk.specs.Walk.{Machine, Line, Conf, going, stopped, Fits, glyphs, kindAt, current, give, met, givenBy, onAt, begin, Ends, walked}
-use Rattle.walk.specs.Line.{padded, handedOut, glyphOf}
+use Rattle.walk.specs.Line.{padded, handedOut, glyphOf, rowPlace, Sound}
 use Rattle.walk.proofs.Theory.{current-within, give-length, At, at-first, at-stays, at-moves, at-stops, spent-never}
 use Rattle.walk.proofs.Laws.{ends-walked, never-walked}
 use Rattle.walk.proofs.Line.{padded-zeros, first-zeros, give-padded}
@@ -24,7 +26,7 @@ confOf row place mark given count = record { row = row; place = place; mark = gl
 -- what the loop holds is where the walk stands
 pub record Keeps (m : Machine) (l : Line) (row place mark spent count : ℕ) (out : List ℕ) : Type 0 where
   pub given : List ℕ
-  pub stands : At m l (confOf row place mark given count) spent
+  pub stands : At m l 256 (confOf row place mark given count) spent
   pub out-is : out ≡ padded given
 
 -- what the code has after an entry, by its callees' equations
@@ -33,19 +35,31 @@ pub record Entered (m : Machine) (l : Line) (row place mark : ℕ) (out : List �
   pub mark-is : glyphOf marked ≡ cond (setsMark (e .flags)) (orElse (current (glyphs l) place) (glyphOf mark)) (glyphOf mark)
   pub out-is : out′ ≡ give (current (glyphs l) place) (currentClass (e .flags)) (give (glyphOf mark) (markClass (e .flags)) out)
 
-pub entered : (m : Machine) (l : Line) (row place mark : ℕ) (out : List ℕ) (kind glyph marked : ℕ) (e : Entry) (out′ : List ℕ)
+pub entered : (m : Machine) (l : Line) (row place mark : ℕ) (out : List ℕ) (kind glyph marked : ℕ) (e : Entry) (flags : ℕ) (out′ : List ℕ)
     → kind ≡ kindAt (l .kinds) (l .ends) place
     → e ≡ m .cell row kind
+    → flags ≡ e .flags
     → glyphOf glyph ≡ current (glyphs l) place
-    → glyphOf marked ≡ cond (setsMark (e .flags)) (orElse (glyphOf glyph) (glyphOf mark)) (glyphOf mark)
-    → out′ ≡ give (glyphOf glyph) (currentClass (e .flags)) (give (glyphOf mark) (markClass (e .flags)) out)
+    → glyphOf marked ≡ cond (setsMark flags) (orElse (glyphOf glyph) (glyphOf mark)) (glyphOf mark)
+    → out′ ≡ give (glyphOf glyph) (currentClass flags) (give (glyphOf mark) (markClass flags) out)
     → Entered m l row place mark out e marked out′
-entered m l row place mark out kind glyph marked e out′ ek ee eg em eo =
+entered m l row place mark out kind glyph marked e flags out′ ek ee ef eg em eo =
     record {
       entry-is = ee ∙ ap (m .cell row) ek;
-      mark-is = em ∙ ap (λ (g : Option ℕ). cond (setsMark (e .flags)) (orElse g (glyphOf mark)) (glyphOf mark)) eg;
-      out-is = eo ∙ ap (λ (g : Option ℕ). give g (currentClass (e .flags)) (give (glyphOf mark) (markClass (e .flags)) out)) eg;
+      mark-is = em ∙ ap₂ (λ (f : ℕ) (g : Option ℕ). cond (setsMark f) (orElse g (glyphOf mark)) (glyphOf mark)) ef eg;
+      out-is = eo ∙ ap₂ (λ (f : ℕ) (g : Option ℕ). give g (currentClass f) (give (glyphOf mark) (markClass f) out)) ef eg;
     }
+
+-- the entry of a row that is known by where it stands, `k` being the entry table's offset
+module _ (t : List ℕ) (here row kind k : ℕ) (ek : k ≡ u16At t (here + 6)) (base : ℕ) (eb : base ≡ rowPlace t here row) where
+  pub met-flags : (f : ℕ) → f ≡ u16At t (here + k + 4 * getD t (base + kind) 0 + 2) → f ≡ cellAt t here row kind .flags
+  unfolding cellAt entryAt
+  met-flags f e = e ∙ ap₂ (λ (x y : ℕ). u16At t (here + x + 4 * getD t (y + kind) 0 + 2)) ek eb
+
+  -- where its new row stands
+  pub met-base : Sound t here → (r : ℕ) → r ≡ here + u16At t (here + k + 4 * getD t (base + kind) 0) → row < rowCount t here → kind < classCount t here
+      → r ≡ rowPlace t here (cellAt t here row kind .row)
+  met-base ok r e h q = e ∙ ap₂ (λ (x y : ℕ). here + u16At t (here + x + 4 * getD t (y + kind) 0)) ek eb ∙ ok .exact row kind h q
 
 module _ (m : Machine) (l : Line) (ok : Fits m l) where
   pub keeps-first : (k row : ℕ) → k ≡ 1024 → glyphs l ≤ k → row ≡ cond (l .starts) 0 1 → Keeps m l row 0 1024 0 0 (replicate k 0)
@@ -53,20 +67,20 @@ module _ (m : Machine) (l : Line) (ok : Fits m l) where
   keeps-first k row e h er =
       record {
         given = replicate (glyphs l) 0;
-        stands = rw er (at-first m l ok);
+        stands = rw er (at-first m l ok 256);
         out-is = padded-zeros (glyphs l) k e h;
       }
 
   -- S entries at one place
-  pub keeps-never : (row place mark spent count : ℕ) (out : List ℕ) (k : ℕ) → Keeps m l row place mark spent count out → m .rows ≤ spent → k ≡ 1024
+  pub keeps-never : (row place mark spent count : ℕ) (out : List ℕ) (k : ℕ) → Keeps m l row place mark spent count out → m .rows ≤ 256 → 256 ≤ spent → k ≡ 1024
       → _≡_ {A = Walked} (record { ends = false; count = 0; classes = replicate k 0 }) (handedOut (walked m l))
   unfolding handedOut
-  keeps-never row place mark spent count out k w h e =
-      let g : (s : Conf) × (walked m l ≡ going s) = never-walked m l (spent-never m l ok _ spent (w .stands) h) in
+  keeps-never row place mark spent count out k w r h e =
+      let g : (s : Conf) × (walked m l ≡ going s) = never-walked m l (spent-never m l ok 256 _ spent (w .stands) (omega arith)) in
       ap (λ (x : List ℕ). record { ends = false; count = 0; classes = x }) (first-zeros k e) ∙ sym (ap handedOut (g .1))
 
   module _ (row place mark spent count : ℕ) (out : List ℕ) (e : Entry) (marked : ℕ) (out′ : List ℕ)
-      (w : Keeps m l row place mark spent count out) (few : spent < m .rows) (t : Entered m l row place mark out e marked out′) where
+      (w : Keeps m l row place mark spent count out) (few : spent < 256) (t : Entered m l row place mark out e marked out′) where
     abbrev s : Conf
     s = confOf row place mark (w .given) count
 
@@ -95,7 +109,7 @@ module _ (m : Machine) (l : Line) (ok : Fits m l) where
     keeps-stays h =
         record {
           given = givenBy (met m l s) l s;
-          stands = subst (λ (x : Conf). At m l x (spent + 1)) (on-is place) (at-stays m l ok s spent (w .stands) few (stay-is true h));
+          stands = subst (λ (x : Conf). At m l 256 x (spent + 1)) (on-is place) (at-stays m l ok 256 s spent (w .stands) few (stay-is true h));
           out-is = out-given;
         }
 
@@ -103,7 +117,7 @@ module _ (m : Machine) (l : Line) (ok : Fits m l) where
     keeps-moves h p =
         record {
           given = givenBy (met m l s) l s;
-          stands = subst (λ (x : Conf). At m l x 0) (on-is (place + 1)) (at-moves m l ok s spent (w .stands) few (stay-is false h) p);
+          stands = subst (λ (x : Conf). At m l 256 x 0) (on-is (place + 1)) (at-moves m l ok 256 s spent (w .stands) few (stay-is false h) p);
           out-is = out-given;
         }
 
@@ -112,15 +126,13 @@ module _ (m : Machine) (l : Line) (ok : Fits m l) where
     unfolding handedOut Ends
     keeps-stops h p =
         let q : walked m l ≡ stopped (givenBy (met m l s) l s) (count + 1) =
-        ends-walked m l ok _ _ (count + 1, at-stops m l ok s spent (w .stands) few (stay-is false h) p)
+        ends-walked m l ok _ _ (count + 1, at-stops m l ok 256 s spent (w .stands) few (stay-is false h) p)
         in
         ap (λ (x : List ℕ). record { ends = true; count = count + 1; classes = x }) out-given ∙ sym (ap handedOut q)
 
-pub count-small : (m : Machine) (l : Line) (row place mark spent count : ℕ) (out : List ℕ) → Keeps m l row place mark spent count out → m .rows ≤ 256 → glyphs l ≤ 1024 → count ≤ 262400
-count-small m l row place mark spent count out w h n =
-    let p : place ≤ 1024 = omega (arith, w .stands .place-low) in
-    let e : m .rows * place ≤ 256 * 1024 = mul-le-mul h p in
-    omega (arith, w .stands .count-low, w .stands .spent-low)
+pub count-small : (m : Machine) (l : Line) (row place mark spent count : ℕ) (out : List ℕ) → Keeps m l row place mark spent count out → glyphs l ≤ 1024 → count ≤ 262400
+count-small m l row place mark spent count out w n =
+    omega (arith, w .stands .place-low, w .stands .count-low, w .stands .spent-low)
 
 -- an entry stops the walk exactly where it does not stay at the end position
 pub stops-true : (b : Bool) (n place : ℕ) → (not b && leb n place) ≡ true → (b ≡ false) × (n ≤ place)

@@ -1,4 +1,4 @@
--- Small walks: document 01's starred line that never ends, and lines that tell the walk from those that give the mark class to the glyph which the same
+-- Small walks: a line that never ends, and lines that tell the walk from those that give the mark class to the glyph which the same
 -- entry marks, that let set mark act at the end position, or that do not count the last entry. Assumes nothing.
 use Prim.Native.Nat.{ℕ, zero, suc}
 use mathlib.Core.Path.{_≡_, refl, subst}

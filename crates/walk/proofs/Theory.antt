@@ -139,14 +139,14 @@ pub not-stopped : (m : Machine) (l : Line) (n place row : ℕ) → Stuck m l n p
 unfolding Stuck
 not-stopped m l n place row t cs k e = let p = t .1 in let z : _≡_ {A = ℕ} 0 1 = cc in omega arith
 
--- ---- where a walk stands, with `spent` entries that stayed at its place
+-- ---- where a walk stands, with `spent` entries that stayed at its place, at most `bound`
 
-pub record At (m : Machine) (l : Line) (s : Conf) (spent : ℕ) : Type 0 where
+pub record At (m : Machine) (l : Line) (bound : ℕ) (s : Conf) (spent : ℕ) : Type 0 where
   pub row-low : s .row < m .rows
   pub place-low : s .place ≤ glyphs l
   pub mark-within : Within (glyphs l) (s .mark)
-  pub spent-low : spent ≤ m .rows
-  pub count-low : s .count ≤ m .rows * s .place + spent
+  pub spent-low : spent ≤ bound
+  pub count-low : s .count ≤ bound * s .place + spent
   pub long : length (s .given) ≡ glyphs l
   pub reached : after m l (s .count) ≡ going s
   pub here : Here m l (s .place) spent (s .row)
@@ -172,9 +172,9 @@ module _ (m : Machine) (l : Line) (ok : Fits m l) where
   first-low true = omega (arith, ok .rows-low)
   first-low false = omega (arith, ok .rows-low)
 
-  pub at-first : At m l (begin l) 0
+  pub at-first : (bound : ℕ) → At m l bound (begin l) 0
   unfolding begin after
-  at-first =
+  at-first bound =
       record {
         row-low = first-low (l .starts);
         place-low = omega arith;
@@ -186,7 +186,7 @@ module _ (m : Machine) (l : Line) (ok : Fits m l) where
         here = here-new m l 0 (cond (l .starts) 0 1) (first-low (l .starts));
       }
 
-  module _ (s : Conf) (spent : ℕ) (a : At m l s spent) (few : spent < m .rows) where
+  module _ (bound : ℕ) (s : Conf) (spent : ℕ) (a : At m l bound s spent) (few : spent < bound) where
     given-length : length (givenBy (met m l s) l s) ≡ glyphs l
     given-length =
         give-length (current (glyphs l) (s .place)) (currentClass (met m l s .flags)) (give (s .mark) (markClass (met m l s .flags)) (s .given))
@@ -202,7 +202,7 @@ module _ (m : Machine) (l : Line) (ok : Fits m l) where
     next : after m l (s .count + 1) ≡ entry m l s
     next = rw (add-one) (after-going m l (s .count) s (a .reached))
 
-    pub at-stays : stays (met m l s .flags) ≡ true → At m l (onAt (s .place) (met m l s) l s) (spent + 1)
+    pub at-stays : stays (met m l s .flags) ≡ true → At m l bound (onAt (s .place) (met m l s) l s) (spent + 1)
     at-stays e =
         record {
           row-low = next-low (s .place) (s .row) (a .row-low);
@@ -215,13 +215,13 @@ module _ (m : Machine) (l : Line) (ok : Fits m l) where
           here = here-on m l (s .place) spent (s .row) (a .here) e;
         }
 
-    count-next : s .count + 1 ≤ m .rows * (s .place + 1) + 0
+    count-next : s .count + 1 ≤ bound * (s .place + 1) + 0
     count-next =
-        let c : s .count ≤ m .rows * s .place + spent = a .count-low in
-        let e : m .rows * (s .place + 1) ≡ m .rows * s .place + m .rows = rw (add-one) (mul-suc (m .rows) (s .place)) in
+        let c : s .count ≤ bound * s .place + spent = a .count-low in
+        let e : bound * (s .place + 1) ≡ bound * s .place + bound = rw (add-one) (mul-suc bound (s .place)) in
         omega arith
 
-    pub at-moves : stays (met m l s .flags) ≡ false → s .place < glyphs l → At m l (onAt (s .place + 1) (met m l s) l s) 0
+    pub at-moves : stays (met m l s .flags) ≡ false → s .place < glyphs l → At m l bound (onAt (s .place + 1) (met m l s) l s) 0
     at-moves e h =
         record {
           row-low = next-low (s .place) (s .row) (a .row-low);
@@ -238,14 +238,14 @@ module _ (m : Machine) (l : Line) (ok : Fits m l) where
         → after m l (s .count + 1) ≡ stopped (givenBy (met m l s) l s) (s .count + 1)
     at-stops e h = next ∙ taken-stops (met m l s) l s e h
 
-  pub at-most : (s : Conf) (spent : ℕ) → At m l s spent → s .count ≤ most m l
+  pub at-most : (s : Conf) (spent : ℕ) → At m l (m .rows) s spent → s .count ≤ most m l
   at-most s spent a =
       let c : s .count ≤ m .rows * s .place + spent = a .count-low in
       let p : m .rows * s .place ≤ m .rows * glyphs l = mul-le-mul-left (m .rows) (a .place-low) in
       let e : m .rows * (glyphs l + 1) ≡ m .rows * glyphs l + m .rows = rw (add-one) (mul-suc (m .rows) (glyphs l)) in
       omega (arith, a .spent-low)
 
-  pub stop-most : (s : Conf) (spent : ℕ) → At m l s spent → spent < m .rows → s .count + 1 ≤ most m l
+  pub stop-most : (s : Conf) (spent : ℕ) → At m l (m .rows) s spent → spent < m .rows → s .count + 1 ≤ most m l
   stop-most s spent a few =
       let c : s .count ≤ m .rows * s .place + spent = a .count-low in
       let p : m .rows * s .place ≤ m .rows * glyphs l = mul-le-mul-left (m .rows) (a .place-low) in
@@ -253,17 +253,18 @@ module _ (m : Machine) (l : Line) (ok : Fits m l) where
       omega arith
 
   -- S entries that stayed are S + 1 rows below S, so one came twice, and all that follow stay
-  always : (place row : ℕ) (h : Here m l place (m .rows) row) → (k : ℕ) → StaysAt m l place (iter (nextRow m l place) k (h .from))
-  always place row h = forever (nextRow m l place) (StaysAt m l place) (m .rows) (h .from) (λ k z. iter-low place (h .from) (h .from-low) k) (h .stayed)
+  always : (place spent row : ℕ) (h : Here m l place spent row) → m .rows ≤ spent → (k : ℕ) → StaysAt m l place (iter (nextRow m l place) k (h .from))
+  always place spent row h q =
+      forever (nextRow m l place) (StaysAt m l place) (m .rows) (h .from) (λ k z. iter-low place (h .from) (h .from-low) k) (λ k z. h .stayed k (omega arith))
 
-  pub spent-never : (s : Conf) (spent : ℕ) → At m l s spent → m .rows ≤ spent → Never m l
+  pub spent-never : (bound : ℕ) (s : Conf) (spent : ℕ) → At m l bound s spent → m .rows ≤ spent → Never m l
   unfolding Never Stuck
-  spent-never s spent a q n′ cs k e′ = go (decLe n′ (s .count))
+  spent-never bound s spent a q n′ cs k e′ = go (decLe n′ (s .count))
     where
-      h : Here m l (s .place) (m .rows) (s .row)
-      h = let e : spent ≡ m .rows = omega (arith, a .spent-low) in rw e at (a .here)
+      h : Here m l (s .place) spent (s .row)
+      h = a .here
 
-      start : Stuck m l (s .count) (s .place) (iter (nextRow m l (s .place)) (m .rows) (h .from))
+      start : Stuck m l (s .count) (s .place) (iter (nextRow m l (s .place)) spent (h .from))
       start = (s, a .reached, refl, h .reached)
 
       go : Dec (n′ ≤ s .count) → ⊥
@@ -271,5 +272,5 @@ module _ (m : Machine) (l : Line) (ok : Fits m l) where
       go (no z) =
           let d : s .count + (n′ - s .count) ≡ n′ = omega arith in
           not-stopped m l (s .count + (n′ - s .count)) (s .place) _
-          (stuck-all m l (s .count) (s .place) (h .from) (m .rows) start (always (s .place) (s .row) h) (n′ - s .count))
+          (stuck-all m l (s .count) (s .place) (h .from) spent start (always (s .place) spent (s .row) h q) (n′ - s .count))
           cs k (ap (after m l) d ∙ e′)

@@ -2,12 +2,13 @@
 ghost use mathlib.Core.Path.{_≡_};
 ghost use mathlib.Core.Bool.{cond, not, _&&_};
 ghost use mathlib.Core.Option.{orElse};
-ghost use Prim.Native.Nat.{ℕ, _≤_, _<_, _^_};
+ghost use Prim.Native.Nat.{ℕ, _+_, _*_, _≤_, _<_, _^_};
 ghost use lib.Dec.{leb};
-ghost use lib.ListN.{length};
+ghost use lib.ListN.{length, getD};
+ghost use Rattle.fields.specs.Field.{u16At};
 ghost use Rattle.units.specs.Flags.{setsMark, stays, markClass, currentClass};
 ghost use Rattle.walk.specs.Walk.{give, kindAt, current, walked};
-ghost use Rattle.walk.specs.Line.{machineAt, lineOf, lineKind, lineKinds, padded, handedOut, glyphOf, Sound, Kinds};
+ghost use Rattle.walk.specs.Line.{machineAt, lineOf, lineKind, lineKinds, padded, handedOut, glyphOf, rowPlace, Sound, Kinds};
 
 // A walk that ended, with its count of entries and a class for each glyph of the line; zeros follow.
 // Of a walk that never ends the count is 0 and so is every class.
@@ -16,6 +17,15 @@ pub struct Walked {
     pub count: u32,
     pub classes: [u8; 1024],
 }
+
+// An entry as the table has it: where its new row stands, and its flags.
+struct Met {
+    pub base: usize,
+    pub flags: u16,
+}
+
+// A machine has at most so many rows.
+const ROWS: usize = 256;
 
 // A glyph is named by its place in the line; this is no glyph's place.
 const NONE: usize = 1024;
@@ -45,11 +55,29 @@ pub fn line_kinds(table: &[u8], here: usize, glyphs: &[u16]) -> [u8; 1024]
     kinds
 }
 
-// The row in which a line's walk begins.
-fn first_row(starts: bool) -> usize
-    ensures { λ r. ⌜ r ≡ cond starts 0 1 ⌝ }
+// Where the row stands in which a line's walk begins: the first row where the line starts the text, else the second.
+fn first_base(table: &[u8], here: usize, starts: bool) -> usize
+    requires { ⌜ here < 2 ^ 32 ⌝ }
+    ensures { λ r. ⌜ (r ≡ rowPlace (now (table .entry)) here (cond starts 0 1)) × (r < 2 ^ 34) ⌝ }
 {
-    if starts { 0 } else { 1 }
+    let array = here + fields::u16_at(table, here + 4);
+    if starts {
+        return array;
+    }
+    array + fields::u16_at(table, here)
+}
+
+// The entry that the cell at a position names; entries stand from `entries` on.
+fn entry_by(table: &[u8], here: usize, entries: usize, at: usize) -> Met
+    requires { ⌜ (here < 2 ^ 32) × (entries < 2 ^ 33) ⌝ }
+    ensures { λ r. ⌜ (r .base ≡ here + u16At (now (table .entry)) (entries + 4 * getD (now (table .entry)) at 0)) × (r .base < 2 ^ 34) ⌝ }
+    ensures { λ r. ⌜ r .flags ≡ u16At (now (table .entry)) (entries + 4 * getD (now (table .entry)) at 0 + 2) ⌝ }
+{
+    let entry = entries + 4 * fields::u8_at(table, at);
+    Met {
+        base: here + fields::u16_at(table, entry),
+        flags: fields::u16_at(table, entry + 2) as u16,
+    }
 }
 
 // The class at a place, the end position after the last glyph among them.
@@ -111,28 +139,23 @@ fn stops(flags: u16, place: usize, glyphs: usize) -> bool
     glyphs <= place
 }
 
-// The walk of a line by the machine of `rows` rows, over the machine's classes of the line's glyphs.
-// Once `rows` entries have stayed at one place, a row was met there twice, so the walk never leaves the place.
-pub fn walk_line(
-    table: &[u8],
-    here: usize,
-    rows: usize,
-    kinds: &[u8],
-    starts: bool,
-    ends: bool,
-) -> Walked
-    requires { ⌜ (Sound (now table) here rows) × (Kinds (now table) here (now kinds)) ⌝ }
-    ensures { λ r. ⌜ r ≡ handedOut (walked (machineAt (now (table .entry)) here rows) (lineOf (now (kinds .entry)) starts ends)) ⌝ }
+// The walk of a line by the machine, over the machine's classes of the line's glyphs. A row is known by where it
+// stands. Once 256 entries have stayed at one place, a row was met there twice, since there are no more rows, so the
+// walk never leaves the place.
+pub fn walk_line(table: &[u8], here: usize, kinds: &[u8], starts: bool, ends: bool) -> Walked
+    requires { ⌜ Sound (now table) here × Kinds (now table) here (now kinds) ⌝ }
+    ensures { λ r. ⌜ r ≡ handedOut (walked (machineAt (now (table .entry)) here) (lineOf (now (kinds .entry)) starts ends)) ⌝ }
 {
     let mut classes = [0u8; 1024];
-    let mut row = first_row(starts);
+    let entries = here + fields::u16_at(table, here + 6);
+    let mut base = first_base(table, here, starts);
     let mut place: usize = 0;
     let mut mark: usize = NONE;
     let mut spent: usize = 0;
     let mut count: u32 = 0;
-    while spent < rows {
-        let entry = machine::cell(table, here, row, kind_at(kinds, place, ends));
-        let flags = entry.flags;
+    while spent < ROWS {
+        let met = entry_by(table, here, entries, base + kind_at(kinds, place, ends));
+        let flags = met.flags;
         let glyph = glyph_at(place, kinds.len());
         let marked = mark_after(flags, glyph, mark);
         give_classes(&mut classes, mark, glyph, flags);
@@ -144,7 +167,7 @@ pub fn walk_line(
                 classes,
             };
         }
-        row = entry.row as usize;
+        base = met.base;
         mark = marked;
         count = taken;
         if units::stays_put(flags) {

@@ -1,8 +1,8 @@
-use mathlib.Core.Path.{sym, _∙_}
-use native.Mathlib.Omega.{arith}
-use Rattle.fields.specs.Laws.{then-stop, inside-holds}
-use Rattle.actions.proofs.Steps.{list-many, list-few}
 use Rattle.actions.specs.Faults.{listFault}
+use Rattle.actions.proofs.Steps.{list-many, list-few}
+use Rattle.fields.specs.Laws.{then-stop, inside-holds}
+use native.Mathlib.Omega.{arith}
+use mathlib.Core.Path.{sym, _∙_}
 use borrow.Author.Needs.{needs}
 use Rattle.actions.proofs.list_fault.Statement.{statement}
 use Rattle.actions.proofs.list_fault.Tie as tie
@@ -26,16 +26,25 @@ u32-at-requires c κs = search needs
 returns-2 : tie.Need-returns-2
 returns-2 c = sym (list-many _ _ _ _ (sym (c .before .before .before .before .in-table .ensures) ∙ c .before .before .enum-told2 .given .1) (c .before .u32-at .ensures .0) (c .if1 .taken))
 
+add-actions-are-clear : tie.Need-add-actions-are-clear
+add-actions-are-clear c = omega (arith, inside-holds _ _ _ (sym (c .before .before .before .before .in-table .ensures) ∙ c .before .before .enum-told2 .given .1))
+
+actions-are-clear-requires : tie.Need-actions-are-clear-requires
+actions-are-clear-requires c κs = inside-holds _ _ _ (sym (c .before .before .before .before .in-table .ensures) ∙ c .before .before .enum-told2 .given .1)
+
+returns-3 : tie.Need-returns-3
+returns-3 c = sym (list-few _ _ _ _ (sym (c .before .before .before .before .before .before .in-table .ensures) ∙ c .before .before .before .before .enum-told2 .given .1) (c .before .before .before .u32-at .ensures .0) (c .before .before .if1 .left) ∙ c .before .actions-are-clear .ensures (c .if2 .taken))
+
 add-actions-fault : tie.Need-add-actions-fault
-add-actions-fault c = omega (arith, inside-holds _ _ _ (sym (c .before .before .before .before .in-table .ensures) ∙ c .before .before .enum-told2 .given .1))
+add-actions-fault c = omega (arith, inside-holds _ _ _ (sym (c .before .before .before .before .before .before .in-table .ensures) ∙ c .before .before .before .before .enum-told2 .given .1))
 
 actions-fault-requires : tie.Need-actions-fault-requires
 actions-fault-requires c κs = search needs
 
-returns-3 : tie.Need-returns-3
-returns-3 c =
+returns-4 : tie.Need-returns-4
+returns-4 c =
     c .actions-fault .ensures
-    ∙ sym (list-few _ _ _ _ (sym (c .before .before .before .before .before .in-table .ensures) ∙ c .before .before .before .enum-told2 .given .1) (c .before .before .u32-at .ensures .0) (c .before .if1 .left))
+    ∙ sym (list-few _ _ _ _ (sym (c .before .before .before .before .before .before .before .in-table .ensures) ∙ c .before .before .before .before .before .enum-told2 .given .1) (c .before .before .before .before .u32-at .ensures .0) (c .before .before .before .if1 .left))
 
 pub list-fault-spec : {M : Type 1} → statement M
 list-fault-spec =
@@ -47,6 +56,9 @@ list-fault-spec =
     enum-told-2
     u32-at-requires
     returns-2
+    add-actions-are-clear
+    actions-are-clear-requires
+    returns-3
     add-actions-fault
     actions-fault-requires
-    returns-3)
+    returns-4)

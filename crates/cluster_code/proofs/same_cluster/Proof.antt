@@ -1,8 +1,9 @@
 use Rattle.cluster.specs.Pairs.{pairsAt, clusterAt}
-use Rattle.section.specs.Section.{Says}
+use Rattle.lists.specs.Tests.{Says}
 use Rattle.fields.specs.Field.{u32At}
 use lib.ListN.{length}
-use mathlib.Core.Path.{_≡_, ap, sym, _∙_, subst}
+use native.Mathlib.Omega.{arith}
+use mathlib.Core.Path.{_≡_, ap, subst}
 use Prim.Native.Nat.{ℕ, _+_}
 use Rattle.cluster.proofs.Laws.{cluster-length}
 use borrow.Author.Needs.{needs}
@@ -32,8 +33,9 @@ returns c =
     let m = (c .before .before .before .u32-at) in
     let n = (c .before .before .u32-at2) in
     let r = (c .same-pairs .result) in
+    let e : m .result ≡ u32At t (a .second) = omega (arith, c .before .if1 .taken, n .ensures .0) in
     subst (λ (k : ℕ). Says r (pairsAt t k (a .first + 4) ≡ pairsAt t (u32At t (a .second)) (a .second + 4))) (m .ensures .0)
-    (subst (λ (k : ℕ). Says r (pairsAt t (m .result) (a .first + 4) ≡ pairsAt t k (a .second + 4))) ((c .before .if1 .taken) ∙ n .ensures .0) (c .same-pairs .ensures))
+    (subst (λ (k : ℕ). Says r (pairsAt t (m .result) (a .first + 4) ≡ pairsAt t k (a .second + 4))) e (c .same-pairs .ensures))
 
 returns-2 : tie.Need-returns-2
 returns-2 c =
@@ -41,7 +43,7 @@ returns-2 c =
     let t = a .table .now in
     let m = (c .before .before .u32-at) in
     let n = (c .before .u32-at2) in
-    λ e. (c .if1 .left) (m .ensures .0 ∙ sym (cluster-length t (a .first)) ∙ ap length e ∙ cluster-length t (a .second) ∙ sym (n .ensures .0))
+    λ e. (c .if1 .left) (omega (arith, m .ensures .0, n .ensures .0, cluster-length t (a .first), cluster-length t (a .second), ap length e))
 
 pub same-cluster-spec : {M : Type 1} → statement M
 same-cluster-spec =

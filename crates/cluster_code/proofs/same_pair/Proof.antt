@@ -1,6 +1,6 @@
 use Rattle.cluster_code.proofs.Laws.{same-flagged}
 use Rattle.parts.specs.declared.Pair.{Pair}
-use Rattle.section.specs.Section.{Says}
+use Rattle.lists.specs.Tests.{Says}
 use mathlib.Core.Bool.{Bool}
 use mathlib.Core.Path.{_≡_, ap, subst}
 use borrow.Author.Needs.{needs}

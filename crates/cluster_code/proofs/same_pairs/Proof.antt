@@ -1,7 +1,7 @@
 use borrow.Author.Needs.{needs}
 use Rattle.cluster_code.proofs.Laws.{pairs-none, same-next, next-same}
 use Rattle.cluster.specs.Pairs.{pairsAt}
-use Rattle.section.specs.Section.{Says}
+use Rattle.lists.specs.Tests.{Says}
 use native.Mathlib.Omega.{arith}
 use mathlib.Core.Bool.{Bool}
 use mathlib.Core.Path.{_≡_, sym, _∙_, subst}

@@ -1,7 +1,7 @@
 use borrow.Author.Needs.{needs}
 use Rattle.number.proofs.Laws.{index-hit, index-miss, index-out}
 use Rattle.machine.specs.Cells.{entryAt}
-use Rattle.section.specs.Section.{Says}
+use Rattle.lists.specs.Tests.{Says}
 use Rattle.meaning.specs.Discrete.{Entry-discrete}
 use Rattle.lists.specs.Distinct.{index}
 use lib.ListN.{length, drop}

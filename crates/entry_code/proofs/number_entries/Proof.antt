@@ -4,7 +4,6 @@ use Rattle.entry_code.specs.Entries.{storedAt, distinctOf}
 use Rattle.number.proofs.Laws.{getD-zeros, map-length, last-adds}
 use Rattle.machine.specs.Cells.{entryAt}
 use Rattle.meaning.specs.Discrete.{Entry-discrete}
-use Rattle.parts.specs.declared.Entry.{Entry}
 use Rattle.lists.proofs.DistinctLaws.{index-le}
 use Rattle.lists.specs.Distinct.{index}
 use lib.Seq.{length-take-le}
@@ -172,7 +171,7 @@ returns c =
     record {
       few = l .inv .1;
       found = e;
-      each = (λ j h. ap (λ (d : List Entry). index Entry-discrete (f (getD cells j 0)) d + 1) e ∙ t .known _ (t .passed j (omega arith)) .0);
+      each = (λ j h. omega (arith, ap (index Entry-discrete (f (getD cells j 0))) e, t .known _ (t .passed j (omega arith)) .0));
       within = (λ j h. let w = t .known _ (t .passed j (omega arith)) in omega (arith, w .0, w .1, map-length f (take (l .k) (l .firsts)), length-take-le (l .k) (l .firsts) (omega arith)));
     }
 

@@ -1,4 +1,4 @@
-use Rattle.fields.specs.Laws.{u16At-past}
+use Rattle.fields.specs.Laws.{last-byte}
 use Rattle.fields.specs.Field.{u16At}
 use denote.Ref.{now}
 use native.Mathlib.Omega.{arith}
@@ -12,24 +12,55 @@ u8-at-requires c κs = search needs
 mul-result : tie.Need-mul-result
 mul-result c = search needs
 
-add-u8-at : tie.Need-add-u8-at
-add-u8-at c = search needs
+returns : tie.Need-returns
+returns c = omega (arith, c .u8-at .ensures .0, c .u8-at .ensures .1, last-byte (now (c .before .before .before .args .bytes)) (c .before .before .before .args .at) (omega arith))
+
+sub-if2 : tie.Need-sub-if2
+sub-if2 c = search needs
 
 u8-at-requires-2 : tie.Need-u8-at-requires-2
 u8-at-requires-2 c κs = search needs
 
+mul-result-2 : tie.Need-mul-result-2
+mul-result-2 c = search needs
+
+returns-2 : tie.Need-returns-2
+returns-2 c =
+    omega (arith, c .u8-at2 .ensures .0, c .u8-at2 .ensures .1, last-byte (now (c .before .before .before .before .args .bytes)) (c .before .before .before .before .args .at) (omega arith))
+
+u8-at-requires-3 : tie.Need-u8-at-requires-3
+u8-at-requires-3 c κs = search needs
+
+mul-result-3 : tie.Need-mul-result-3
+mul-result-3 c = search needs
+
+add-u8-at : tie.Need-add-u8-at
+add-u8-at c = search needs
+
+u8-at-requires-4 : tie.Need-u8-at-requires-4
+u8-at-requires-4 c κs = search needs
+
 add-result : tie.Need-add-result
 add-result c = search needs
 
-returns : tie.Need-returns
+returns-3 : tie.Need-returns-3
 unfolding u16At
-returns c = search needs
-
-returns-2 : tie.Need-returns-2
-unfolding u16At
-returns-2 c = omega (arith, u16At-past (now (c .before .before .args .bytes)) (c .before .before .args .at) (c .if1 .left))
+returns-3 c = search needs
 
 pub u16-at-spec : {M : Type 1} → statement M
 u16-at-spec =
     tie.close
-    (tie.spec u8-at-requires mul-result add-u8-at u8-at-requires-2 add-result returns returns-2)
+    (tie.spec
+    u8-at-requires
+    mul-result
+    returns
+    sub-if2
+    u8-at-requires-2
+    mul-result-2
+    returns-2
+    u8-at-requires-3
+    mul-result-3
+    add-u8-at
+    u8-at-requires-4
+    add-result
+    returns-3)

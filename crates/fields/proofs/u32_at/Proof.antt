@@ -1,10 +1,22 @@
-use Rattle.fields.specs.Laws.{u32At-past}
 use Rattle.fields.specs.Field.{u32At}
-use denote.Ref.{now}
-use native.Mathlib.Omega.{arith}
 use borrow.Author.Needs.{needs}
 use Rattle.fields.proofs.u32_at.Statement.{statement}
 use Rattle.fields.proofs.u32_at.Tie as tie
+
+u32-near-end-requires : tie.Need-u32-near-end-requires
+u32-near-end-requires c κs = search needs
+
+returns : tie.Need-returns
+returns c = search needs
+
+sub-if2 : tie.Need-sub-if2
+sub-if2 c = search needs
+
+u32-near-end-requires-2 : tie.Need-u32-near-end-requires-2
+u32-near-end-requires-2 c κs = search needs
+
+returns-2 : tie.Need-returns-2
+returns-2 c = search needs
 
 u16-at-requires : tie.Need-u16-at-requires
 u16-at-requires c κs = search needs
@@ -21,15 +33,22 @@ u16-at-requires-2 c κs = search needs
 add-result : tie.Need-add-result
 add-result c = search needs
 
-returns : tie.Need-returns
+returns-3 : tie.Need-returns-3
 unfolding u32At
-returns c = search needs
-
-returns-2 : tie.Need-returns-2
-unfolding u32At
-returns-2 c = omega (arith, u32At-past (now (c .before .before .args .bytes)) (c .before .before .args .at) (c .if1 .left))
+returns-3 c = search needs
 
 pub u32-at-spec : {M : Type 1} → statement M
 u32-at-spec =
     tie.close
-    (tie.spec u16-at-requires mul-result add-u16-at u16-at-requires-2 add-result returns returns-2)
+    (tie.spec
+    u32-near-end-requires
+    returns
+    sub-if2
+    u32-near-end-requires-2
+    returns-2
+    u16-at-requires
+    mul-result
+    add-u16-at
+    u16-at-requires-2
+    add-result
+    returns-3)

@@ -25,7 +25,7 @@ unfolding itemAt itemCode
 returns c =
     let a = (c .before .before .before .before .args) in
     subst (λ (k : Kind). ((c .cluster-size .result) ≡ length (itemCode k (itemAt k (a .table .now) (a .at)))) × ((c .cluster-size .result) < 2 ^ 52)) (sym (c .before .enum-told .given .1))
-    ((c .cluster-size .ensures .0), omega (arith, (c .cluster-size .ensures .1)))
+    (omega (arith, (c .cluster-size .ensures .0)), omega (arith, (c .cluster-size .ensures .1)))
 
 returns-2 : tie.Need-returns-2
 unfolding itemAt itemCode

@@ -1,6 +1,6 @@
 use Rattle.item.specs.Items.{itemAt}
 use Rattle.values.specs.declared.Kind.{Kind}
-use Rattle.section.specs.Section.{Says}
+use Rattle.lists.specs.Tests.{Says}
 use mathlib.Core.Path.{_≡_, sym, subst}
 use borrow.Author.Needs.{needs}
 use Rattle.item.proofs.same_item.Statement.{statement}

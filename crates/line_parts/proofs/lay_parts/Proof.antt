@@ -1,15 +1,15 @@
 -- `line_parts::lay_parts` meets its contract.
 use native.Mathlib.Omega.{arith}
-use lib.ListN.{length, drop}
-use Prim.Native.Nat.{ℕ, _-_, _≤_, suc}
-use mathlib.Core.List.{_∷_}
-use mathlib.Core.Path.{sym, ap, _∙_, subst}
-use Rattle.share.specs.Line.{Glyph}
+use lib.ListN.{length}
+use Prim.Native.Nat.{ℕ, _-_, _*_, _≤_, _<_, _^_}
+use mathlib.Core.Option.{Option}
+use mathlib.Core.Path.{sym, subst}
+use Rattle.parts.specs.declared.Pair.{Pair}
 use Rattle.table.specs.Means.{meaningOf}
 use Rattle.meaning.specs.Ask.{sideOf}
 use Rattle.lines.specs.Line.{partOf, partsOf}
-use Rattle.line_parts.specs.Parts.{glyphBy, Room}
-use Rattle.line_parts.proofs.Parts.{parts-length, parts-next, Filling, filling-start, filling-on, filling-end}
+use Rattle.line_parts.specs.Parts.{PartOf, Room}
+use Rattle.line_parts.proofs.Parts.{parts-length, parts-next, Filling, filling-start, filling-part, filling-end, not-below}
 use Rattle.line_parts.proofs.lay_parts.Statement.{statement}
 use Rattle.line_parts.proofs.lay_parts.Tie as tie
 
@@ -18,6 +18,9 @@ Inv-loop table count direction shrink size glyphs classes marks₀ extras₀ fir
 
 abbrev μ-loop : tie.MeasureT-loop
 μ-loop table count direction shrink size glyphs classes marks₀ extras₀ first₀ second₀ i₀ marks extras first second i = length glyphs - i
+
+index-small : (i : tie.In-loop Inv-loop μ-loop) → i .before .loop .i * 8 < 2 ^ 64
+index-small i = omega arith
 
 loop-holds : tie.Need-loop-holds Inv-loop μ-loop
 loop-holds c =
@@ -54,24 +57,30 @@ slice-write-extras c =
     let w = c .before .before .before .before .before .loop .inv .1 .room .extras in
     omega arith
 
+plain-requires : tie.Need-plain-requires Inv-loop μ-loop
+plain-requires c κs = not-below _ (c .part-of .ensures .before)
+
 mul-first : tie.Need-mul-first Inv-loop μ-loop
 mul-first c = omega arith
 
 slice-write-first : tie.Need-slice-write-first Inv-loop μ-loop
 slice-write-first c =
-    let a = c .before .before .before .before .before .before .before .before .before .before .before .before .before .args in
-    let q = parts-length (sideOf (a .direction) (meaningOf (a .table .now) (a .count))) (a .shrink) (a .size) (a .glyphs .now) (a .classes .now) (c .before .before .before .before .before .before .before .before .before .before .before .before .before .pre .0 .1) in
-    let w = c .before .before .before .before .before .loop .inv .1 .room .first in
+    let a = c .before .before .before .before .before .before .before .before .before .before .before .before .before .before .args in
+    let q = parts-length (sideOf (a .direction) (meaningOf (a .table .now) (a .count))) (a .shrink) (a .size) (a .glyphs .now) (a .classes .now) (c .before .before .before .before .before .before .before .before .before .before .before .before .before .before .pre .0 .1) in
+    let w = c .before .before .before .before .before .before .loop .inv .1 .room .first in
     omega arith
 
+plain-requires-2 : tie.Need-plain-requires-2 Inv-loop μ-loop
+plain-requires-2 c κs = not-below _ (c .before .part-of .ensures .after)
+
 mul-second : tie.Need-mul-second Inv-loop μ-loop
-mul-second c = omega arith
+mul-second c = record { fits = index-small (c .before .before .before .before .before .before) }
 
 slice-write-second : tie.Need-slice-write-second Inv-loop μ-loop
 slice-write-second c =
-    let a = c .before .before .before .before .before .before .before .before .before .before .before .before .before .args in
-    let q = parts-length (sideOf (a .direction) (meaningOf (a .table .now) (a .count))) (a .shrink) (a .size) (a .glyphs .now) (a .classes .now) (c .before .before .before .before .before .before .before .before .before .before .before .before .before .pre .0 .1) in
-    let w = c .before .before .before .before .before .loop .inv .1 .room .second in
+    let a = c .before .before .before .before .before .before .before .before .before .before .before .before .before .before .before .args in
+    let q = parts-length (sideOf (a .direction) (meaningOf (a .table .now) (a .count))) (a .shrink) (a .size) (a .glyphs .now) (a .classes .now) (c .before .before .before .before .before .before .before .before .before .before .before .before .before .before .before .pre .0 .1) in
+    let w = c .before .before .before .before .before .before .before .loop .inv .1 .room .second in
     omega arith
 
 add-i : tie.Need-add-i Inv-loop μ-loop
@@ -82,11 +91,13 @@ loop-less c = omega arith
 
 loop-again : tie.Need-loop-again Inv-loop μ-loop
 loop-again c =
-    let a = c .before .before .before .before .before .before .before .before .before .before .before .before .before .args in
-    let l = c .before .before .before .before .before .loop in
+    let a = c .before .before .before .before .before .before .before .before .before .before .before .before .before .before .before .args in
+    let p = c .before .before .before .before .before .before .before .before .before .before .before .before .before .before .before .pre in
+    let l = c .before .before .before .before .before .before .before .loop in
     let s = sideOf (a .direction) (meaningOf (a .table .now) (a .count)) in
-    let q = parts-length s (a .shrink) (a .size) (a .glyphs .now) (a .classes .now) (c .before .before .before .before .before .before .before .before .before .before .before .before .before .pre .0 .1) in
-    (omega arith, filling-on (glyphBy (c .part-of .result)) (l .inv .1) (omega arith) (parts-next s (a .shrink) (a .size) (a .glyphs .now) (a .classes .now) (l .i) (c .before .before .before .before .before .before .before .before .before .before .before .before .before .pre .0 .1) (omega arith) ∙ ap (λ (g : Glyph). g ∷ drop (suc (l .i)) (partsOf s (a .shrink) (a .size) (a .glyphs .now) (a .classes .now))) (sym (c .part-of .ensures ∙ ap (partOf (a .shrink) (a .size)) (c .before .record-for .ensures .0)))))
+    let q = parts-length s (a .shrink) (a .size) (a .glyphs .now) (a .classes .now) (p .0 .1) in
+    let w = subst (λ (o : Option Pair). PartOf (c .before .before .part-of .result) (partOf (a .shrink) (a .size) o)) (c .before .before .before .record-for .ensures .0) (c .before .before .part-of .ensures) in
+    (omega arith, filling-part w (c .before .plain .ensures) (c .plain2 .ensures) (l .inv .1) (omega arith) (parts-next s (a .shrink) (a .size) (a .glyphs .now) (a .classes .now) (l .i) (p .0 .1) (omega arith)))
 
 same-length : tie.Need-same-length Inv-loop μ-loop
 same-length c =
@@ -140,8 +151,10 @@ lay-parts-spec =
     part-of-requires
     slice-write-marks
     slice-write-extras
+    plain-requires
     mul-first
     slice-write-first
+    plain-requires-2
     mul-second
     slice-write-second
     add-i

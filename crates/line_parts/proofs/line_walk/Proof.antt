@@ -2,11 +2,11 @@
 use Rattle.line_parts.proofs.Walks.{no-walk, a-walk, machine-clear, sound, kinds, kinds-padded}
 use native.Mathlib.Omega.{arith}
 use lib.ListN.{length, length-map}
-use Prim.Native.Nat.{ℕ, _+_}
+use Prim.Native.Nat.{ℕ, _+_, _<_, _^_}
 use mathlib.Core.List.{List}
-use mathlib.Core.Path.{refl, sym, ap, ap₂, _∙_, subst}
+use mathlib.Core.Path.{refl, sym, ap, _∙_, subst}
 use Rattle.walk.specs.Walk.{walked}
-use Rattle.walk.specs.Line.{handedOut, lineOf, machineAt, lineKind, Sound, Kinds}
+use Rattle.walk.specs.Line.{handedOut, lineOf, machineAt, lineKind, Kinds}
 use Rattle.walk.proofs.Line.{handed-none}
 use borrow.Author.Needs.{needs}
 use Rattle.line_parts.proofs.line_walk.Statement.{statement}
@@ -23,9 +23,6 @@ returns c =
 add-here : tie.Need-add-here
 add-here c = search needs
 
-row-count-requires : tie.Need-row-count-requires
-row-count-requires c κs = search needs
-
 line-kinds-requires : tie.Need-line-kinds-requires
 line-kinds-requires c κs = search needs
 
@@ -34,21 +31,31 @@ array-share-prefix-kinds c = search needs
 
 slice-aggregate-walk-line : tie.Need-slice-aggregate-walk-line
 slice-aggregate-walk-line c =
-    let a = c .before .before .before .before .before .before .before .args in
-    sym (ap length (kinds-padded (a .table .now) (c .before .before .before .before .machine-in .result + 8) (a .glyphs .now) (c .before .line-kinds .ensures)) ∙ length-map (a .glyphs .now) (lineKind (a .table .now) (c .before .before .before .before .machine-in .result + 8)))
+    let a = c .before .before .before .before .before .before .args in
+    let o = c .before .before .before .machine-in .result in
+    sym (ap length (kinds-padded (a .table .now) (o + 8) (a .glyphs .now) (c .before .line-kinds .ensures)) ∙ length-map (a .glyphs .now) (lineKind (a .table .now) (o + 8)))
 
 walk-line-requires : tie.Need-walk-line-requires
 walk-line-requires c κs =
-    let a = c .before .before .before .before .before .before .before .args in
-    let o = c .before .before .before .before .machine-in .result in
-    let clear = machine-clear (a .table .now) (a .count) (a .direction) o (c .before .before .before .before .machine-in .ensures .0) (c .before .before .before .before .before .before .before .pre .0 .0) (c .before .before .before .if1 .left) in
-    (subst (Sound (a .table .now) (o + 8)) (sym (c .before .before .row-count .ensures)) (sound (a .table .now) (a .count) (o + 8) (omega (arith, c .before .before .before .before .machine-in .ensures .1)) clear), subst (Kinds (a .table .now) (o + 8)) (sym (kinds-padded (a .table .now) (o + 8) (a .glyphs .now) (c .before .line-kinds .ensures))) (kinds (a .table .now) (a .count) (o + 8) (omega (arith, c .before .before .before .before .machine-in .ensures .1)) clear (a .glyphs .now) (c .before .before .before .before .before .before .before .pre .0 .1) (c .before .before .before .before .before .before .before .pre .1)))
+    let a = c .before .before .before .before .before .before .args in
+    let p = c .before .before .before .before .before .before .pre in
+    let m = c .before .before .before .machine-in in
+    let o = m .result in
+    let clear = machine-clear (a .table .now) (a .count) (a .direction) o (m .ensures .0) (p .0 .0) (c .before .before .if1 .left) in
+    let near : o + 8 < 2 ^ 32 = omega (arith, m .ensures .1) in (
+      sound (a .table .now) (a .count) (o + 8) near clear,
+      subst (Kinds (a .table .now) (o + 8)) (sym (kinds-padded (a .table .now) (o + 8) (a .glyphs .now) (c .before .line-kinds .ensures))) (kinds (a .table .now) (a .count) (o + 8) near clear (a .glyphs .now) (p .0 .1) (p .1)),
+    )
 
 returns-2 : tie.Need-returns-2
 returns-2 c =
-    let a = c .before .before .before .before .before .before .before .before .args in
-    let o = c .before .before .before .before .before .machine-in .result in
-    c .walk-line .ensures ∙ ap handedOut (ap₂ (λ (s : ℕ) (ks : List ℕ). walked (machineAt (a .table .now) (o + 8) s) (lineOf ks (a .starts) (a .ends))) (c .before .before .before .row-count .ensures) (kinds-padded (a .table .now) (o + 8) (a .glyphs .now) (c .before .before .line-kinds .ensures)) ∙ a-walk (a .table .now) (a .count) (a .direction) o (c .before .before .before .before .before .machine-in .ensures .0) (c .before .before .before .before .if1 .left) (omega (arith, c .before .before .before .before .before .machine-in .ensures .1)) (c .before .before .before .before .before .before .before .before .pre .0 .0) (a .glyphs .now) (c .before .before .before .before .before .before .before .before .pre .0 .1) (c .before .before .before .before .before .before .before .before .pre .1) (a .starts) (a .ends))
+    let a = c .before .before .before .before .before .before .before .args in
+    let p = c .before .before .before .before .before .before .before .pre in
+    let m = c .before .before .before .before .machine-in in
+    let o = m .result in
+    c .walk-line .ensures
+    ∙ ap handedOut (ap (λ (ks : List ℕ). walked (machineAt (a .table .now) (o + 8)) (lineOf ks (a .starts) (a .ends))) (kinds-padded (a .table .now) (o + 8) (a .glyphs .now) (c .before .before .line-kinds .ensures))
+    ∙ a-walk (a .table .now) (a .count) (a .direction) o (m .ensures .0) (c .before .before .before .if1 .left) (omega (arith, m .ensures .1)) (p .0 .0) (a .glyphs .now) (p .0 .1) (p .1) (a .starts) (a .ends))
 
 pub line-walk-spec : {M : Type 1} → statement M
 line-walk-spec =
@@ -57,7 +64,6 @@ line-walk-spec =
     machine-in-requires
     returns
     add-here
-    row-count-requires
     line-kinds-requires
     array-share-prefix-kinds
     slice-aggregate-walk-line

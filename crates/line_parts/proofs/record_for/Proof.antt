@@ -14,8 +14,11 @@ cluster-spot-requires c κs = search needs
 enum-known-at : tie.Need-enum-known-at
 enum-known-at c = search needs
 
-record-of-requires : tie.Need-record-of-requires
-record-of-requires c κs = omega (arith, below-at (c .before .at .given .1) (c .before .before .before .cluster-spot .ensures .1))
+cast-record-by : tie.Need-cast-record-by
+cast-record-by c = omega (arith, below-at (c .before .at .given .1) (c .before .before .before .cluster-spot .ensures .1))
+
+record-by-requires : tie.Need-record-by-requires
+record-by-requires c κs = search needs
 
 enum-told : tie.Need-enum-told
 enum-told c = search needs
@@ -23,7 +26,7 @@ enum-told c = search needs
 returns : tie.Need-returns
 returns c =
     let a = c .before .before .before .before .before .before .args in
-    let e = c .record-of .ensures ∙ record-is (a .table .now) (a .count) (a .direction) (a .glyph) (a .class) (sym (c .before .before .at .given .1) ∙ c .before .before .before .before .cluster-spot .ensures .0) in
+    let e = c .record-by .ensures ∙ record-is (a .table .now) (a .count) (a .direction) (a .glyph) (a .class) (sym (c .before .before .at .given .1) ∙ c .before .before .before .before .cluster-spot .ensures .0) in
     (e, subst Small (sym e) (record-limits (a .table .now) (a .count) (a .direction) (λ i. c .before .before .before .before .before .shared-slice-known .given i .fits) (c .before .before .before .before .before .before .pre) (a .glyph) (a .class)))
 
 returns-2 : tie.Need-returns-2
@@ -34,4 +37,4 @@ returns-2 c =
 pub record-for-spec : {M : Type 1} → statement M
 record-for-spec =
     tie.close
-    (tie.spec cluster-spot-requires enum-known-at record-of-requires enum-told returns returns-2)
+    (tie.spec cluster-spot-requires enum-known-at cast-record-by record-by-requires enum-told returns returns-2)

@@ -10,31 +10,30 @@ array-borrow-prefix-marks : tie.Need-array-borrow-prefix-marks
 array-borrow-prefix-marks c = search needs
 
 slice-aggregate-share-parts : tie.Need-slice-aggregate-share-parts
-slice-aggregate-share-parts c = zeros-length 1024 (length (c .before .before .before .before .args .glyphs .now)) (c .before .before .before .before .pre .1 .2)
+slice-aggregate-share-parts c = zeros-length 128 (length (c .before .before .before .before .before .args .glyphs .now)) (c .before .if1 .taken)
 
 array-borrow-prefix-extras : tie.Need-array-borrow-prefix-extras
 array-borrow-prefix-extras c = search needs
 
 slice-aggregate-share-parts-2 : tie.Need-slice-aggregate-share-parts-2
-slice-aggregate-share-parts-2 c = zeros-length 1024 (length (c .before .before .before .before .before .args .glyphs .now)) (c .before .before .before .before .before .pre .1 .2)
+slice-aggregate-share-parts-2 c = zeros-length 128 (length (c .before .before .before .before .before .before .args .glyphs .now)) (c .before .before .if1 .taken)
 
 array-borrow-prefix-first : tie.Need-array-borrow-prefix-first
 array-borrow-prefix-first c = search needs
 
 slice-aggregate-share-parts-3 : tie.Need-slice-aggregate-share-parts-3
-slice-aggregate-share-parts-3 c = zeros-length 1024 (length (c .before .before .before .before .before .before .args .glyphs .now)) (c .before .before .before .before .before .before .pre .1 .2)
+slice-aggregate-share-parts-3 c = zeros-length 128 (length (c .before .before .before .before .before .before .before .args .glyphs .now)) (c .before .before .before .if1 .taken)
 
 array-borrow-prefix-second : tie.Need-array-borrow-prefix-second
 array-borrow-prefix-second c = search needs
 
 slice-aggregate-share-parts-4 : tie.Need-slice-aggregate-share-parts-4
-slice-aggregate-share-parts-4 c = zeros-length 1024 (length (c .before .before .before .before .before .before .before .args .glyphs .now)) (c .before .before .before .before .before .before .before .pre .1 .2)
+slice-aggregate-share-parts-4 c = zeros-length 128 (length (c .before .before .before .before .before .before .before .before .args .glyphs .now)) (c .before .before .before .before .if1 .taken)
 
 share-parts-requires : tie.Need-share-parts-requires
 share-parts-requires c κs =
-    let p = c .before .before .before .before .before .before .before .before .before .pre in
-    let n = length (c .before .before .before .before .before .before .before .before .before .args .glyphs .now) in
-    let z = sym (zeros-length 1024 n (p .1 .2)) in
+    let p = c .before .before .before .before .before .before .before .before .before .before .pre in
+    let z = sym (zeros-length 128 (length (c .before .before .before .before .before .before .before .before .before .before .args .glyphs .now)) (c .before .before .before .before .before .before .if1 .taken)) in
     (p .0, (record { marks = z; extras = z; first = z; second = z }, p .1))
 
 same-length : tie.Need-same-length
@@ -45,6 +44,45 @@ same-length-2 c = search needs
 
 returns : tie.Need-returns
 returns c = search needs
+
+array-borrow-prefix-marks-2 : tie.Need-array-borrow-prefix-marks-2
+array-borrow-prefix-marks-2 c = search needs
+
+slice-aggregate-share-parts-5 : tie.Need-slice-aggregate-share-parts-5
+slice-aggregate-share-parts-5 c = zeros-length 1024 (length (c .before .before .before .before .before .args .glyphs .now)) (c .before .before .before .before .before .pre .1 .2)
+
+array-borrow-prefix-extras-2 : tie.Need-array-borrow-prefix-extras-2
+array-borrow-prefix-extras-2 c = search needs
+
+slice-aggregate-share-parts-6 : tie.Need-slice-aggregate-share-parts-6
+slice-aggregate-share-parts-6 c = zeros-length 1024 (length (c .before .before .before .before .before .before .args .glyphs .now)) (c .before .before .before .before .before .before .pre .1 .2)
+
+array-borrow-prefix-first-2 : tie.Need-array-borrow-prefix-first-2
+array-borrow-prefix-first-2 c = search needs
+
+slice-aggregate-share-parts-7 : tie.Need-slice-aggregate-share-parts-7
+slice-aggregate-share-parts-7 c = zeros-length 1024 (length (c .before .before .before .before .before .before .before .args .glyphs .now)) (c .before .before .before .before .before .before .before .pre .1 .2)
+
+array-borrow-prefix-second-2 : tie.Need-array-borrow-prefix-second-2
+array-borrow-prefix-second-2 c = search needs
+
+slice-aggregate-share-parts-8 : tie.Need-slice-aggregate-share-parts-8
+slice-aggregate-share-parts-8 c = zeros-length 1024 (length (c .before .before .before .before .before .before .before .before .args .glyphs .now)) (c .before .before .before .before .before .before .before .before .pre .1 .2)
+
+share-parts-requires-2 : tie.Need-share-parts-requires-2
+share-parts-requires-2 c κs =
+    let p = c .before .before .before .before .before .before .before .before .before .before .pre in
+    let z = sym (zeros-length 1024 (length (c .before .before .before .before .before .before .before .before .before .before .args .glyphs .now)) (p .1 .2)) in
+    (p .0, (record { marks = z; extras = z; first = z; second = z }, p .1))
+
+same-length-3 : tie.Need-same-length-3
+same-length-3 c = search needs
+
+same-length-4 : tie.Need-same-length-4
+same-length-4 c = search needs
+
+returns-2 : tie.Need-returns-2
+returns-2 c = search needs
 
 pub share-glyphs-spec : {M : Type 1} → statement M
 share-glyphs-spec =
@@ -61,4 +99,16 @@ share-glyphs-spec =
     share-parts-requires
     same-length
     same-length-2
-    returns)
+    returns
+    array-borrow-prefix-marks-2
+    slice-aggregate-share-parts-5
+    array-borrow-prefix-extras-2
+    slice-aggregate-share-parts-6
+    array-borrow-prefix-first-2
+    slice-aggregate-share-parts-7
+    array-borrow-prefix-second-2
+    slice-aggregate-share-parts-8
+    share-parts-requires-2
+    same-length-3
+    same-length-4
+    returns-2)

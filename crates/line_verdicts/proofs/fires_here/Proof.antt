@@ -1,26 +1,60 @@
-use Rattle.actions.specs.Actions.{actionAt, clipped}
-use Rattle.actions.proofs.Laws.{clipped-same}
-use Rattle.verdict.proofs.Laws.{held-fires}
-use Rattle.verdict.specs.Verdict.{firesOf, heldFires}
-use Rattle.meaning.specs.Meaning.{Action}
-use Rattle.parts.specs.declared.HeldAction.{HeldAction}
-use mathlib.Core.Path.{ap, _∙_}
+use Prim.Native.Nat.{_+_}
+use mathlib.Core.Path.{sym, _∙_}
+use Rattle.line_verdicts.proofs.Laws.{other-class, own-class, rest-whole}
 use borrow.Author.Needs.{needs}
 use Rattle.line_verdicts.proofs.fires_here.Statement.{statement}
 use Rattle.line_verdicts.proofs.fires_here.Tie as tie
 
-action-at-requires : tie.Need-action-at-requires
-action-at-requires c κs = search needs
-
-action-fires-requires : tie.Need-action-fires-requires
-action-fires-requires c κs = search needs
+u16-at-requires : tie.Need-u16-at-requires
+u16-at-requires c κs = search needs
 
 returns : tie.Need-returns
-returns c = let a = c .before .before .before .args in
-    c .action-fires .ensures
-    ∙ ap (λ (h : HeldAction). heldFires h (a .class) (a .growth .0) (a .size)) (c .before .action-at .ensures)
-    ∙ held-fires (clipped (actionAt (a .table .now) (a .at))) (a .class) (a .growth .0) (a .size)
-    ∙ ap (λ (x : Action). firesOf x (a .class) (a .growth .0) (a .size)) (clipped-same (actionAt (a .table .now) (a .at)) (c .before .before .before .pre .1))
+returns c =
+    let a = c .before .before .before .args in
+    other-class (a .table .now) (a .at) (a .class) (a .growth .0) (a .size) (λ e. c .if1 .taken (c .before .u16-at .ensures .0 ∙ e))
+
+add-u16-at : tie.Need-add-u16-at
+add-u16-at c = search needs
+
+u16-at-requires-2 : tie.Need-u16-at-requires-2
+u16-at-requires-2 c κs = search needs
+
+cast-kind : tie.Need-cast-kind
+cast-kind c = search needs
+
+add-kind-fires : tie.Need-add-kind-fires
+add-kind-fires c = search needs
+
+sub-kind-fires : tie.Need-sub-kind-fires
+sub-kind-fires c = search needs
+
+part-kind-fires-start : tie.Need-part-kind-fires-start
+part-kind-fires-start c = search needs
+
+part-kind-fires-end : tie.Need-part-kind-fires-end
+part-kind-fires-end c = search needs
+
+kind-fires-requires : tie.Need-kind-fires-requires
+kind-fires-requires c κs = search needs
+
+returns-2 : tie.Need-returns-2
+returns-2 c =
+    let a = c .before .before .before .before .before .before .args in
+    own-class (a .table .now) (a .at) (a .class) (a .growth .0) (a .size) (c .kind-fires .ensures) (sym (c .before .before .before .before .u16-at .ensures .0) ∙ c .before .before .before .if1 .left) (c .before .before .u16-at2 .ensures .0)
+    (rest-whole (a .table .now) (a .at + 8))
 
 pub fires-here-spec : {M : Type 1} → statement M
-fires-here-spec = tie.close (tie.spec action-at-requires action-fires-requires returns)
+fires-here-spec =
+    tie.close
+    (tie.spec
+    u16-at-requires
+    returns
+    add-u16-at
+    u16-at-requires-2
+    cast-kind
+    add-kind-fires
+    sub-kind-fires
+    part-kind-fires-start
+    part-kind-fires-end
+    kind-fires-requires
+    returns-2)

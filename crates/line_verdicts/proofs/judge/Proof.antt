@@ -1,4 +1,4 @@
-use Rattle.line_verdicts.proofs.Laws.{hand-inside, hand-whole, hand-begun}
+use Rattle.line_verdicts.proofs.Laws.{hand-inside, hand-begun}
 use Rattle.line_verdicts.specs.Cursor.{stepOf, judgedAt}
 use Rattle.verdict.specs.declared.Fires.{Fires}
 use native.Mathlib.Omega.{arith}
@@ -10,7 +10,7 @@ use Rattle.line_verdicts.proofs.judge.Tie as tie
 
 fires-here-requires : tie.Need-fires-here-requires
 fires-here-requires c κs = let a = c .before .args in let s = c .before .pre in
-    (omega (arith, hand-inside (a .table .now) (a .cursor) 65536 (s .0) (s .1), s .0 .short), hand-whole (a .table .now) (a .cursor) 65536 (s .0) (s .1) (λ i. c .shared-slice-known .given i .fits))
+    hand-inside (a .table .now) (a .cursor) 65536 (s .0) (s .1)
 
 add-step-of : tie.Need-add-step-of
 add-step-of c = search needs

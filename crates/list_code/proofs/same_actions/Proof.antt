@@ -1,7 +1,7 @@
 use borrow.Author.Needs.{needs}
 use Rattle.list_code.proofs.Laws.{near, same-next, next-same, first-same, actions-none}
 use Rattle.actions.specs.Actions.{actionAt, actionsAt}
-use Rattle.section.specs.Section.{Says}
+use Rattle.lists.specs.Tests.{Says}
 use native.Mathlib.Omega.{arith}
 use mathlib.Core.Bool.{Bool}
 use mathlib.Core.Path.{_≡_, sym, _∙_, subst}

@@ -1,6 +1,6 @@
 use Rattle.actions.proofs.Laws.{list-length}
 use Rattle.actions.specs.Actions.{actionsAt, listAt}
-use Rattle.section.specs.Section.{Says}
+use Rattle.lists.specs.Tests.{Says}
 use Rattle.fields.specs.Field.{u32At}
 use lib.ListN.{length}
 use mathlib.Core.Path.{_≡_, ap, sym, _∙_, subst}

@@ -1,15 +1,8 @@
 use Rattle.machine.specs.Machine.{classFault}
 use Rattle.fields.specs.Laws.{then-of}
-use mathlib.Core.Path.{_≡_, refl, sym, ap, _∙_}
 use borrow.Author.Needs.{needs}
 use Rattle.machine.proofs.class_fault.Statement.{statement}
 use Rattle.machine.proofs.class_fault.Tie as tie
-
-class-is-clear-requires : tie.Need-class-is-clear-requires
-class-is-clear-requires c κs = search needs
-
-returns : tie.Need-returns
-returns c = sym (c .before .class-is-clear .ensures (c .if1 .taken))
 
 in-table-requires : tie.Need-in-table-requires
 in-table-requires c κs = search needs
@@ -26,19 +19,17 @@ ruled-requires c κs = search needs
 then-requires : tie.Need-then-requires
 then-requires c κs = search needs
 
-returns-2 : tie.Need-returns-2
+returns : tie.Need-returns
 unfolding classFault
-returns-2 c = then-of (c .then .ensures) (c .before .before .before .before .in-table .ensures) (rw (c .before .before .before .u8-at .ensures .0, c .before .before .u16-at .ensures .0) at (c .before .ruled .ensures))
+returns c = then-of (c .then .ensures) (c .before .before .before .before .in-table .ensures) (rw (c .before .before .before .u8-at .ensures .0, c .before .before .u16-at .ensures .0) at (c .before .ruled .ensures))
 
 pub class-fault-spec : {M : Type 1} → statement M
 class-fault-spec =
     tie.close
     (tie.spec
-    class-is-clear-requires
-    returns
     in-table-requires
     u8-at-requires
     u16-at-requires
     ruled-requires
     then-requires
-    returns-2)
+    returns)

@@ -13,6 +13,12 @@ Inv-loop table here first count at₀ left₀ at left = classesFault table here 
 abbrev μ-loop : tie.MeasureT-loop
 μ-loop table here first count at₀ left₀ at left = left
 
+classes-are-clear-requires : tie.Need-classes-are-clear-requires Inv-loop μ-loop
+classes-are-clear-requires c κs = search needs
+
+returns : tie.Need-returns Inv-loop μ-loop
+returns c = sym (c .before .classes-are-clear .ensures (c .if1 .taken))
+
 loop-holds : tie.Need-loop-holds Inv-loop μ-loop
 loop-holds c = refl
 
@@ -22,8 +28,8 @@ class-fault-requires c κs = search needs
 enum-told : tie.Need-enum-told Inv-loop μ-loop
 enum-told c = search needs
 
-returns : tie.Need-returns Inv-loop μ-loop
-returns c =
+returns-2 : tie.Need-returns-2 Inv-loop μ-loop
+returns-2 c =
     let fault = c .before .before .class-fault .ensures in
     fault ∙ sym (c .before .before .before .before .loop .inv ∙ walk-stop _ _ _ _ _ _ (c .before .before .before .loop-test .taken) (sym fault ∙ c .enum-told .given .1))
 
@@ -43,8 +49,8 @@ loop-again : tie.Need-loop-again Inv-loop μ-loop
 loop-again c =
     c .before .before .before .before .loop .inv ∙ walk-next _ _ _ _ _ _ _ _ (c .before .before .before .loop-test .taken) (sym (c .before .before .class-fault .ensures) ∙ c .enum-told2 .given .1) refl refl
 
-returns-2 : tie.Need-returns-2 Inv-loop μ-loop
-returns-2 c = sym (c .before .loop .inv ∙ walk-none _ _ _ _ _ _ (c .loop-test .left))
+returns-3 : tie.Need-returns-3 Inv-loop μ-loop
+returns-3 c = sym (c .before .loop .inv ∙ walk-none _ _ _ _ _ _ (c .loop-test .left))
 
 pub classes-fault-spec : {M : Type 1} → statement M
 classes-fault-spec =
@@ -52,13 +58,15 @@ classes-fault-spec =
     (tie.spec
     Inv-loop
     μ-loop
+    classes-are-clear-requires
+    returns
     loop-holds
     class-fault-requires
     enum-told
-    returns
+    returns-2
     enum-told-2
     add-at
     sub-left
     loop-less
     loop-again
-    returns-2)
+    returns-3)

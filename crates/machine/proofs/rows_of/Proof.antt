@@ -17,15 +17,15 @@ abbrev μ-loop : tie.MeasureT-loop
 loop-holds : tie.Need-loop-holds Inv-loop μ-loop
 loop-holds c = (refl, omega arith)
 
-row-cells-requires : tie.Need-row-cells-requires Inv-loop μ-loop
-row-cells-requires c κs = search needs
+row-scan-requires : tie.Need-row-scan-requires Inv-loop μ-loop
+row-scan-requires c κs = search needs
 
 enum-told : tie.Need-enum-told Inv-loop μ-loop
 enum-told c = search needs
 
 returns : tie.Need-returns Inv-loop μ-loop
 returns c =
-    let scan = c .before .before .row-cells .ensures in
+    let scan = c .before .before .row-scan .ensures in
     scan ∙ sym (c .before .before .before .before .loop .inv .0 ∙ rows-stop _ _ _ _ _ (omega arith) (c .before .before .before .loop-test .taken) (sym scan ∙ c .enum-told .given .1))
 
 enum-told-2 : tie.Need-enum-told-2 Inv-loop μ-loop
@@ -43,7 +43,7 @@ loop-less c = search needs
 loop-again : tie.Need-loop-again Inv-loop μ-loop
 loop-again c =
     let told = c .before .enum-told2 .given .1 in
-    let scan = sym (c .before .before .before .row-cells .ensures) ∙ told in
+    let scan = sym (c .before .before .before .row-scan .ensures) ∙ told in
     let count = c .count-of .ensures ∙ ap countOf told in (
       c .before .before .before .before .before .loop .inv .0 ∙ rows-next _ _ _ _ _ _ _ _ (c .before .before .before .before .loop-test .taken) scan count (omega arith),
       omega (arith, count, rows-within _ _ _ _ _ (c .before .before .before .before .before .loop .inv .1) scan),
@@ -59,7 +59,7 @@ rows-of-spec =
     Inv-loop
     μ-loop
     loop-holds
-    row-cells-requires
+    row-scan-requires
     enum-told
     returns
     enum-told-2

@@ -35,7 +35,7 @@ sort-returns : (t : ℕ) → sort-lts.Need-returns (
   copy-reads.Asked,
   copy-reads.Learnt,
 ) (sort-at t) sort.Post
-sort-returns t c = sorted-short _ _ _ (c .if1 .taken)
+sort-returns t c = sorted-short _ _ _ (omega (arith, c .if1 .taken))
 
 sort-slice-relend-prefix-sort : (t : ℕ) → sort-lts.Need-slice-relend-prefix-sort (
   sort-below t,

@@ -1,41 +1,42 @@
 -- `order::distinct` meets its contract. Assumes nothing.
-use Prim.Native.Nat.{ℕ, _≤_}
-use mathlib.Core.Path.{refl, sym, subst}
+use native.Mathlib.Omega.{arith}
 use borrow.Author.Needs.{needs}
-use Rattle.section.specs.Section.{Says}
-use Rattle.order.specs.Order.{stretch, Apart, countFrom}
-use Rattle.order.proofs.HalvesLaws.{room}
+use Rattle.order.specs.Order.{stretch}
+use Rattle.order.proofs.ThinLaws.{apart-one}
 use Rattle.order.proofs.distinct.Statement.{statement}
 use Rattle.order.proofs.distinct.Tie as tie
 
-array-borrow-prefix-numbers : tie.Need-array-borrow-prefix-numbers
-array-borrow-prefix-numbers c = search needs
-
-slice-aggregate-distinct-in : tie.Need-slice-aggregate-distinct-in
-slice-aggregate-distinct-in c = sym (room (c .before .before .before .args .count) 65536 0 (c .before .before .before .pre))
-
-array-borrow-prefix-room : tie.Need-array-borrow-prefix-room
-array-borrow-prefix-room c = search needs
-
-slice-aggregate-distinct-in-2 : tie.Need-slice-aggregate-distinct-in-2
-slice-aggregate-distinct-in-2 c = sym (room (c .before .before .before .before .args .count) 65536 0 (c .before .before .before .before .pre))
-
-distinct-in-requires : tie.Need-distinct-in-requires
-distinct-in-requires c κs =
-    let e = room (c .before .before .before .before .args .count) 65536 0 (c .before .before .before .before .pre) in
-    (subst (λ (k : ℕ). k ≤ 65536) (sym e) (c .before .before .before .before .pre), refl)
-
 returns : tie.Need-returns
-returns c = let a = c .before .before .before .before .before .before .before .args in
-    subst (λ (k : ℕ). Says (c .before .before .distinct-in .result) (Apart (stretch (a .bytes .now) (a .marks .now)) (countFrom 0 k))) (room (a .count) 65536 0 (c .before .before .before .before .before .before .before .pre)) (c .before .before .distinct-in .ensures)
+returns c =
+    let a = c .before .before .before .args in
+    apart-one (stretch (a .bytes .now) (a .marks .now)) (a .count) (omega arith)
+
+distinct-few-requires : tie.Need-distinct-few-requires
+distinct-few-requires c κs = search needs
+
+returns-2 : tie.Need-returns-2
+returns-2 c = search needs
+
+distinct-some-requires : tie.Need-distinct-some-requires
+distinct-some-requires c κs = search needs
+
+returns-3 : tie.Need-returns-3
+returns-3 c = search needs
+
+distinct-many-requires : tie.Need-distinct-many-requires
+distinct-many-requires c κs = search needs
+
+returns-4 : tie.Need-returns-4
+returns-4 c = search needs
 
 pub distinct-spec : {M : Type 1} → statement M
 distinct-spec =
     tie.close
     (tie.spec
-    array-borrow-prefix-numbers
-    slice-aggregate-distinct-in
-    array-borrow-prefix-room
-    slice-aggregate-distinct-in-2
-    distinct-in-requires
-    returns)
+    returns
+    distinct-few-requires
+    returns-2
+    distinct-some-requires
+    returns-3
+    distinct-many-requires
+    returns-4)

@@ -1,22 +1,32 @@
--- `order::distinct_in` meets its contract. Sorted numbers have the answer of the unsorted ones. Assumes nothing.
-use Prim.Native.Nat.{ℕ}
-use mathlib.Core.Path.{subst}
-use mathlib.Core.List.{List}
+-- `order::distinct_in` meets its contract. What is left to compare has the answer of all. Assumes nothing.
+use mathlib.Core.Path.{sym, _∙_}
+use native.Mathlib.Omega.{arith}
+use lib.Seq.{length-take-le}
 use borrow.Author.Needs.{needs}
-use Rattle.section.specs.Section.{Says}
-use Rattle.order.specs.Order.{stretch, Apart}
-use Rattle.order.proofs.HalvesLaws.{says-apart}
+use Rattle.order.specs.Order.{stretch}
+use Rattle.order.proofs.ThinLaws.{says-thinned}
 use Rattle.order.proofs.distinct_in.Statement.{statement}
 use Rattle.order.proofs.distinct_in.Tie as tie
 
-count-up-requires : tie.Need-count-up-requires
-count-up-requires c κs = search needs
+thin-requires : tie.Need-thin-requires
+thin-requires c κs = search needs
 
-sort-requires : tie.Need-sort-requires
-sort-requires c κs = search needs
+slice-relend-prefix-apart : tie.Need-slice-relend-prefix-apart
+slice-relend-prefix-apart c = search needs
 
-rising-requires : tie.Need-rising-requires
-rising-requires c κs = search needs
+slice-aggregate-apart : tie.Need-slice-aggregate-apart
+slice-aggregate-apart c = sym (length-take-le _ _ (omega arith))
+
+slice-relend-prefix-apart-2 : tie.Need-slice-relend-prefix-apart-2
+slice-relend-prefix-apart-2 c = search needs
+
+slice-aggregate-apart-2 : tie.Need-slice-aggregate-apart-2
+slice-aggregate-apart-2 c = sym (length-take-le _ _ (omega arith))
+
+apart-requires : tie.Need-apart-requires
+apart-requires c κs =
+    let t = c .before .before .before .before .before .before .thin in
+    length-take-le (t .result) (t .last .1 .1 .1 .1 .0) (omega arith) ∙ sym (length-take-le (t .result) (t .last .1 .1 .1 .0) (omega arith))
 
 same-length : tie.Need-same-length
 same-length c = search needs
@@ -26,11 +36,19 @@ same-length-2 c = search needs
 
 returns : tie.Need-returns
 returns c =
-    let a = c .before .before .before .before .before .before .before .before .before .before .before .before .before .before .before .before .before .args in
-    subst (λ (l : List ℕ). Says (c .rising .result) (Apart (stretch (a .bytes .now) (a .marks .now)) l)) (c .before .before .before .before .before .before .before .before .before .before .before .count-up .ensures)
-    (says-apart (a .bytes .now) (a .marks .now) _ _ (c .rising .result) (c .before .before .before .before .before .before .sort .ensures) (c .rising .ensures))
+    let a = c .before .before .before .before .before .before .before .before .before .before .before .before .before .before .before .before .before .before .args in
+    says-thinned (stretch (a .bytes .now) (a .marks .now)) (a .count) (c .before .before .before .before .before .before .before .before .before .before .before .thin .result) _ (c .before .before .before .before .apart .result) (c .before .before .before .before .before .before .before .before .before .before .before .thin .ensures) (c .before .before .before .before .apart .ensures)
 
 pub distinct-in-spec : {M : Type 1} → statement M
 distinct-in-spec =
     tie.close
-    (tie.spec count-up-requires sort-requires rising-requires same-length same-length-2 returns)
+    (tie.spec
+    thin-requires
+    slice-relend-prefix-apart
+    slice-aggregate-apart
+    slice-relend-prefix-apart-2
+    slice-aggregate-apart-2
+    apart-requires
+    same-length
+    same-length-2
+    returns)

@@ -4,7 +4,7 @@ use mathlib.Core.Bool.{Bool}
 use native.Mathlib.Omega.{arith}
 use lib.ListN.{getD}
 use borrow.Author.Needs.{needs}
-use Rattle.section.specs.Section.{Says}
+use Rattle.lists.specs.Tests.{Says}
 use Rattle.order.specs.Order.{NoLater}
 use Rattle.order.proofs.MergeLaws.{left-done, right-done, next-left, next-right}
 use Rattle.order.proofs.from_left.Statement.{statement}

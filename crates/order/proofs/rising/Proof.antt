@@ -5,7 +5,7 @@ use mathlib.Core.Bool.{Bool}
 use native.Mathlib.Omega.{arith}
 use lib.ListN.{length, getD, drop}
 use borrow.Author.Needs.{needs}
-use Rattle.section.specs.Section.{Says}
+use Rattle.lists.specs.Tests.{Says}
 use Rattle.order.specs.Order.{NoLater, stretch, Adjacent}
 use Rattle.order.proofs.RisingLaws.{rising-bad, rising-on, rising-back, rising-end}
 use Rattle.order.proofs.rising.Statement.{statement}

@@ -1,3 +1,4 @@
+use Rattle.actions.specs.declared.Spot.the-variants.{Nowhere}
 use Rattle.places.specs.Places.{placeOf}
 use native.Mathlib.Omega.{arith}
 use mathlib.Core.Path.{_≡_, ap, sym, _∙_}
@@ -16,7 +17,9 @@ enum-told : tie.Need-enum-told
 enum-told c = search needs
 
 returns : tie.Need-returns
-returns c = sym (ap placeOf (sym (c .before .before .spot-of .ensures .0) ∙ (c .enum-told .given .1)))
+returns c =
+    let n : 65535 ≡ placeOf Nowhere = omega arith in
+    n ∙ sym (ap placeOf (sym (c .before .before .spot-of .ensures .0) ∙ (c .enum-told .given .1)))
 
 cast-result : tie.Need-cast-result
 cast-result c = search needs

@@ -1,65 +1,52 @@
-use Rattle.pool_code.specs.Pool.{sections}
-use lib.Seq.{sets, length-take-le}
-use lib.ListN.{length}
-use native.Mathlib.Omega.{arith}
-use mathlib.Core.List.{List}
-use mathlib.Core.Path.{ap, sym, _∙_}
-use Prim.Native.Nat.{ℕ, _+_}
+use mathlib.Core.Path.{sym, subst}
+use Rattle.places.specs.declared.Source.{Source}
+use Rattle.pool_code.specs.Pool.{Ready, Placed}
+use Rattle.pool_code.proofs.Laws.{absent-placed}
 use borrow.Author.Needs.{needs}
 use Rattle.pool_code.proofs.put_pool.Statement.{statement}
 use Rattle.pool_code.proofs.put_pool.Tie as tie
 
-number-source-requires : tie.Need-number-source-requires
-number-source-requires c κs = search needs
+enum-known-source : tie.Need-enum-known-source
+enum-known-source c = search needs
 
-slice-reshare-prefix-put-sections : tie.Need-slice-reshare-prefix-put-sections
-slice-reshare-prefix-put-sections c = search needs
+enum-told : tie.Need-enum-told
+enum-told c = search needs
 
-slice-aggregate-put-sections : tie.Need-slice-aggregate-put-sections
-slice-aggregate-put-sections c =
-    let n = (c .before .before .before .before .before .before .before .before .before .number-source) in
-    sym (length-take-le (n .result) (n .last .1 .1 .1 .1 .1 .1 .0) (omega (arith, n .ensures .few, (c .before .before .before .before .before .before .before .before .before .before .before .before .before .before .before .before .before .before .before .before .pre .0 .room .most), n .kept)))
+put-none-requires : tie.Need-put-none-requires
+put-none-requires c κs = search needs
 
-put-sections-requires : tie.Need-put-sections-requires
-put-sections-requires c κs =
-    let n = (c .before .before .before .before .before .before .before .before .before .before .before .number-source) in (
-      ((c .before .before .before .before .before .before .before .before .before .before .before .before .before .before .before .before .before .before .before .before .before .before .pre .0 .bytes), (omega (arith, length-take-le (n .result) (n .last .1 .1 .1 .1 .1 .1 .0) (omega (arith, n .ensures .few, (c .before .before .before .before .before .before .before .before .before .before .before .before .before .before .before .before .before .before .before .before .before .before .pre .0 .room .most), n .kept)), n .ensures .few, (c .before .before .before .before .before .before .before .before .before .before .before .before .before .before .before .before .before .before .before .before .before .before .pre .0 .room .glyphs)), n .ensures .short)),
-      (omega (arith, n .kept, (c .before .before .before .before .before .before .before .before .before .before .before .before .before .before .before .before .before .before .before .before .before .before .pre .0 .room .each), (c .before .before .before .before .before .before .before .before .before .before .before .before .before .before .before .before .before .before .before .before .before .before .pre .0 .room .glyphs)), (c .before .before .before .before .before .before .before .before .before .before .before .before .before .before .before .before .before .before .before .before .before .before .pre .1)),
-    )
+add-result : tie.Need-add-result
+add-result c = search needs
 
 same-length : tie.Need-same-length
 same-length c = search needs
 
+returns : tie.Need-returns
+returns c =
+    let a = (c .before .before .before .before .before .before .before .before .args) in
+    absent-placed (a .kind) (a .table .now) (a .glyphs) (a .source) (a .out .now) ((c .before .before .put-none) .last .0) (a .to) ((c .before .before .before .before .enum-told) .given .1) ((c .before .before .put-none) .ensures)
+
+put-lookup-requires : tie.Need-put-lookup-requires
+put-lookup-requires c κs = (subst (λ (s : Source). Ready ((c .before .before .before .before .before .before .args) .kind) ((c .before .before .before .before .before .before .args) .table .now) ((c .before .before .before .before .before .before .args) .glyphs) s) ((c .before .before .source) .given .1) ((c .before .before .before .before .before .before .pre) .0), (c .before .before .before .before .before .before .pre) .1)
+
 same-length-2 : tie.Need-same-length-2
 same-length-2 c = search needs
 
-same-length-3 : tie.Need-same-length-3
-same-length-3 c = search needs
-
-same-length-4 : tie.Need-same-length-4
-same-length-4 c = search needs
-
-same-length-5 : tie.Need-same-length-5
-same-length-5 c = search needs
-
-returns : tie.Need-returns
-returns c =
-    let a = (c .before .before .before .before .before .before .before .before .before .before .before .before .before .before .before .before .before .before .before .before .before .before .before .before .before .args) in
-    let n = (c .before .before .before .before .before .before .before .before .before .before .before .before .before .before .number-source) in
-    let w = (c .before .before .put-sections .ensures) in
-    (w .0 ∙ ap (λ (l : List ℕ). a .to + length l) (n .ensures .sections), w .1, w .2 ∙ ap (sets (a .out .now) (a .to)) (n .ensures .sections))
+returns-2 : tie.Need-returns-2
+returns-2 c =
+    let a = (c .before .before .before .before .before .before .before .before .before .args) in
+    subst (λ (s : Source). Placed (a .kind) (a .table .now) (a .glyphs) s (a .out .now) ((c .before .before .put-lookup) .last .1 .1 .1 .1 .1 .0) (a .to) ((c .before .before .put-lookup) .result)) (sym ((c .before .before .before .before .before .source) .given .1)) ((c .before .before .put-lookup) .ensures)
 
 pub put-pool-spec : {M : Type 1} → statement M
 put-pool-spec =
     tie.close
     (tie.spec
-    number-source-requires
-    slice-reshare-prefix-put-sections
-    slice-aggregate-put-sections
-    put-sections-requires
+    enum-known-source
+    enum-told
+    put-none-requires
+    add-result
     same-length
+    returns
+    put-lookup-requires
     same-length-2
-    same-length-3
-    same-length-4
-    same-length-5
-    returns)
+    returns-2)

@@ -1,16 +1,17 @@
-use Rattle.pool_code.proofs.Laws.{sections-parts, sections-length}
-use Rattle.run_code.specs.RunCode.{runBytes}
-use Rattle.number.specs.Numbered.{placed}
-use Rattle.item.specs.Items.{itemCode}
-use Rattle.lists.specs.Codes.{many}
-use Rattle.fields.specs.Stores.{put-two}
-use Rattle.fields.specs.Field.{be32}
-use lib.Seq.{sets}
-use lib.ListN.{length}
-use native.Mathlib.Omega.{arith}
-use mathlib.Core.List.{_++_}
-use mathlib.Core.Path.{ap, sym, _∙_, refl}
 use Prim.Native.Nat.{_+_}
+use mathlib.Core.Path.{ap, sym, _∙_, refl}
+use mathlib.Core.List.{_++_}
+use native.Mathlib.Omega.{arith}
+use lib.ListN.{length}
+use lib.Seq.{sets}
+use Rattle.fields.specs.Field.{be32}
+use Rattle.fields.specs.Stores.{put-two}
+use Rattle.lists.specs.Codes.{many}
+use Rattle.item.specs.Items.{itemCode}
+use Rattle.number.specs.Numbered.{placed}
+use Rattle.run_code.specs.Spread.{spread}
+use Rattle.run_code.specs.RunCode.{runBytes}
+use Rattle.pool_code.proofs.Laws.{sections-parts, sections-length}
 use borrow.Author.Needs.{needs}
 use Rattle.pool_code.proofs.put_sections.Statement.{statement}
 use Rattle.pool_code.proofs.put_sections.Tie as tie
@@ -28,28 +29,28 @@ put-items-requires : tie.Need-put-items-requires
 put-items-requires c κs = search needs
 
 put-runs-requires : tie.Need-put-runs-requires
-put-runs-requires c κs = ((c .before .before .before .before .before .before .before .before .before .before .before .before .before .pre .1 .0), (omega (arith, (c .before .before .before .put-items .ensures .1), (c .before .before .before .before .before .before .before .before .before .before .before .before .before .pre .1 .1)), (λ v n. omega (arith, n))))
+put-runs-requires c κs = ((c .before .before .before .before .before .before .before .before .before .before .before .before .before .before .pre) .1 .0, (omega (arith, (c .before .before .before .put-items) .ensures .1, (c .before .before .before .before .before .before .before .before .before .before .before .before .before .before .pre) .1 .1), (λ v n. omega (arith, n))))
 
 same-length : tie.Need-same-length
 same-length c = search needs
 
 returns : tie.Need-returns
 returns c =
-    let a = (c .before .before .before .before .before .before .before .before .before .before .before .before .before .before .before .before .args) in
+    let a = (c .before .before .before .before .before .before .before .before .before .before .before .before .before .before .before .before .before .args) in
     let l0 = a .out .now in
-    let l1 = (c .before .before .before .before .before .before .before .before .before .before .put-u32 .last .0) in
-    let l2 = (c .before .before .before .before .before .before .put-items .last .1 .1 .1 .0) in
-    let l3 = (c .before .before .put-runs .last .1 .1 .1 .0) in
+    let l1 = (c .before .before .before .before .before .before .before .before .before .before .put-u32) .last .0 in
+    let l2 = (c .before .before .before .before .before .before .put-items) .last .1 .1 .1 .0 in
+    let l3 = (c .before .before .put-runs) .last .1 .1 .1 .1 .0 in
     let k = length (a .firsts .now) in
     let bs = many (itemCode (a .kind)) (placed (a .kind) (a .table .now) (a .firsts .now)) in
-    let rs = runBytes 0 1 (a .nums .now) in
-    let p = (c .before .before .before .before .before .before .put-items .ensures) in
-    let r = (c .before .before .put-runs .ensures) in (
-      omega (arith, sections-length (a .kind) (a .table .now) (a .firsts .now) (a .nums .now), p .0, r .0),
+    let rs = runBytes 0 1 (spread 0 (a .ends .now) (a .nums .now)) in
+    let p = (c .before .before .before .before .before .before .put-items) .ensures in
+    let r = (c .before .before .put-runs) .ensures in (
+      omega (arith, sections-length (a .kind) (a .table .now) (a .firsts .now) (a .ends .now) (a .nums .now), p .0, r .0),
       omega (arith, p .1, r .1),
-      put-two (be32 k) (bs ++ rs) l0 l1 l3 (a .to) (a .to + 4) refl (c .before .before .before .before .before .before .before .before .before .before .put-u32 .ensures)
-          (put-two bs rs l1 l2 l3 (a .to + 4) (c .before .before .before .before .before .before .put-items .result) (p .0) (p .2) (r .2))
-          ∙ ap (sets l0 (a .to)) (sym (sections-parts (a .kind) (a .table .now) (a .firsts .now) (a .nums .now))),
+      put-two (be32 k) (bs ++ rs) l0 l1 l3 (a .to) (a .to + 4) refl ((c .before .before .before .before .before .before .before .before .before .before .put-u32) .ensures)
+          (put-two bs rs l1 l2 l3 (a .to + 4) ((c .before .before .before .before .before .before .put-items) .result) (p .0) (p .2) (r .2))
+          ∙ ap (sets l0 (a .to)) (sym (sections-parts (a .kind) (a .table .now) (a .firsts .now) (a .ends .now) (a .nums .now))),
     )
 
 pub put-sections-spec : {M : Type 1} → statement M

@@ -4,7 +4,7 @@
 --     more, ends   a turn that stores one record, and the turn that leaves the loop, with the rest of the body
 --     loops        the loop, by `loop-rule`, with the number of records to come for the variant
 use mathlib.Core.Path.{_≡_, refl, sym, _∙_, ap, subst}
-use Prim.Native.Nat.{ℕ, zero, suc, _+_, _-_, _<_, _≤_, _^_}
+use Prim.Native.Nat.{ℕ, zero, suc, _+_, _<_, _≤_, _^_}
 use native.Mathlib.Nat.{add-zero, zero-add, lt-irrefl}
 use native.Mathlib.Numerals.{add-one}
 use native.Mathlib.Omega.{arith}

@@ -1,4 +1,4 @@
--- `records::justify` meets its contract: a walk of its MIR, with no branch and no loop. `settle`, which is covered, is lent classes, before and after for a lifetime of
+-- `records::justify` meets its contract: a walk of its MIR, with no branch and no loop. `line::settle`, which is covered, is lent classes, before and after for a lifetime of
 -- the call, and they come back; for `fill` they are shared for all the time that they have left; `fill` has the list for good; the answer is a field of what `settle` returned.
 use mathlib.Core.Path.{_≡_, refl, sym, ap, subst}
 use Prim.Native.Nat.{ℕ, _<_, _^_}
@@ -58,13 +58,12 @@ use Rattle.line.proofs.Settled.Laws as S′
 use Rattle.line.proofs.LineAnswer as N
 use Rattle.line.proofs.LineAnswer.Laws as N′
 use Rattle.records.specs.Stored.{lineVerdicts, filledWith, Storable}
-use Rattle.records.specs.Outcome.{Settles}
 use Rattle.records.proofs.Relent.{LentAgain, lends-again, comes-back, shares-on}
-use Rattle.records.proofs.Settled.{settles-at, settled-storable, settled-outcome}
-use Rattle.records.proofs.settle as settle
-use Rattle.records.proofs.settle.Symbol as settle-def
-use Rattle.records.proofs.settle.Symbol.{name as #records·settle}
-use Rattle.records.proofs.settle.Met as settle-thm
+use Rattle.records.proofs.Settled.{settled-storable, settled-outcome}
+use Rattle.line.proofs.settle as settle
+use Rattle.line.proofs.settle.Symbol as settle-def
+use Rattle.line.proofs.settle.Symbol.{name as #line·settle}
+use Rattle.line.proofs.settle.Met as settle-thm
 use Rattle.records.proofs.fill as fill
 use Rattle.records.proofs.fill.Symbol as fill-def
 use Rattle.records.proofs.fill.Symbol.{name as #records·fill}
@@ -145,6 +144,10 @@ module _ {M : Type 1} (𝓤 : URA M) (H : Heap 𝓤) (A : Atoms 𝓤) (W : Given
     abbrev to-settle : ℕ → GName → GName → GName → Settle 𝓤 H A mem run .Ghost
     to-settle ν δc δd δf = (((κ, (ν ∷ [], tt)), (PosShare·left q, (fullShare, tt)), tt, settle-args δc δd δf, (sp ∷ [], (vint w32 cn ∷ [], (EL.vals D.the-type D′.the-laws dr, (vbool st ∷ [], (vbool en ∷ [], (vint w32 sz ∷ [], (sg ∷ [], (sa ∷ [], (vint w32 (ofZ w32 tg) ∷ [], (vint w64 k ∷ [], (sc ∷ [], (sd ∷ [], (sf ∷ [], tt)))))))))))))), tt)
 
+    -- what it promises of its result and of the three slices, whatever list of this length is lent for the verdicts
+    abbrev Said : Settled → List ℕ → List ℤ → List ℤ → Type 0
+    Said r cs bs fs = (verdicts : List Verdict) → length verdicts ≡ k → settlementIs r cs bs fs ≡ settlementIn (justified (p .now) cn (lineBy dr st en sz (g .now) (a .now) tg) (lentBy ycs ybs yfs verdicts))
+
     abbrev Read : Fml
     Read = fsep (ShrSlice (named 0) κ u8 .own p (sp ∷ [])) (fsep (ShrSlice (named 0) κ u16 .own g (sg ∷ [])) (ShrSlice (named 0) κ i32 .own a (sa ∷ [])))
 
@@ -200,7 +203,7 @@ module _ {M : Type 1} (𝓤 : URA M) (H : Heap 𝓤) (A : Atoms 𝓤) (W : Given
       goes-fill εc εd εf =
           qed W ((‵ (flft κ′ q′) ⊛ ‵ (flft κ q) ⊛ ‵ ftrue) ∷ ‵ Own ∷ ‵ (Shown εc εd εf) ∷ []) ∵ says ! storable $ frame ! $ move ! (1 ∷ []) $ fsplit ! $ move ! (1 ∷ []) $ fsplit ! $ move ! (1 ∷ []) $ fsplit ! $ move ! (1 ∷ []) $ fsplit ! $ nothing ! $ owned ! usize (Is usize) (uint-makes 𝓤 H A W w64) n _ (refl, n-fits) $ fjoin ! $ move ! (2 ∷ 0 ∷ []) $ fjoin ! $ move ! (1 ∷ 0 ∷ []) $ fjoin ! $ move ! (1 ∷ 0 ∷ []) $ fjoin ! $ move ! (1 ∷ 0 ∷ []) $ fjoin ! $ owned ! u32 (Is u32) (uint-makes 𝓤 H A W w32) sz _ (refl, sz-fits) $ fjoin ! $ owned ! D.the-row (Is D.the-row) (EL.makes D.the-type D′.the-plain 𝓤 H A) dr _ dr-is $ fjoin ! $ owned ! u32 (Is u32) (uint-makes 𝓤 H A W w32) cn _ (refl, cn-fits) $ fjoin ! $ move ! (1 ∷ 0 ∷ []) $ fjoin ! $ move ! (1 ∷ 0 ∷ []) $ fjoin ! $ done !
 
-    module _ (C : Calls 𝓤 H) (Λ : Loops 𝓤 H) (fm : FmC 𝓤 H (W .laws) C) (known-settle : Triple 𝓤 (C #records·settle) (Settle 𝓤 H A mem run)) (known-fill : Triple 𝓤 (C #records·fill) (Fill 𝓤 H A mem run)) where
+    module _ (C : Calls 𝓤 H) (Λ : Loops 𝓤 H) (fm : FmC 𝓤 H (W .laws) C) (known-settle : Triple 𝓤 (C #line·settle) (Settle 𝓤 H A mem run)) (known-fill : Triple 𝓤 (C #records·fill) (Fill 𝓤 H A mem run)) where
       -- the types of the locals
       abbrev word : Ty
       word = tyInt w64
@@ -312,10 +315,10 @@ module _ {M : Type 1} (𝓤 : URA M) (H : Heap 𝓤) (A : Atoms 𝓤) (W : Given
             move ! (5 ∷ 1 ∷ 0 ∷ []) $ use3 W (raw (Settle 𝓤 H A mem run .pre (to-settle ν δc δd δf))) (goes-settle ν δc δd δf) $
             calls-at ! fm (Settle 𝓤 H A mem run) known-settle (to-settle ν δc δd δf) (and-then ! (load ! (from ! (stop !)) (look ! 69 refl)) (and-then ! (load ! (from ! (stop !)) (look ! 67 refl)) (and-then ! (load ! (from ! (stop !)) (look ! 65 refl)) (and-then ! (load ! (from ! (stop !)) (look ! 63 refl)) (and-then ! (load ! (from ! (stop !)) (look ! 61 refl)) (and-then ! (load ! (from ! (stop !)) (look ! 59 refl)) (and-then ! (load ! (from ! (stop !)) (look ! 57 refl)) (and-then ! (load ! (from ! (stop !)) (look ! 55 refl)) (and-then ! (load ! (from ! (stop !)) (look ! 53 refl)) (and-then ! (load ! (from ! (stop !)) (look ! 43 refl)) (and-then ! (load ! (from ! (stop !)) (look ! 35 refl)) (and-then ! (load ! (from ! (stop !)) (look ! 31 refl)) (and-then ! (load ! (from ! (stop !)) (look ! 27 refl)) (no-more !)))))))))))))) (λ w.
             use1 W (later (someI (λ (r : Settled). ((‵ (flft κ (PosShare·left q)) ⊛ ‵ (flft (ν ∷ []) fullShare) ⊛ ‵ ftrue) ⊛ ‵ (S.the-row .own r (w ∷ []))) ⊛ raw (ensured 𝓤 H A settle.ended (settle.clauses 𝓤 H A mem run) (κ, (ν ∷ [], tt)) (settle-args δc δd δf) tt r)))) (id⊢ 𝓤 _) $ await ! tt $ pick ! (λ r₀. split ! $
-            move ! (1 ∷ []) $ use1 W (someI (λ (ls : Unit {0} × (Unit {0} × (Unit {0} × (Unit {0} × (Unit {0} × (Unit {0} × (Unit {0} × (Unit {0} × (Unit {0} × (Unit {0} × (List ℕ × (List ℤ × (List ℤ × Unit {0}))))))))))))). ‵ (lasts settle.ended (κ, (ν ∷ [], tt)) (settle-args δc δd δf) ls) ⊛ raw (fact 𝓤 (Settles (p .now) cn (lineBy dr st en sz (g .now) (a .now) tg) k ycs ybs yfs r₀ (ls .1 .1 .1 .1 .1 .1 .1 .1 .1 .1 .0) (ls .1 .1 .1 .1 .1 .1 .1 .1 .1 .1 .1 .0) (ls .1 .1 .1 .1 .1 .1 .1 .1 .1 .1 .1 .1 .0))))) (id⊢ 𝓤 _) $ pick ! (λ ls. split ! $ move ! (1 ∷ []) $ heard ! (Settles (p .now) cn (lineBy dr st en sz (g .now) (a .now) tg) k ycs ybs yfs r₀ (ls .1 .1 .1 .1 .1 .1 .1 .1 .1 .1 .0) (ls .1 .1 .1 .1 .1 .1 .1 .1 .1 .1 .1 .0) (ls .1 .1 .1 .1 .1 .1 .1 .1 .1 .1 .1 .1 .0)) (λ e. fsplit ! $ drop ! $ fsplit ! $ drop ! $ fsplit ! $ drop ! $ fsplit ! $ drop ! $ fsplit ! $ drop ! $ fsplit ! $ drop ! $ fsplit ! $ drop ! $ fsplit ! $ drop ! $ fsplit ! $ drop ! $ fsplit ! $ drop ! $ fsplit ! $ fsplit ! $ move ! (1 ∷ []) $ feqL ! (λ lc. move ! (1 ∷ []) $ fsplit ! $ fsplit ! $ move ! (1 ∷ []) $ feqL ! (λ ld. move ! (1 ∷ []) $ fsplit ! $ fsplit ! $ move ! (1 ∷ []) $ feqL ! (λ lf. move ! (1 ∷ []) $ drop ! $
+            move ! (1 ∷ []) $ use1 W (someI (λ (ls : Unit {0} × (Unit {0} × (Unit {0} × (Unit {0} × (Unit {0} × (Unit {0} × (Unit {0} × (Unit {0} × (Unit {0} × (Unit {0} × (List ℕ × (List ℤ × (List ℤ × Unit {0}))))))))))))). ‵ (lasts settle.ended (κ, (ν ∷ [], tt)) (settle-args δc δd δf) ls) ⊛ raw (fact 𝓤 (Said r₀ (ls .1 .1 .1 .1 .1 .1 .1 .1 .1 .1 .0) (ls .1 .1 .1 .1 .1 .1 .1 .1 .1 .1 .1 .0) (ls .1 .1 .1 .1 .1 .1 .1 .1 .1 .1 .1 .1 .0))))) (id⊢ 𝓤 _) $ pick ! (λ ls. split ! $ move ! (1 ∷ []) $ heard ! (Said r₀ (ls .1 .1 .1 .1 .1 .1 .1 .1 .1 .1 .0) (ls .1 .1 .1 .1 .1 .1 .1 .1 .1 .1 .1 .0) (ls .1 .1 .1 .1 .1 .1 .1 .1 .1 .1 .1 .1 .0)) (λ e. fsplit ! $ drop ! $ fsplit ! $ drop ! $ fsplit ! $ drop ! $ fsplit ! $ drop ! $ fsplit ! $ drop ! $ fsplit ! $ drop ! $ fsplit ! $ drop ! $ fsplit ! $ drop ! $ fsplit ! $ drop ! $ fsplit ! $ drop ! $ fsplit ! $ fsplit ! $ move ! (1 ∷ []) $ feqL ! (λ lc. move ! (1 ∷ []) $ fsplit ! $ fsplit ! $ move ! (1 ∷ []) $ feqL ! (λ ld. move ! (1 ∷ []) $ fsplit ! $ fsplit ! $ move ! (1 ∷ []) $ feqL ! (λ lf. move ! (1 ∷ []) $ drop ! $
             move ! (3 ∷ []) $ split ! $ move ! (1 ∷ []) $ peeks ! S.the-row (Is S.the-row) (shows 𝓤 H A S.the-row) r₀ (w ∷ []) (λ is.
             land ! (from ! (stop !)) (init ! 45 refl (LL.lawful S.the-type S′.the-laws 𝓤 H A W .typed r₀ _ is .0)) $ rewrite ! 45 (λ (z : Val). ‵ (fat fullShare S′.mir m₅ 0 z)) (ap only (LL.tells S.the-type S′.the-laws r₀ _ is)) refl $ drop ! $
-            keep ! (0 ∷ 3 ∷ 2 ∷ 1 ∷ 9 ∷ 8 ∷ 7 ∷ 6 ∷ 5 ∷ 4 ∷ 11 ∷ 10 ∷ 12 ∷ 13 ∷ 14 ∷ 15 ∷ 16 ∷ 17 ∷ 18 ∷ 19 ∷ 20 ∷ 21 ∷ 22 ∷ 23 ∷ 24 ∷ 25 ∷ 26 ∷ 27 ∷ 28 ∷ 29 ∷ 30 ∷ 31 ∷ 32 ∷ 33 ∷ 34 ∷ 35 ∷ 36 ∷ 37 ∷ 38 ∷ 39 ∷ 40 ∷ 41 ∷ 42 ∷ 43 ∷ 44 ∷ 45 ∷ 46 ∷ 47 ∷ 48 ∷ 49 ∷ 50 ∷ 51 ∷ 52 ∷ 53 ∷ 54 ∷ 55 ∷ 56 ∷ 57 ∷ 58 ∷ 59 ∷ 60 ∷ 61 ∷ 62 ∷ 63 ∷ 64 ∷ 65 ∷ 66 ∷ 67 ∷ 68 ∷ 69 ∷ 70 ∷ 71 ∷ 72 ∷ 73 ∷ 74 ∷ 75 ∷ []) $ by ! (finishes ν δc δd δf r₀ (ls .1 .1 .1 .1 .1 .1 .1 .1 .1 .1 .0) (ls .1 .1 .1 .1 .1 .1 .1 .1 .1 .1 .1 .0) (ls .1 .1 .1 .1 .1 .1 .1 .1 .1 .1 .1 .1 .0) (settles-at (p .now) cn (lineBy dr st en sz (g .now) (a .now) tg) ycs ybs yfs ys r₀ (ls .1 .1 .1 .1 .1 .1 .1 .1 .1 .1 .0) (ls .1 .1 .1 .1 .1 .1 .1 .1 .1 .1 .1 .0) (ls .1 .1 .1 .1 .1 .1 .1 .1 .1 .1 .1 .1 .0) e) lc ld lf (subst (Is S.the-row r₀) (LL.tells S.the-type S′.the-laws r₀ _ is) is))))))))))))))
+            keep ! (0 ∷ 3 ∷ 2 ∷ 1 ∷ 9 ∷ 8 ∷ 7 ∷ 6 ∷ 5 ∷ 4 ∷ 11 ∷ 10 ∷ 12 ∷ 13 ∷ 14 ∷ 15 ∷ 16 ∷ 17 ∷ 18 ∷ 19 ∷ 20 ∷ 21 ∷ 22 ∷ 23 ∷ 24 ∷ 25 ∷ 26 ∷ 27 ∷ 28 ∷ 29 ∷ 30 ∷ 31 ∷ 32 ∷ 33 ∷ 34 ∷ 35 ∷ 36 ∷ 37 ∷ 38 ∷ 39 ∷ 40 ∷ 41 ∷ 42 ∷ 43 ∷ 44 ∷ 45 ∷ 46 ∷ 47 ∷ 48 ∷ 49 ∷ 50 ∷ 51 ∷ 52 ∷ 53 ∷ 54 ∷ 55 ∷ 56 ∷ 57 ∷ 58 ∷ 59 ∷ 60 ∷ 61 ∷ 62 ∷ 63 ∷ 64 ∷ 65 ∷ 66 ∷ 67 ∷ 68 ∷ 69 ∷ 70 ∷ 71 ∷ 72 ∷ 73 ∷ 74 ∷ 75 ∷ []) $ by ! (finishes ν δc δd δf r₀ (ls .1 .1 .1 .1 .1 .1 .1 .1 .1 .1 .0) (ls .1 .1 .1 .1 .1 .1 .1 .1 .1 .1 .1 .0) (ls .1 .1 .1 .1 .1 .1 .1 .1 .1 .1 .1 .1 .0) (e ys refl) lc ld lf (subst (Is S.the-row r₀) (LL.tells S.the-type S′.the-laws r₀ _ is) is))))))))))))))
 
       -- the function with its locals' types spelt out
       abbrev spelt : Fn
@@ -334,7 +337,7 @@ module _ {M : Type 1} (𝓤 : URA M) (H : Heap 𝓤) (A : Atoms 𝓤) (W : Given
       walk = subst (λ (h : Fn). ent 𝓤 (onEntry 𝓤 H A justify.signature (κ, (κ′, tt)) (q, (q′, tt)) args vals) (WpFn 𝓤 H C Λ h (sp ∷ vint w32 cn ∷ EL.val D.the-type D′.the-laws dr ∷ vbool st ∷ vbool en ∷ vint w32 sz ∷ sg ∷ sa ∷ vint w32 (ofZ w32 tg) ∷ sc ∷ sd ∷ sf ∷ s ∷ []) Post)) (sym same) walk-spelt
 
 module _ {M : Type 1} (𝓤 : URA M) (H : Heap 𝓤) (A : Atoms 𝓤) (W : Given 𝓤 H A) (mem : Memory → SProp 𝓤) (run : Routine → Fun 𝓤) where
-  justify-walks : (C : Calls 𝓤 H) (Λ : Loops 𝓤 H) → FmC 𝓤 H (W .laws) C → Triple 𝓤 (C #records·settle) (Settle 𝓤 H A mem run) → Triple 𝓤 (C #records·fill) (Fill 𝓤 H A mem run)
+  justify-walks : (C : Calls 𝓤 H) (Λ : Loops 𝓤 H) → FmC 𝓤 H (W .laws) C → Triple 𝓤 (C #line·settle) (Settle 𝓤 H A mem run) → Triple 𝓤 (C #records·fill) (Fill 𝓤 H A mem run)
       → Walks 𝓤 H A justify.ended stayed (WpFn 𝓤 H C Λ code.function) (justify.clauses 𝓤 H A mem run)
   justify-walks C Λ fm known-settle known-fill = walked 𝓤 H A justify.ended stayed (justify.clauses 𝓤 H A mem run) (WpFn 𝓤 H C Λ code.function)
       (λ κs. (slice-vals, (uint-vals w32, (EL.vals D.the-type D′.the-laws, (bool-vals, (bool-vals, (uint-vals w32, (slice-vals, (slice-vals, (sint-vals w32, (slice-vals, (slice-vals, (slice-vals, (slice-vals, tt))))))))))))))
@@ -344,7 +347,7 @@ module _ {M : Type 1} (𝓤 : URA M) (H : Heap 𝓤) (A : Atoms 𝓤) (W : Given
       (are .0 .0 .1) (are .1 .0 .1) (are .1 .1 .0) (are .1 .1 .1 .1 .1 .0 .1) (are .1 .1 .1 .1 .1 .1 .0 .0 .1) (are .1 .1 .1 .1 .1 .1 .1 .0 .0 .1) (are .1 .1 .1 .1 .1 .1 .1 .1 .0 .1) (are .1 .1 .1 .1 .1 .1 .1 .1 .1 .0 .0 .1) (are .1 .1 .1 .1 .1 .1 .1 .1 .1 .1 .0 .0 .1) (are .1 .1 .1 .1 .1 .1 .1 .1 .1 .1 .1 .0 .0 .1) (are .1 .1 .1 .1 .1 .1 .1 .1 .1 .1 .1 .1 .0 .0 .1) C Λ fm known-settle known-fill))
 
 justify-meets : {M : Type 1} (𝓤 : URA M) (H : Heap 𝓤) (A : Atoms 𝓤) → Given 𝓤 H A → (mem : Memory → SProp 𝓤) (run : Routine → Fun 𝓤) (𝓣 : Tables 𝓤 H)
-    → Triple 𝓤 (𝓣 .C #records·settle) (Settle 𝓤 H A mem run) → Triple 𝓤 (𝓣 .C #records·fill) (Fill 𝓤 H A mem run)
+    → Triple 𝓤 (𝓣 .C #line·settle) (Settle 𝓤 H A mem run) → Triple 𝓤 (𝓣 .C #records·fill) (Fill 𝓤 H A mem run)
     → Meets 𝓤 H A justify.signature (WpFn 𝓤 H (𝓣 .C) (𝓣 .Λ) code.function) (justify.spec 𝓤 H A mem run)
 justify-meets 𝓤 H A W mem run 𝓣 known-settle known-fill =
     walk-meets 𝓤 H A justify.ended stayed W (goes-none-slice 𝓤 H A W 2 (0 ∷ []) tt (plain (λ _. u8)) yes, (goes-none 𝓤 H A W 2 (λ _. u32) yes (λ κs x f. refl), (goes-none 𝓤 H A W 2 (λ _. D.the-row) yes (λ κs x f. refl), (goes-none 𝓤 H A W 2 (λ _. bool) yes (λ κs x f. refl), (goes-none 𝓤 H A W 2 (λ _. bool) yes (λ κs x f. refl), (goes-none 𝓤 H A W 2 (λ _. u32) yes (λ κs x f. refl), (goes-none-slice 𝓤 H A W 2 (0 ∷ []) tt (plain (λ _. u16)) yes, (goes-none-slice 𝓤 H A W 2 (0 ∷ []) tt (plain (λ _. i32)) yes, (goes-none 𝓤 H A W 2 (λ _. i32) yes (λ κs x f. refl), (goes-gave-slice 𝓤 H A W 2 0 tt (plain (λ _. u8)), (goes-gave-slice 𝓤 H A W 2 0 tt (plain (λ _. i32)), (goes-gave-slice 𝓤 H A W 2 0 tt (plain (λ _. i32)), (goes-gave-slice 𝓤 H A W 2 1 tt (plain (λ _. T.the-row)), tt))))))))))))) (justify.clauses 𝓤 H A mem run)
@@ -356,5 +359,5 @@ justify-spec 𝓤 H 𝓜 𝓖 𝓡 =
     entered 𝓤 H (tripleOf 𝓤 H (𝓖 .A) justify.signature (justify.spec 𝓤 H (𝓖 .A) (𝓜 .mem) (𝓡 .run)))
     (tables 𝓤 H 𝓜 𝓡 code.env .C) (tables 𝓤 H 𝓜 𝓡 code.env .Λ) #records·justify code.function (code.unfolded 𝓤 H 𝓜 𝓡)
     (justify-meets 𝓤 H (𝓖 .A) (givenOf 𝓤 H 𝓜 𝓖) (𝓜 .mem) (𝓡 .run) (tablesOf 𝓤 H 𝓜 (tables 𝓤 H 𝓜 𝓡 code.env))
-    (cited 𝓤 H (Settle 𝓤 H (𝓖 .A) (𝓜 .mem) (𝓡 .run)) 𝓜 𝓡 code.env #records·settle settle-def.routine code.calls-records·settle (settle-thm.met 𝓤 H 𝓜 𝓖 𝓡))
+    (cited 𝓤 H (Settle 𝓤 H (𝓖 .A) (𝓜 .mem) (𝓡 .run)) 𝓜 𝓡 code.env #line·settle settle-def.routine code.calls-line·settle (settle-thm.met 𝓤 H 𝓜 𝓖 𝓡))
     (cited 𝓤 H (Fill 𝓤 H (𝓖 .A) (𝓜 .mem) (𝓡 .run)) 𝓜 𝓡 code.env #records·fill fill-def.routine code.calls-records·fill (fill-thm.met 𝓤 H 𝓜 𝓖 𝓡)))

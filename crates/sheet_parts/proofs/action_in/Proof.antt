@@ -2,7 +2,8 @@
 use Rattle.actions.specs.Actions.{actionAt, clipped}
 use lib.ListN.{length, take, drop}
 use Prim.Native.Nat.{_-_}
-use Rattle.sheet_parts.proofs.ActionLaws.{nothing-in, action-past, action-inside, action-there, held-is}
+use Rattle.sheet_parts.proofs.ActionLaws.{nothing-in, action-past, action-inside, action-there}
+use Rattle.answers.proofs.Laws.{held-is}
 use Rattle.meaning.specs.Ask.{held}
 use Rattle.fields.specs.Field.{Bytes}
 use mathlib.Core.Path.{sym, ap, _∙_}
@@ -60,7 +61,7 @@ returns-3 c =
     let h = c .action-at .result in
     record {
       answer = action-there s bytes (a .at) (a .number) (omega (arith, c .before .before .before .before .before .u32-at .ensures .0)) q (c .before .before .before .action-place .ensures) h (c .action-at .ensures);
-      room = c .action-at .ensures ∙ ap held (sym (held-is (clipped (actionAt (take (length s - q) (drop q s)) 0)) h (c .action-at .ensures)));
+      room = c .action-at .ensures ∙ ap held (sym (held-is (clipped (actionAt (take (length s - q) (drop q s)) 0)) (c .action-at .ensures)));
     }
 
 pub action-in-spec : {M : Type 1} → statement M

@@ -4,7 +4,7 @@ use Rattle.lists.specs.Codes.{Found}
 use mathlib.Core.Path.{subst}
 use Rattle.sheet_read.proofs.SideLaws.{side-none, side-parse}
 use Rattle.meaning.specs.Limits.{OkMaybe}
-use Rattle.meaning.proofs.SheetLaws.{machineBytes}
+use Rattle.meaning.specs.Sheet.{machineBytes}
 use borrow.Author.Needs.{needs}
 use Rattle.sheet_read.proofs.read_side.Statement.{statement}
 use Rattle.sheet_read.proofs.read_side.Tie as tie

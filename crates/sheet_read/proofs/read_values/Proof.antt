@@ -4,7 +4,7 @@ use Rattle.lists.specs.Codes.{Found}
 use mathlib.Core.Path.{subst}
 use Rattle.sheet_read.proofs.SideLaws.{values-none, values-parse}
 use Rattle.sheet_clusters.specs.Clusters.{OkClusters}
-use Rattle.meaning.proofs.SheetLaws.{clusterBytes}
+use Rattle.meaning.specs.Sheet.{clusterBytes}
 use borrow.Author.Needs.{needs}
 use Rattle.sheet_read.proofs.read_values.Statement.{statement}
 use Rattle.sheet_read.proofs.read_values.Tie as tie

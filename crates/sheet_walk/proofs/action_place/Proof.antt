@@ -1,7 +1,7 @@
 -- `sheet_walk::action_place` meets its contract. The loop's invariant: what is left from here on is what is asked for. Assumes nothing.
 use lib.ListN.{length}
 use borrow.Author.Needs.{needs}
-use Rattle.meaning.proofs.SheetLaws.{WideAction}
+use Rattle.meaning.specs.Wide.{WideAction}
 use Rattle.meaning.specs.Sheet.{actionCode}
 use Rattle.sheet_walk.proofs.PassLaws.{Left, left-none, left-next, left-past, reached, unreached}
 use Rattle.sheet_walk.specs.Passes.{Reaches}

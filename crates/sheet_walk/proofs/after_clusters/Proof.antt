@@ -2,7 +2,7 @@
 use Rattle.sheet_walk.proofs.SideLaws.{clusters-passed}
 use Rattle.sheet_walk.proofs.PassLaws.{reach-end}
 use Rattle.sheet_clusters.specs.Clusters.{clusterCode}
-use Rattle.meaning.proofs.SheetLaws.{FewPairs}
+use Rattle.meaning.specs.Wide.{FewPairs}
 use Rattle.fields.specs.Field.{Bytes}
 use native.Mathlib.Omega.{arith}
 use borrow.Author.Needs.{needs}

@@ -2,7 +2,7 @@
 use Rattle.sheet_walk.proofs.SideLaws.{lists-passed}
 use Rattle.sheet_walk.proofs.PassLaws.{reach-end}
 use Rattle.sheet_action.specs.Action.{listCode}
-use Rattle.meaning.proofs.SheetLaws.{FewActions}
+use Rattle.meaning.specs.Wide.{FewActions}
 use Rattle.fields.specs.Field.{Bytes}
 use native.Mathlib.Omega.{arith}
 use borrow.Author.Needs.{needs}

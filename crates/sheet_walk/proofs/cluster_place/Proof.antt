@@ -2,7 +2,7 @@
 use lib.ListN.{length}
 use borrow.Author.Needs.{needs}
 use Rattle.sheet_clusters.specs.Clusters.{clusterCode}
-use Rattle.meaning.proofs.SheetLaws.{WidePair, FewPairs}
+use Rattle.meaning.specs.Wide.{WidePair, FewPairs}
 use Rattle.meaning.specs.Sheet.{pairCode}
 use mathlib.Core.Path.{refl}
 use Rattle.sheet_walk.proofs.PassLaws.{Left, left-none, left-next, left-past, reached, unreached, items-end}

@@ -1,7 +1,7 @@
 -- `sheet_walk::list_place` meets its contract. The loop's invariant: what is left from here on is what is asked for. Assumes nothing.
 use borrow.Author.Needs.{needs}
 use Rattle.sheet_action.specs.Action.{listCode}
-use Rattle.meaning.proofs.SheetLaws.{WideAction, FewActions}
+use Rattle.meaning.specs.Wide.{WideAction, FewActions}
 use Rattle.meaning.specs.Sheet.{actionCode}
 use Rattle.sheet_walk.proofs.PassLaws.{Left, left-none, left-next, left-past, reached, unreached, reach-end}
 use Rattle.sheet_walk.specs.Passes.{Reaches}

@@ -1,7 +1,9 @@
 use Rattle.table_parts.proofs.Asked.{action-here}
-use Rattle.table_parts.proofs.Steps.{below-at, held-is}
+use Rattle.table_parts.proofs.Steps.{below-at}
+use Rattle.answers.proofs.Laws.{held-is}
+use Rattle.answers.specs.declared.ActionAnswer.{ActionAnswer}
 use Rattle.table_parts.specs.Places.{cut}
-use Rattle.answers.specs.Says.{given, roomFor}
+use Rattle.answers.specs.Says.{given, roomFor, saysAction}
 use Rattle.meaning.specs.Ask.{Answer, act}
 use Rattle.meaning.specs.Meaning.{Action}
 use native.Mathlib.Omega.{arith}
@@ -33,7 +35,8 @@ returns c =
 returns-2 : tie.Need-returns-2
 returns-2 c =
     let e = action-here _ _ _ _ _ _ (sym (c .before .enum-told .given .1) ∙ c .before .before .before .action-spot .ensures .0) in
-    (ap (λ (a : Answer). given (cut a)) e, c .no-action .ensures ∙ ap (λ (a : Answer). roomFor (cut a)) e)
+    let none = c .no-action .ensures in
+    (ap saysAction none ∙ ap (λ (a : Answer). given (cut a)) e, ap (λ (r : ActionAnswer). r .action) none ∙ ap (λ (a : Answer). roomFor (cut a)) e)
 
 pub action-of-spec : {M : Type 1} → statement M
 action-of-spec =

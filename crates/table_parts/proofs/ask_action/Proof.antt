@@ -1,6 +1,7 @@
 use Rattle.table_parts.proofs.Laws.{answered}
 use Rattle.table_parts.proofs.Steps.{judged}
-use Rattle.answers.specs.Says.{roomAfter}
+use Rattle.answers.specs.declared.ActionAnswer.{ActionAnswer}
+use Rattle.answers.specs.Says.{saysAction, roomAfter}
 use mathlib.Core.Path.{sym, ap, _∙_}
 use borrow.Author.Needs.{needs}
 use Rattle.table_parts.proofs.ask_action.Statement.{statement}
@@ -27,7 +28,8 @@ returns c = answered _ _ _ (sym (c .before .before .before .table-fault .ensures
 returns-2 : tie.Need-returns-2
 returns-2 c =
     let bad = sym (c .before .before .refusal .given .1) ∙ c .before .before .before .before .table-fault .ensures in
-    (judged _ bad, c .no-action .ensures ∙ ap roomAfter (judged _ bad))
+    let none = c .no-action .ensures in
+    (ap saysAction none ∙ judged _ bad, ap (λ (r : ActionAnswer). r .action) none ∙ ap roomAfter (judged _ bad))
 
 pub ask-action-spec : {M : Type 1} → statement M
 ask-action-spec =

@@ -1,61 +1,95 @@
-use borrow.Author.Needs.{needs}
-use lib.ListN.{length}
-use native.Mathlib.Omega.{arith}
-use Rattle.lookup.proofs.Pass.{serves-later}
-use Rattle.lookup.specs.Pass.{Serves}
-use Rattle.fields.specs.Walk.{each, walk-stop, walk-none}
-use Prim.Native.Nat.{ℕ, _+_, _-_, _≤_, _^_}
-use denote.Ref.{now}
+use mathlib.Core.Path.{_≡_, refl, sym, _∙_}
+use Rattle.values.proofs.Laws.{run-end, run-judged, all-left}
 use Rattle.values.specs.Values.{glyphFault, Judged}
-use Rattle.values.proofs.Laws.{glyph-of, value-skip, all-left}
-use mathlib.Core.Path.{_≡_, refl, sym, ap, _∙_}
+use denote.Ref.{now}
+use Prim.Native.Nat.{_+_, _-_}
+use Rattle.fields.specs.Walk.{each, walk-none}
+use Rattle.fields.specs.Laws.{then-stop, then-go}
+use Rattle.lookup.specs.Pass.{Serves}
+use native.Mathlib.Omega.{arith}
+use lib.ListN.{length}
+use borrow.Author.Needs.{needs}
 use Rattle.values.proofs.glyphs_fault.Statement.{statement}
 use Rattle.values.proofs.glyphs_fault.Tie as tie
 
 abbrev Inv-loop : tie.InvT-loop
-Inv-loop table glyphs kind at base judged₀ cursor₀ glyph₀ judged cursor glyph = (each (glyphFault table glyphs kind at base) (λ g. g + 1) glyphs 0 ≡ each (glyphFault table glyphs kind at base) (λ g. g + 1) (glyphs - glyph) glyph) × Serves table at glyph cursor × Judged table glyphs kind judged × (length judged ≡ length judged₀) × (glyph ≤ 2 ^ 16)
+Inv-loop table glyphs kind at base judged₀ format cursor₀ glyph₀ judged cursor glyph =
+    (each (glyphFault table glyphs kind at base) (λ g. g + 1) glyphs 0 ≡ each (glyphFault table glyphs kind at base) (λ g. g + 1) (glyphs - glyph) glyph)
+    × Serves table at glyph cursor
+    × Judged table glyphs kind judged
+    × (length judged ≡ length judged₀)
 
 abbrev μ-loop : tie.MeasureT-loop
-μ-loop table glyphs kind at base judged₀ cursor₀ glyph₀ judged cursor glyph = glyphs - glyph
+μ-loop table glyphs kind at base judged₀ format cursor₀ glyph₀ judged cursor glyph = glyphs - glyph
+
+u16-at-requires : tie.Need-u16-at-requires Inv-loop μ-loop
+u16-at-requires c κs = search needs
 
 begin-requires : tie.Need-begin-requires Inv-loop μ-loop
 begin-requires c κs = search needs
 
 loop-holds : tie.Need-loop-holds Inv-loop μ-loop
-loop-holds c = (all-left _ _, c .begin .ensures _ (c .before .before .before .pre .0 .1 .1 .1), c .before .before .before .pre .1, refl, search needs)
+loop-holds c = (all-left _ _, c .begin .ensures _ (c .before .before .before .before .pre .0 .1 .1 .1), c .before .before .before .before .pre .1, refl)
 
-step-requires : tie.Need-step-requires Inv-loop μ-loop
-step-requires c κs = search needs
-
-spot-of-requires : tie.Need-spot-of-requires Inv-loop μ-loop
-spot-of-requires c κs = search needs
-
-judge-spot-requires : tie.Need-judge-spot-requires Inv-loop μ-loop
-judge-spot-requires c κs = search needs
-
-enum-told : tie.Need-enum-told Inv-loop μ-loop
-enum-told c = search needs
+next-run-requires : tie.Need-next-run-requires Inv-loop μ-loop
+next-run-requires c κs = (c .before .before .before .before .before .before .pre .0 .0, (omega (arith, c .loop-test .taken, c .before .before .before .before .before .before .pre .0 .1 .1 .0), (c .before .before .before .u16-at .ensures .0, c .before .loop .inv .1)))
 
 same-length : tie.Need-same-length Inv-loop μ-loop
 same-length c = search needs
 
 returns : tie.Need-returns Inv-loop μ-loop
-returns c = let f = glyph-of (now (c .before .before .before .before .before .before .before .before .before .before .before .before .before .args .table)) (c .before .before .before .before .before .before .before .before .before .before .before .before .before .args .glyphs) (c .before .before .before .before .before .before .before .before .before .before .before .before .before .args .kind) (c .before .before .before .before .before .before .before .before .before .before .before .before .before .args .at) (c .before .before .before .before .before .before .before .before .before .before .before .before .before .args .base) (c .before .before .before .before .before .before .before .before .before .loop .glyph) (c .before .before .before .before .judge-spot .ensures .0) (c .before .before .before .before .before .before .spot-of .ensures .0) (c .before .before .before .before .before .before .before .step .ensures .0) in f ∙ sym (c .before .before .before .before .before .before .before .before .before .loop .inv .0 ∙ walk-stop (λ p _. glyphFault (now (c .before .before .before .before .before .before .before .before .before .before .before .before .before .args .table)) (c .before .before .before .before .before .before .before .before .before .before .before .before .before .args .glyphs) (c .before .before .before .before .before .before .before .before .before .before .before .before .before .args .kind) (c .before .before .before .before .before .before .before .before .before .before .before .before .before .args .at) (c .before .before .before .before .before .before .before .before .before .before .before .before .before .args .base) p) (λ g. g + 1) (λ p. 0) _ _ _ (omega arith) (sym f ∙ c .enum-told .given .1))
+returns c =
+    let a = c .before .before .before .before .before .before .before .before .args in
+    sym (c .before .before .before .loop .inv .0 ∙ run-end (now (a .table)) (a .glyphs) (a .kind) (a .at) (a .base) (c .before .before .before .loop .glyph) _ (c .before .next-run .ensures) (c .before .before .before .before .before .before .before .before .pre .0 .1 .1 .0) (c .if1 .taken))
 
-enum-told-2 : tie.Need-enum-told-2 Inv-loop μ-loop
-enum-told-2 c = search needs
+value-count-requires : tie.Need-value-count-requires Inv-loop μ-loop
+value-count-requires c κs = (c .before .next-run .ensures .more, c .if1 .left)
 
-loop-less : tie.Need-loop-less Inv-loop μ-loop
-loop-less c = omega (arith, c .before .before .before .before .before .before .before .before .step .ensures .2 .more)
+places-fault-requires : tie.Need-places-fault-requires Inv-loop μ-loop
+places-fault-requires c κs =
+    ((c .before .before .before .before .before .before .before .before .before .before .pre .0 .1 .0, omega (arith, c .before .before .before .next-run .ensures .near, c .before .value-count .ensures .1, c .before .before .before .before .before .before .before .before .before .before .pre .0 .1 .1 .0)), c .before .before .before .before .before .loop .inv .2)
 
-loop-again : tie.Need-loop-again Inv-loop μ-loop
-loop-again c = let f = glyph-of (now (c .before .before .before .before .before .before .before .before .before .before .before .before .before .before .args .table)) (c .before .before .before .before .before .before .before .before .before .before .before .before .before .before .args .glyphs) (c .before .before .before .before .before .before .before .before .before .before .before .before .before .before .args .kind) (c .before .before .before .before .before .before .before .before .before .before .before .before .before .before .args .at) (c .before .before .before .before .before .before .before .before .before .before .before .before .before .before .args .base) (c .before .before .before .before .before .before .before .before .before .before .loop .glyph) (c .before .before .before .before .before .judge-spot .ensures .0) (c .before .before .before .before .before .before .before .spot-of .ensures .0) (c .before .before .before .before .before .before .before .before .step .ensures .0) in let k = c .before .before .before .before .before .before .before .before .step .ensures .2 in (c .before .before .before .before .before .before .before .before .before .before .loop .inv .0 ∙ value-skip (now (c .before .before .before .before .before .before .before .before .before .before .before .before .before .before .args .table)) (c .before .before .before .before .before .before .before .before .before .before .before .before .before .before .args .glyphs) (c .before .before .before .before .before .before .before .before .before .before .before .before .before .before .args .kind) (c .before .before .before .before .before .before .before .before .before .before .before .before .before .before .args .at) (c .before .before .before .before .before .before .before .before .before .before .before .before .before .before .args .base) (c .before .before .before .before .before .before .before .before .before .before .loop .glyph) _ k (sym f ∙ c .before .enum-told2 .given .1), serves-later _ _ _ _ (omega (arith, k .more)) (c .before .before .before .before .before .before .before .before .step .ensures .1), c .before .before .before .before .before .judge-spot .ensures .1, search needs, k .most)
+enum-told : tie.Need-enum-told Inv-loop μ-loop
+enum-told c = search needs
 
 same-length-2 : tie.Need-same-length-2 Inv-loop μ-loop
 same-length-2 c = search needs
 
 returns-2 : tie.Need-returns-2 Inv-loop μ-loop
-returns-2 c = sym (c .before .loop .inv .0 ∙ walk-none (λ p _. glyphFault (now (c .before .before .before .before .before .args .table)) (c .before .before .before .before .before .args .glyphs) (c .before .before .before .before .before .args .kind) (c .before .before .before .before .before .args .at) (c .before .before .before .before .before .args .base) p) (λ g. g + 1) (λ p. 0) _ _ _ (omega arith))
+returns-2 c =
+    let a = c .before .before .before .before .before .before .before .before .before .before .before .before .before .before .before .args in
+    let judged = rw (c .before .before .before .before .before .before .value-count .ensures .0) at (c .before .before .before .before .places-fault .ensures .0) in
+    sym
+    (c .before .before .before .before .before .before .before .before .before .before .loop .inv .0
+    ∙ run-judged (now (a .table)) (a .glyphs) (a .kind) (a .at) (a .base) (c .before .before .before .before .before .before .before .before .before .before .loop .glyph) _ (c .before .before .before .before .before .before .before .before .next-run .ensures) (c .before .before .before .before .before .before .before .before .before .before .before .before .before .before .before .pre .0 .1 .1 .0) (c .before .before .before .before .before .before .before .if1 .left) _ judged
+    ∙ then-stop _ (c .enum-told .given .1))
+
+enum-told-2 : tie.Need-enum-told-2 Inv-loop μ-loop
+enum-told-2 c = search needs
+
+loop-less : tie.Need-loop-less Inv-loop μ-loop
+loop-less c = let w = c .before .before .before .before .before .before .before .before .before .next-run .ensures in omega (arith, w .begins, w .more)
+
+loop-again : tie.Need-loop-again Inv-loop μ-loop
+loop-again c =
+    let a = c .before .before .before .before .before .before .before .before .before .before .before .before .before .before .before .before .args in
+    let w = c .before .before .before .before .before .before .before .before .before .next-run .ensures in
+    let judged = rw (c .before .before .before .before .before .before .before .value-count .ensures .0) at (c .before .before .before .before .before .places-fault .ensures .0) in (
+      c .before .before .before .before .before .before .before .before .before .before .before .loop .inv .0
+          ∙ run-judged (now (a .table)) (a .glyphs) (a .kind) (a .at) (a .base) (c .before .before .before .before .before .before .before .before .before .before .before .loop .glyph) _ w (c .before .before .before .before .before .before .before .before .before .before .before .before .before .before .before .before .pre .0 .1 .1 .0) (c .before .before .before .before .before .before .before .before .if1 .left) _ judged
+          ∙ then-go _ (c .before .enum-told2 .given .1),
+      w .serves,
+      c .before .before .before .before .before .places-fault .ensures .1,
+      search needs,
+    )
+
+same-length-3 : tie.Need-same-length-3 Inv-loop μ-loop
+same-length-3 c = search needs
+
+returns-3 : tie.Need-returns-3 Inv-loop μ-loop
+returns-3 c =
+    let a = c .before .before .before .before .before .before .args in
+    sym (c .before .loop .inv .0 ∙ walk-none (λ p _. glyphFault (now (a .table)) (a .glyphs) (a .kind) (a .at) (a .base) p) (λ g. g + 1) (λ p. 0) _ _ _ (omega arith))
 
 pub glyphs-fault-spec : {M : Type 1} → statement M
 glyphs-fault-spec =
@@ -63,16 +97,19 @@ glyphs-fault-spec =
     (tie.spec
     Inv-loop
     μ-loop
+    u16-at-requires
     begin-requires
     loop-holds
-    step-requires
-    spot-of-requires
-    judge-spot-requires
-    enum-told
+    next-run-requires
     same-length
     returns
+    value-count-requires
+    places-fault-requires
+    enum-told
+    same-length-2
+    returns-2
     enum-told-2
     loop-less
     loop-again
-    same-length-2
-    returns-2)
+    same-length-3
+    returns-3)

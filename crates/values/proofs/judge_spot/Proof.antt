@@ -1,5 +1,4 @@
-use mathlib.Core.Path.{_≡_, refl, sym, ap, ap₂, _∙_}
-use Prim.Native.Nat.{ℕ}
+use mathlib.Core.Path.{sym, ap, _∙_}
 use Rattle.values.specs.Values.{spotFault}
 use denote.Ref.{now}
 use mathlib.Core.Path.{_∙_, ap, sym}

@@ -1,5 +1,5 @@
 use Rattle.values.proofs.Laws.{list-nowhere, list-at}
-use mathlib.Core.Path.{_≡_, refl, sym, ap, ap₂, _∙_}
+use mathlib.Core.Path.{sym}
 use borrow.Author.Needs.{needs}
 use Rattle.values.proofs.list_spot.Statement.{statement}
 use Rattle.values.proofs.list_spot.Tie as tie

@@ -1,7 +1,7 @@
 use Rattle.lookup.specs.declared.Found.{Found}
 use Rattle.values.specs.declared.Kind.{Kind}
 use Rattle.values.specs.Values.{spotOf}
-use mathlib.Core.Path.{_≡_, refl, sym, ap, ap₂, _∙_}
+use mathlib.Core.Path.{sym, ap₂, _∙_}
 use borrow.Author.Needs.{needs}
 use Rattle.values.proofs.spot_of.Statement.{statement}
 use Rattle.values.proofs.spot_of.Tie as tie

@@ -1,7 +1,7 @@
 use Rattle.values.specs.Values.{valuesFault}
 use Rattle.fields.specs.Laws.{then-stop, then-go}
 use Rattle.values.proofs.Laws.{none-judged}
-use mathlib.Core.Path.{_≡_, refl, sym, ap, _∙_}
+use mathlib.Core.Path.{sym, _∙_}
 use borrow.Author.Needs.{needs}
 use Rattle.values.proofs.values_fault.Statement.{statement}
 use Rattle.values.proofs.values_fault.Tie as tie
@@ -33,11 +33,21 @@ slice-aggregate-glyphs-fault-2 : tie.Need-slice-aggregate-glyphs-fault-2
 slice-aggregate-glyphs-fault-2 c = search needs
 
 glyphs-fault-requires-2 : tie.Need-glyphs-fault-requires-2
-glyphs-fault-requires-2 c κs = ((search needs, (search needs, (search needs, sym (c .before .before .before .before .lookup-fault .ensures) ∙ c .before .before .enum-told2 .given .1))), none-judged _ _ _ 32768)
+glyphs-fault-requires-2 c κs = ((search needs, (search needs, (search needs, sym (c .before .before .before .before .before .lookup-fault .ensures) ∙ c .before .before .before .enum-told2 .given .1))), none-judged _ _ _ 4096)
 
 returns-3 : tie.Need-returns-3
 unfolding valuesFault
-returns-3 c = c .before .glyphs-fault2 .ensures ∙ sym (then-go _ (sym (c .before .before .before .before .before .before .lookup-fault .ensures) ∙ c .before .before .before .before .enum-told2 .given .1))
+returns-3 c = c .before .glyphs-fault2 .ensures ∙ sym (then-go _ (sym (c .before .before .before .before .before .before .before .lookup-fault .ensures) ∙ c .before .before .before .before .before .enum-told2 .given .1))
+
+slice-aggregate-glyphs-fault-3 : tie.Need-slice-aggregate-glyphs-fault-3
+slice-aggregate-glyphs-fault-3 c = search needs
+
+glyphs-fault-requires-3 : tie.Need-glyphs-fault-requires-3
+glyphs-fault-requires-3 c κs = ((search needs, (search needs, (search needs, sym (c .before .before .before .before .before .lookup-fault .ensures) ∙ c .before .before .before .enum-told2 .given .1))), none-judged _ _ _ 32768)
+
+returns-4 : tie.Need-returns-4
+unfolding valuesFault
+returns-4 c = c .before .glyphs-fault3 .ensures ∙ sym (then-go _ (sym (c .before .before .before .before .before .before .before .lookup-fault .ensures) ∙ c .before .before .before .before .before .enum-told2 .given .1))
 
 pub values-fault-spec : {M : Type 1} → statement M
 values-fault-spec =
@@ -52,4 +62,7 @@ values-fault-spec =
     returns-2
     slice-aggregate-glyphs-fault-2
     glyphs-fault-requires-2
-    returns-3)
+    returns-3
+    slice-aggregate-glyphs-fault-3
+    glyphs-fault-requires-3
+    returns-4)

@@ -1,0 +1,78 @@
+use Prim.Native.Nat.{_+_, _*_, _<_, _^_}
+use mathlib.Core.Path.{_≡_, ap, sym, _∙_}
+use native.Mathlib.Omega.{arith}
+use Rattle.cluster.specs.Pairs.{pairsAt, clusterAt}
+use Rattle.cluster_code.specs.Print.{pairPrint, pairsPrint}
+use Rattle.cluster_code.proofs.Laws.{print-more, print-none, print-all}
+use borrow.Author.Needs.{needs}
+use Rattle.cluster_code.proofs.cluster_print.Statement.{statement}
+use Rattle.cluster_code.proofs.cluster_print.Tie as tie
+
+abbrev Inv-loop : tie.InvT-loop
+Inv-loop table at left₀ first₀ print₀ left first print =
+    (first + 24 * left < 2 ^ 60) × (print < 1021) × (pairsPrint print (pairsAt table left first) ≡ pairsPrint 0 (clusterAt table at))
+
+abbrev μ-loop : tie.MeasureT-loop
+μ-loop table at left₀ first₀ print₀ left first print = left
+
+u32-at-requires : tie.Need-u32-at-requires Inv-loop μ-loop
+u32-at-requires c κs = search needs
+
+add-first : tie.Need-add-first Inv-loop μ-loop
+add-first c = search needs
+
+loop-holds : tie.Need-loop-holds Inv-loop μ-loop
+loop-holds c = (omega (arith, (c .u32-at) .ensures .1), omega arith, print-all ((c .before .before .args) .table .now) ((c .before .before .args) .at) ((c .u32-at) .result) ((c .u32-at) .ensures .0))
+
+mul-print : tie.Need-mul-print Inv-loop μ-loop
+mul-print c = search needs
+
+pair-at-requires : tie.Need-pair-at-requires Inv-loop μ-loop
+pair-at-requires c κs = search needs
+
+pair-print-requires : tie.Need-pair-print-requires Inv-loop μ-loop
+pair-print-requires c κs = search needs
+
+add-print : tie.Need-add-print Inv-loop μ-loop
+add-print c = search needs
+
+add-first-2 : tie.Need-add-first-2 Inv-loop μ-loop
+add-first-2 c = search needs
+
+sub-left : tie.Need-sub-left Inv-loop μ-loop
+sub-left c = search needs
+
+loop-less : tie.Need-loop-less Inv-loop μ-loop
+loop-less c = search needs
+
+loop-again : tie.Need-loop-again Inv-loop μ-loop
+loop-again c =
+    let l = (c .before .before .before .loop) in (
+      omega arith,
+      omega arith,
+      print-more ((c .before .before .before .before .before .before .args) .table .now) (l .left) (l .first) (l .print) ((c .pair-print) .result) (omega arith) ((c .pair-print) .ensures .0 ∙ ap pairPrint ((c .before .pair-at) .ensures)) ∙ l .inv .2,
+    )
+
+returns : tie.Need-returns Inv-loop μ-loop
+returns c =
+    let l = (c .before .loop) in
+    (sym (print-none ((c .before .before .before .before .args) .table .now) (l .left) (l .first) (l .print) (omega arith)) ∙ l .inv .2, l .inv .1)
+
+pub cluster-print-spec : {M : Type 1} → statement M
+cluster-print-spec =
+    tie.close
+    (tie.spec
+    Inv-loop
+    μ-loop
+    u32-at-requires
+    add-first
+    loop-holds
+    mul-print
+    pair-at-requires
+    pair-print-requires
+    add-print
+    add-first-2
+    sub-left
+    loop-less
+    loop-again
+    returns)

@@ -1,0 +1,32 @@
+-- What a line's call says in C (document 01, demand 2 and "Numbers of refusal"): its answer in a struct of C layout, beside the four lent buffers.
+use Prim.Native.Nat.{ℕ}
+use mathlib.Core.List.{List}
+use lib.IntN.{ℤ, pos}
+use Rattle.fields.specs.Refusals.{numberOf}
+use Rattle.parts.specs.declared.Verdict.{Verdict}
+use Rattle.line.specs.declared.LineAnswer.{LineAnswer}
+use Rattle.line.specs.declared.LineAnswer.the-variants.{Justified, Refused}
+use Rattle.line.specs.Justified.{Lent, Outcome}
+use Rattle.line.specs.Settle.{lentBy}
+use Rattle.just_line.specs.declared.JustLine.{JustLine}
+
+-- a refusal's number, and zeros beside it
+abbrev pub refusedIn : ℕ → JustLine
+refusedIn n = record { refusal = n; remainder = pos 0; entries = 0; verdicts = 0 }
+
+-- refusal 0 and what is answered, or the refusal
+abbrev pub lineIn : LineAnswer → JustLine
+lineIn (Justified remainder entries verdicts) = record { refusal = 0; remainder = remainder; entries = entries; verdicts = verdicts }
+lineIn (Refused r) = refusedIn (numberOf r)
+
+-- the struct, and what the lent buffers hold afterwards
+pub record Called : Type 0 where
+  pub line : JustLine
+  pub lent : Lent
+
+-- of an outcome, and as the call has them
+abbrev pub calledIn : Outcome → Called
+calledIn o = record { line = lineIn (o .answer); lent = o .lent }
+
+abbrev pub calledIs : JustLine → List ℕ → List ℤ → List ℤ → List Verdict → Called
+calledIs r classes before after verdicts = record { line = r; lent = lentBy classes before after verdicts }

@@ -1,0 +1,85 @@
+// The call for a line for programs in C and other languages (document 01, demand 2), in the conventions of `just_c`:
+// numbers, slices (a pointer, then a length) and structs of C layout; a refusal is its number, 0 for none; a direction
+// is 0 for horizontal, any other number for vertical. specs/LineInC.antt says what the struct holds.
+ghost use mathlib.Core.Path.{_≡_};
+ghost use Rattle.parts.specs.InC.{directionIn};
+ghost use Rattle.line.specs.Justified.{justified};
+ghost use Rattle.line.specs.Settle.{lineBy, lentBy};
+ghost use Rattle.just_line.specs.LineInC.{lineIn, calledIn, calledIs};
+use line::LineAnswer;
+use parts::Verdict;
+
+// The remainder in units, the count of entries that the class walk took, and the count of verdicts.
+#[repr(C)]
+pub struct JustLine {
+    pub refusal: u32,
+    pub remainder: i32,
+    pub entries: u32,
+    pub verdicts: u32,
+}
+
+fn line_out(answer: LineAnswer) -> JustLine
+    ensures { λ r. ⌜ r ≡ lineIn answer ⌝ }
+{
+    match answer {
+        LineAnswer::Justified {
+            remainder,
+            entries,
+            verdicts,
+        } => JustLine {
+            refusal: 0,
+            remainder,
+            entries,
+            verdicts,
+        },
+        LineAnswer::Refused(refusal) => JustLine {
+            refusal: fields::number_of(refusal),
+            remainder: 0,
+            entries: 0,
+            verdicts: 0,
+        },
+    }
+}
+
+// One call for a line: its classes, movements, remainder and verdicts, or the refusal.
+#[no_mangle]
+pub extern "C" fn just_justify<'a, 'v>(
+    table: &'a [u8],
+    count: u32,
+    direction: u32,
+    starts: bool,
+    ends: bool,
+    size: u32,
+    glyphs: &'a [u16],
+    advances: &'a [i32],
+    target: i32,
+    classes: &'a mut [u8],
+    before: &'a mut [i32],
+    after: &'a mut [i32],
+    verdicts: &'v mut [Verdict],
+) -> JustLine
+    ensures { λ r. ⌜
+        calledIs r (now (classes .exit)) (now (before .exit)) (now (after .exit)) (now (verdicts .exit))
+        ≡ calledIn (justified (now (table .entry)) count
+        (lineBy (directionIn direction) starts ends size (now (glyphs .entry)) (now (advances .entry)) target)
+        (lentBy (now (classes .entry)) (now (before .entry)) (now (after .entry)) (now (verdicts .entry))))
+        ⌝ }
+{
+    let along = parts::direction_in(direction);
+    let answer = records::justify(
+        table,
+        count,
+        along,
+        starts,
+        ends,
+        size,
+        glyphs,
+        advances,
+        target,
+        classes,
+        before,
+        after,
+        verdicts,
+    );
+    line_out(answer)
+}

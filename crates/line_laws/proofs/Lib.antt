@@ -1,0 +1,4 @@
+pub mod Tests
+pub mod Refusals
+pub mod Walks
+pub mod Same

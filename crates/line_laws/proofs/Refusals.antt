@@ -1,0 +1,54 @@
+-- A line is refused exactly when one of the listed faults holds, with the number of the first (document 01, "Numbers of refusal").
+use Prim.Native.Nat.{ℕ}
+use mathlib.Core.Path.{_≡_, refl, sym, ap, _∙_}
+use mathlib.Core.Logic.{_↔_}
+use mathlib.Core.List.{List}
+use native.Mathlib.Omega.{arith}
+use lib.IntN.{ℤ}
+use Rattle.fields.specs.declared.Refusal.{Refusal}
+use Rattle.fields.specs.declared.Fault.{Fault}
+use Rattle.fields.specs.declared.Fault.the-variants.{Clear, Bad}
+use Rattle.fields.specs.Laws.{then-clear}
+use Rattle.meaning.specs.Ask.{sideOf}
+use Rattle.table.specs.Means.{meaningOf}
+use Rattle.table_laws.specs.Order.{First, Free}
+use Rattle.table_laws.proofs.Faults.{chain, chain-first, first-chain, chain-free, free-chain}
+use Rattle.lines.specs.Line.{Line}
+use Rattle.line.specs.declared.LineAnswer.the-variants.{Justified, Refused}
+use Rattle.line.specs.Justified.{Lent, lineFault, settled, justified}
+use Rattle.line_laws.specs.Bars.{sideFor, lineParts}
+
+module _ (t : List ℕ) (n : ℕ) (l : Line) (b : Lent) where
+  line-chain : lineFault t n l b ≡ chain (lineParts t n l b)
+  unfolding lineFault
+  line-chain = simp then-clear
+
+  pub line-first : (r : Refusal) (at : ℕ) → (lineFault t n l b ≡ Bad r at) ↔ First (lineParts t n l b) r at
+  line-first r at = (
+    λ e. chain-first (lineParts t n l b) r at (sym line-chain ∙ e),
+    λ h. line-chain ∙ first-chain (lineParts t n l b) r at h,
+  )
+
+  pub line-free : (lineFault t n l b ≡ Clear) ↔ Free (lineParts t n l b)
+  line-free = (λ e. chain-free (lineParts t n l b) (sym line-chain ∙ e), λ h. line-chain ∙ free-chain (lineParts t n l b) h)
+
+  -- REFUSED exactly when a listed fault holds, with the first one's refusal
+  pub call-refused : (r : Refusal) → (justified t n l b .answer ≡ Refused r) ↔ ((at : ℕ) × First (lineParts t n l b) r at)
+  unfolding justified
+  call-refused r = (
+    λ e. let h = go (lineFault t n l b) e in (h .0, line-first r (h .0) .0 (h .1)),
+    λ h. ap (λ (f : Fault). settled f (sideFor t n l) l b .answer) (line-first r (h .0) .1 (h .1)),
+  )
+    where
+      go : (f : Fault) → settled f (sideFor t n l) l b .answer ≡ Refused r → (at : ℕ) × (f ≡ Bad r at)
+      go Clear e = let z : _≡_ {A = ℕ} 0 1 = cc in absurd (omega arith)
+      go (Bad s at) e = (at, cc)
+
+  -- ANSWERED exactly when none of them does
+  pub call-answered : ((z : ℤ) × (k : ℕ) × (v : ℕ) × (justified t n l b .answer ≡ Justified z k v)) ↔ Free (lineParts t n l b)
+  unfolding justified
+  call-answered = (λ h. line-free .0 (go (lineFault t n l b) (h .3)), λ h. (_, _, _, ap (λ (f : Fault). settled f (sideFor t n l) l b .answer) (line-free .1 h)))
+    where
+      go : {z : ℤ} {k v : ℕ} (f : Fault) → settled f (sideFor t n l) l b .answer ≡ Justified z k v → f ≡ Clear
+      go {z} {k} {v} Clear e = refl
+      go {z} {k} {v} (Bad s at) e = let y : _≡_ {A = ℕ} 0 1 = cc in absurd (omega arith)

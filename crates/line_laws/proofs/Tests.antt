@@ -1,0 +1,160 @@
+-- The tests of a line's refusals say what their plain words say.
+use Prim.Native.Nat.{ℕ, zero, suc, _≤_, _<_}
+use mathlib.Core.Path.{_≡_, refl, sym, ap, ap₂, _∙_, subst}
+use mathlib.Core.Logic.{_⊎_, inl, inr, _↔_}
+use mathlib.Core.Bool.{Bool, true, false, _&&_, _||_, false≢true}
+use mathlib.Core.List.{List, [], _∷_, map}
+use native.Mathlib.Omega.{arith}
+use native.Mathlib.Decide.{decLt}
+use lib.Dec.{leb, ltb, eqb}
+use lib.IntN.{ℤ, pos, negsuc, natAbs, _+ℤ_}
+use lib.ListN.{length, getD}
+use borrow.Author.Tests.{leb-true, le-leb, eqb-true, eq-eqb, lt-ltb, le-ltb}
+use Rattle.share.specs.Share.{total, ofStage, stages, most}
+use Rattle.share.specs.Line.{Glyph, sideStages, sideFactors, lineFits, sumℤ}
+use Rattle.lines.specs.Line.{Line}
+use Rattle.line_parts.specs.Parts.{Known}
+use Rattle.line.specs.Justified.{Lent, equalLengths, within, noneNegative, goodAdvances, allKnown}
+use Rattle.line.proofs.Tests.{and-left, and-right, known-each}
+use Rattle.line_laws.specs.Bars.{OneLength, Measured, stageTotal, SmallTotals}
+
+and-both : {a b : Bool} → a ≡ true → b ≡ true → (a && b) ≡ true
+and-both {a} {b} p q = ap₂ (λ (x y : Bool). x && y) p q
+
+-- ---- 9
+
+pub lengths-are : (l : Line) (b : Lent) → (equalLengths l b ≡ true) ↔ OneLength l b
+lengths-are l b = (holds, tested)
+  where
+    n : ℕ
+    n = length (l .glyphs)
+
+    advances : Bool
+    advances = eqb (length (l .advances)) n
+
+    classes : Bool
+    classes = eqb (length (b .classes)) n
+
+    before : Bool
+    before = eqb (length (b .before)) n
+
+    after : Bool
+    after = eqb (length (b .after)) n
+
+    holds : equalLengths l b ≡ true → OneLength l b
+    holds e =
+        let three = and-left (advances && classes && before) after e in
+        let two = and-left (advances && classes) before three in
+        record {
+          advances = eqb-true _ _ (and-left advances classes two);
+          classes = eqb-true _ _ (and-right advances classes two);
+          before = eqb-true _ _ (and-right (advances && classes) before three);
+          after = eqb-true _ _ (and-right (advances && classes && before) after e);
+        }
+
+    tested : OneLength l b → equalLengths l b ≡ true
+    tested h = and-both (and-both (and-both (eq-eqb _ _ (h .advances)) (eq-eqb _ _ (h .classes))) (eq-eqb _ _ (h .before))) (eq-eqb _ _ (h .after))
+
+-- ---- 11
+
+pub size-is : (s : ℕ) → ((leb 1 s && leb s 67108864) ≡ true) ↔ ((1 ≤ s) × (s ≤ 67108864))
+size-is s = (
+  λ e. (leb-true _ _ (and-left (leb 1 s) (leb s 67108864) e), leb-true _ _ (and-right (leb 1 s) (leb s 67108864) e)),
+  λ h. and-both (le-leb 1 s (h .0)) (le-leb s 67108864 (h .1)),
+)
+
+-- ---- 12
+
+whole : (xs : List ℤ) → noneNegative xs ≡ true → xs ≡ map pos (map natAbs xs)
+whole [] e = refl
+whole (pos a ∷ xs) e = ap (λ (l : List ℤ). pos a ∷ l) (whole xs (and-right (leb 0 a) (noneNegative xs) e))
+whole (negsuc a ∷ xs) e = absurd (false≢true e)
+
+whole-back : (ys : List ℕ) → noneNegative (map pos ys) ≡ true
+whole-back [] = refl
+whole-back (y ∷ ys) = and-both (le-leb 0 y (omega arith)) (whole-back ys)
+
+sum-whole : (ys : List ℕ) → sumℤ (map pos ys) ≡ pos (total ys)
+sum-whole [] = refl
+sum-whole (y ∷ ys) = ap (λ (z : ℤ). pos y +ℤ z) (sum-whole ys)
+
+small : (x : ℕ) → within (pos x) ≡ true → x ≤ 1073741823
+small x e = leb-true x 1073741823 (and-right (leb 0 x) (leb x 1073741823) e)
+
+small-back : (x : ℕ) → x ≤ 1073741823 → within (pos x) ≡ true
+small-back x h = and-both (le-leb 0 x (omega arith)) (le-leb x 1073741823 h)
+
+near : (z : ℤ) → within z ≡ true → (x : ℕ) × (z ≡ pos x) × (x ≤ 1073741823)
+near (pos x) e = (x, refl, small x e)
+near (negsuc x) e = absurd (false≢true e)
+
+pub advances-are : (l : Line) → (goodAdvances l ≡ true) ↔ Measured l
+advances-are l = (holds, tested)
+  where
+    whole-ones : Bool
+    whole-ones = noneNegative (l .advances)
+
+    small-sum : Bool
+    small-sum = within (sumℤ (l .advances))
+
+    near-target : Bool
+    near-target = within (l .target)
+
+    holds : goodAdvances l ≡ true → Measured l
+    holds e =
+        let two = and-left (whole-ones && small-sum) near-target e in
+        let w = whole (l .advances) (and-left whole-ones small-sum two) in
+        let aim = near (l .target) (and-right (whole-ones && small-sum) near-target e) in
+        record {
+          sizes = map natAbs (l .advances);
+          advances = w;
+          sum = small (total (map natAbs (l .advances))) (sym (ap within (ap sumℤ w ∙ sum-whole (map natAbs (l .advances)))) ∙ and-right whole-ones small-sum two);
+          aim = aim .0;
+          target = aim .1;
+          near = aim .2;
+        }
+
+    tested : Measured l → goodAdvances l ≡ true
+    tested h =
+        and-both
+        (and-both (ap noneNegative (h .advances) ∙ whole-back (h .sizes)) (ap within (ap sumℤ (h .advances) ∙ sum-whole (h .sizes)) ∙ small-back (total (h .sizes)) (omega (arith, h .sum))))
+        (ap within (h .target) ∙ small-back (h .aim) (omega (arith, h .near)))
+
+-- ---- 13
+
+pub glyphs-are : (n : ℕ) (gs : List ℕ) → (allKnown n gs ≡ true) ↔ Known n gs
+glyphs-are n gs = (known-each n gs, tested gs)
+  where
+    one : (g : ℕ) → (g ≡ 0xFFFF) ⊎ (g < n) → (ltb g n || eqb g 0xFFFF) ≡ true
+    one g (inr h) = ap (λ (b : Bool). b || eqb g 0xFFFF) (lt-ltb g n h)
+    one g (inl e) = go (ltb g n)
+      where
+        go : (b : Bool) → (b || eqb g 0xFFFF) ≡ true
+        go true = refl
+        go false = eq-eqb g 0xFFFF e
+
+    tested : (xs : List ℕ) → Known n xs → allKnown n xs ≡ true
+    tested [] h = refl
+    tested (x ∷ xs) h = and-both (one x (h 0 (omega arith))) (tested xs (λ place q. h (suc place) (omega arith)))
+
+-- ---- 15
+
+pub totals-are : (gs : List Glyph) → (lineFits gs ≡ true) ↔ SmallTotals gs
+unfolding lineFits stages
+totals-are gs = (holds, tested)
+  where
+    t : ℕ → Bool
+    t s = leb (stageTotal gs s) most
+
+    holds : lineFits gs ≡ true → SmallTotals gs
+    holds e =
+        let e1 = and-right (t 0) (t 1 && (t 2 && true)) e in
+        let e2 = and-right (t 1) (t 2 && true) e1 in
+        record {
+          first = leb-true _ _ (and-left (t 0) (t 1 && (t 2 && true)) e);
+          second = leb-true _ _ (and-left (t 1) (t 2 && true) e1);
+          third = leb-true _ _ (and-left (t 2) true e2);
+        }
+
+    tested : SmallTotals gs → lineFits gs ≡ true
+    tested h = and-both (le-leb _ _ (h .first)) (and-both (le-leb _ _ (h .second)) (and-both (le-leb (stageTotal gs 2) most (omega (arith, h .third))) refl))

@@ -1,0 +1,95 @@
+-- What bars a line (document 01, "Numbers of refusal", 9 to 16), each in plain words, and in their order after the table's.
+use Prim.Native.Nat.{ℕ, _+_, _*_, _≤_}
+use mathlib.Core.Path.{_≡_}
+use mathlib.Core.Bool.{_&&_}
+use mathlib.Core.Option.{Option, none, some}
+use mathlib.Core.List.{List, [], _∷_, map}
+use lib.Dec.{leb}
+use lib.IntN.{pos}
+use lib.ListN.{length, replicate}
+use Rattle.fields.specs.declared.Refusal.the-variants.{UnequalLengths, LongLine, PointSize, Advances, UnknownGlyph, EndlessWalk, StageTotal, ShortRoom}
+use Rattle.fields.specs.declared.Fault.{Fault}
+use Rattle.fields.specs.Faults.{rule}
+use Rattle.meaning.specs.Meaning.{Side, Machine}
+use Rattle.meaning.specs.Ask.{sideOf}
+use Rattle.walk.specs.Walk.{Ends, Never}
+use Rattle.walk.specs.Walk as walk
+use Rattle.walk.specs.Line.{lineOf}
+use Rattle.share.specs.Share.{total, ofStage}
+use Rattle.share.specs.Line.{Glyph, sideStages, sideFactors, lineFits}
+use Rattle.table.specs.Table.{tableFault}
+use Rattle.table.specs.Means.{meaningOf}
+use Rattle.lines.specs.Line.{Line, walkMachine, kindOf, walkOf, hasStopped, partsFor, verdictsOf}
+use Rattle.line_parts.specs.Parts.{Known}
+use Rattle.line.specs.Justified.{Lent, equalLengths, goodAdvances, allKnown}
+
+-- the direction of a line in the meaning of its table
+abbrev pub sideFor : List ℕ → ℕ → Line → Side
+sideFor t n l = sideOf (l .direction) (meaningOf t n)
+
+-- what can bar a line, in order
+abbrev pub lineParts : List ℕ → ℕ → Line → Lent → List Fault
+lineParts t n l b =
+    tableFault t n
+    ∷ rule (equalLengths l b) UnequalLengths 0
+    ∷ rule (leb (length (l .glyphs)) 1024) LongLine 0
+    ∷ rule (leb 1 (l .size) && leb (l .size) 67108864) PointSize 0
+    ∷ rule (goodAdvances l) Advances 0
+    ∷ rule (allKnown n (l .glyphs)) UnknownGlyph 0
+    ∷ rule (hasStopped (walkOf (sideFor t n l .machine) l)) EndlessWalk 0
+    ∷ rule (lineFits (partsFor (sideFor t n l) l)) StageTotal 0
+    ∷ rule (leb (length (verdictsOf (sideFor t n l) l)) (length (b .verdicts))) ShortRoom 0
+    ∷ []
+
+-- ---- the tests in plain words
+
+-- 9 does not bar it: an advance, a class and two movements for each glyph
+pub record OneLength (l : Line) (b : Lent) : Type 0 where
+  pub advances : length (l .advances) ≡ length (l .glyphs)
+  pub classes : length (b .classes) ≡ length (l .glyphs)
+  pub before : length (b .before) ≡ length (l .glyphs)
+  pub after : length (b .after) ≡ length (l .glyphs)
+
+-- 12 does not bar it: the advances and the target are whole numbers of units, and the sum and the target small
+pub record Measured (l : Line) : Type 0 where
+  pub sizes : List ℕ
+  pub advances : l .advances ≡ map pos sizes
+  pub sum : total sizes ≤ 1073741823
+  pub aim : ℕ
+  pub target : l .target ≡ pos aim
+  pub near : aim ≤ 1073741823
+
+-- 15 does not bar the parts of its glyphs: the factor total of each of the three stages
+abbrev pub stageTotal : List Glyph → ℕ → ℕ
+stageTotal gs stage = total (ofStage stage (sideStages gs) (sideFactors gs))
+
+pub record SmallTotals (gs : List Glyph) : Type 0 where
+  pub first : stageTotal gs 0 ≤ 8589934592
+  pub second : stageTotal gs 1 ≤ 8589934592
+  pub third : stageTotal gs 2 ≤ 8589934592
+
+-- ---- the walk
+
+-- the line as a machine walks it: its glyphs' classes in the machine, and whether it starts and ends the text
+abbrev pub walkLine : Machine → Line → walk.Line
+walkLine m l = lineOf (map (kindOf m) (l .glyphs)) (l .starts) (l .ends)
+
+-- with no machine there is no walk, so none that never ends
+abbrev pub NeverEnds : Option Machine → Line → Type 0
+NeverEnds none l = ⊥
+NeverEnds (some m) l = Never (walkMachine m) (walkLine m l)
+
+-- the walk ends with these classes after so many entries; with no machine every class is 0 and the count too
+abbrev pub EndsWith : Option Machine → Line → List ℕ → ℕ → Type 0
+EndsWith none l cs k = (cs ≡ replicate (length (l .glyphs)) 0) × (k ≡ 0)
+EndsWith (some m) l cs k = Ends (walkMachine m) (walkLine m l) cs k × (k ≤ m .rows * (length (l .glyphs) + 1))
+
+-- ---- a line that nothing before its walk bars
+
+pub record Ready (n : ℕ) (l : Line) (b : Lent) : Type 0 where
+  pub lengths : OneLength l b
+  pub short : length (l .glyphs) ≤ 1024
+  pub some-size : 1 ≤ l .size
+  pub small-size : l .size ≤ 67108864
+  pub measured : Measured l
+  pub known : Known n (l .glyphs)

@@ -1,0 +1,80 @@
+-- Stretches alike have the same slot, and a slot is one of those there are.
+use Prim.Native.Nat.{ℕ, zero, suc, _+_, _-_, _*_, _/_, _%_, _≤_, _<_}
+use mathlib.Core.Path.{_≡_, refl, sym, ap, ap₂, _∙_}
+use mathlib.Core.List.{List}
+use native.Mathlib.Nat.{mul-lt-mul-of-pos-right}
+use native.Mathlib.Omega.{arith}
+use lib.ListN.{length, getD, take}
+use lib.Seq.{slice, length-slice, getD-take, getD-drop}
+use Rattle.fields.specs.Field.{u16At, u32At}
+use Rattle.order.specs.Order.{stretch}
+use Rattle.order.specs.Slots.{mixed, edge, slotOf}
+use Rattle.order.proofs.MarkLaws.{slice-clipped}
+
+pub mixed-next : (s : List ℕ) (n at h : ℕ) → 0 < n → mixed s n at h ≡ mixed s (n - 1) (at + 4) ((h + u32At s at) % 4294967296 * 2654435761 % 4294967296)
+unfolding mixed
+mixed-next s zero at h p = absurd (omega arith)
+mixed-next s (suc n) at h p = ap (λ (m : ℕ). mixed s m (at + 4) ((h + u32At s at) % 4294967296 * 2654435761 % 4294967296)) (less n)
+  where
+    less : (n : ℕ) → n ≡ suc n - 1
+    less n = omega arith
+
+pub mixed-end : (s : List ℕ) (n at h : ℕ) → n ≤ 0 → mixed s n at h ≡ h
+unfolding mixed
+mixed-end s zero at h p = refl
+mixed-end s (suc n) at h p = absurd (omega arith)
+
+pub few-slots : (h slots : ℕ) → h < 4294967296 → 0 < slots → h * slots < 4294967296 * slots
+few-slots h slots p q = mul-lt-mul-of-pos-right p q
+
+module _ (s : List ℕ) where
+  word : (a b : ℕ) → getD s a 0 ≡ getD s b 0 → getD s (a + 1) 0 ≡ getD s (b + 1) 0 → getD s (a + 2) 0 ≡ getD s (b + 2) 0
+      → getD s (a + 2 + 1) 0 ≡ getD s (b + 2 + 1) 0 → u32At s a ≡ u32At s b
+  unfolding u32At u16At
+  word a b p q r t =
+      ap₂ (λ (x y : ℕ). x * 65536 + y) (ap₂ (λ (x y : ℕ). x * 256 + y) p q) (ap₂ (λ (x y : ℕ). x * 256 + y) r t)
+
+  -- what is the same byte by byte mixes to the same
+  same-words : (n a b h : ℕ) → ((j x y : ℕ) → j < 4 * n → x ≡ a + j → y ≡ b + j → getD s x 0 ≡ getD s y 0) → mixed s n a h ≡ mixed s n b h
+  unfolding mixed
+  same-words zero a b h e = refl
+  same-words (suc n) a b h e =
+      ap (λ (x : ℕ). mixed s n (a + 4) ((h + x) % 4294967296 * 2654435761 % 4294967296))
+      (word a b (e 0 a b (omega arith) (omega arith) (omega arith)) (e 1 (a + 1) (b + 1) (omega arith) (omega arith) (omega arith))
+      (e 2 (a + 2) (b + 2) (omega arith) (omega arith) (omega arith)) (e 3 (a + 2 + 1) (b + 2 + 1) (omega arith) (omega arith) (omega arith)))
+      ∙ same-words n (a + 4) (b + 4) _ (λ j x y l p q. e (4 + j) x y (omega arith) (omega arith) (omega arith))
+
+  at : (a ae x j : ℕ) → x ≡ a + j → x < ae → getD s x 0 ≡ getD (slice a ae s) j 0
+  at a ae x j e h = sym (getD-drop a (take ae s) j 0 ∙ ap (λ (i : ℕ). getD (take ae s) i 0) (sym e) ∙ getD-take ae s x 0 h)
+
+  mixed-alike : (a ae b be : ℕ) → ae ≤ length s → be ≤ length s → slice a ae s ≡ slice b be s → mixed s ((ae - a) / 4) a 0 ≡ mixed s ((be - b) / 4) b 0
+  mixed-alike a ae b be p q e =
+      let l : ae - a ≡ be - b = sym (length-slice a ae s p) ∙ ap length e ∙ length-slice b be s q in
+      ap (λ (n : ℕ). mixed s (n / 4) a 0) l
+      ∙ same-words ((be - b) / 4) a b 0
+      (λ j x y h ex ey.
+      at a ae x j ex (omega (arith, l)) ∙ ap (λ (t : List ℕ). getD t j 0) e ∙ sym (at b be y j ey (omega arith)))
+
+pub slot-alike : (s marks : List ℕ) (slots x y : ℕ) → stretch s marks x ≡ stretch s marks y → slotOf s marks slots x ≡ slotOf s marks slots y
+unfolding slotOf stretch
+slot-alike s marks slots x y e =
+    ap (λ (m : ℕ). m * slots / 4294967296)
+    (mixed-alike s (edge s marks x) (edge s marks (x + 1)) (edge s marks y) (edge s marks (y + 1)) (omega arith) (omega arith)
+    (slice-clipped (getD marks x 0) (getD marks (x + 1) 0) s ∙ e ∙ sym (slice-clipped (getD marks y 0) (getD marks (y + 1) 0) s)))
+
+-- ---- the slot as it is reckoned
+
+module _ (s marks : List ℕ) (slots k a b : ℕ) (ea : a ≡ edge s marks k) (eb : b ≡ edge s marks (k + 1)) where
+  pub slot-none : b < a → 0 ≡ slotOf s marks slots k
+  unfolding slotOf mixed
+  slot-none h =
+      let n : (edge s marks (k + 1) - edge s marks k) / 4 ≡ 0 = omega (arith, ea, eb) in
+      sym (ap (λ (m : ℕ). mixed s m (edge s marks k) 0 * slots / 4294967296) n ∙ nothing slots)
+    where
+      nothing : (slots : ℕ) → 0 * slots / 4294967296 ≡ 0
+      nothing slots = omega arith
+
+  pub slot-is : (h : ℕ) → h ≡ mixed s ((b - a) / 4) a 0 → h * slots / 4294967296 ≡ slotOf s marks slots k
+  unfolding slotOf
+  slot-is h e =
+      ap (λ (m : ℕ). m * slots / 4294967296) (e ∙ ap₂ (λ (u v : ℕ). mixed s ((u - v) / 4) v 0) eb ea)

@@ -1,0 +1,39 @@
+-- `order::slot_of` meets its contract. The slot is the upper part of a product below `slots` times 2 ^ 32. Assumes nothing.
+use native.Mathlib.Omega.{arith}
+use borrow.Author.Needs.{needs}
+use Rattle.order.proofs.SlotLaws.{few-slots, slot-none, slot-is}
+use Rattle.order.proofs.slot_of.Statement.{statement}
+use Rattle.order.proofs.slot_of.Tie as tie
+
+mark-requires : tie.Need-mark-requires
+mark-requires c κs = search needs
+
+add-mark : tie.Need-add-mark
+add-mark c = search needs
+
+mark-requires-2 : tie.Need-mark-requires-2
+mark-requires-2 c κs = search needs
+
+returns : tie.Need-returns
+returns c =
+    let a = c .before .before .before .before .before .args in
+    (slot-none (a .bytes .now) (a .marks .now) (a .slots) (a .k) _ _ (c .before .before .mark .ensures .0) (c .before .mark2 .ensures .0) (c .if1 .taken), omega arith)
+
+mix-requires : tie.Need-mix-requires
+mix-requires c κs = search needs
+
+mul-result : tie.Need-mul-result
+mul-result c =
+    let a = c .before .before .before .before .before .before .args in
+    omega (arith, few-slots (c .mix .result) (a .slots) (omega arith) (omega arith))
+
+returns-2 : tie.Need-returns-2
+returns-2 c =
+    let a = c .before .before .before .before .before .before .args in
+    let few = few-slots (c .mix .result) (a .slots) (omega arith) (omega arith) in
+    (slot-is (a .bytes .now) (a .marks .now) (a .slots) (a .k) _ _ (c .before .before .before .mark .ensures .0) (c .before .before .mark2 .ensures .0) _ (c .mix .ensures .0), omega (arith, few))
+
+pub slot-of-spec : {M : Type 1} → statement M
+slot-of-spec =
+    tie.close
+    (tie.spec mark-requires add-mark mark-requires-2 returns mix-requires mul-result returns-2)

@@ -1,0 +1,23 @@
+-- A list by stretches of equal elements: where each stretch ends, and its element. Glyphs in a row that have one value are handled at once.
+use Prim.Native.Nat.{ℕ, _-_, _<_, _^_}
+use mathlib.Core.Path.{_≡_}
+use mathlib.Core.List.{List, [], _∷_, _++_}
+use lib.ListN.{length, replicate}
+
+-- the list's elements from index i on: each of vs up to, but not with, the index that stands for it in the list of ends
+unfoldable pub spread : {A : Type 0} → ℕ → List ℕ → List A → List A
+spread i [] vs = []
+spread i (e ∷ es) [] = []
+spread i (e ∷ es) (v ∷ vs) = replicate (e - i) v ++ spread e es vs
+
+-- the ends rise from i on, so that no stretch is empty, and the last of them is n
+abbrev pub Rise : ℕ → List ℕ → ℕ → Type 0
+Rise i [] n = i ≡ n
+Rise i (e ∷ es) n = (i < e) × Rise e es n
+
+-- stretches of fewer than 65,536 places in all, each with its element
+pub record Stretches (ends values : List ℕ) : Type 0 where
+  pub last : ℕ
+  pub few : last < 2 ^ 16
+  pub rise : Rise 0 ends last
+  pub each : length values ≡ length ends
