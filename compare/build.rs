@@ -1,8 +1,10 @@
-//! Links the boundary archive that `rt staticlib just_c` writes.
+//! Links the boundary archives that `rt staticlib just_c` and `rt staticlib just_line` write.
 
 fn main() {
-    let archive = std::path::Path::new(env!("CARGO_MANIFEST_DIR")).join("../target/staticlib");
-    println!("cargo:rustc-link-search=native={}", archive.display());
-    println!("cargo:rustc-link-lib=static=just_c");
-    println!("cargo:rerun-if-changed={}", archive.join("libjust_c.a").display());
+    let folder = std::path::Path::new(env!("CARGO_MANIFEST_DIR")).join("../target/staticlib");
+    println!("cargo:rustc-link-search=native={}", folder.display());
+    for archive in ["just_line", "just_c"] {
+        println!("cargo:rustc-link-lib=static={archive}");
+        println!("cargo:rerun-if-changed={}", folder.join(format!("lib{archive}.a")).display());
+    }
 }

@@ -1,9 +1,23 @@
-/* just: 'just' tables and their sheets, read and proved. Justifying a line and writing a sheet are not here yet.
+/* just: 'just' tables, lines and sheets, proved.
  *
- * Bytes are lent: a pointer and a length, nothing is kept, nothing is freed, and a call writes only where a comment says so.
- * A pointer of length 0 may be any pointer but NULL. A refusal is the number of a just_refusal, 0 where there is none; what
- * stands beside a refusal, or beside `found` false, is zeros. A direction is 0 for horizontal and any other number for
- * vertical. `glyphs` is the glyph count N that a table is read with. */
+ * What is lent. Bytes and buffers are lent: a pointer, then a length in elements. The caller owns them; nothing is
+ * kept after a call, nothing is allocated, nothing is freed. A call reads only what it is lent and writes only into
+ * pointers that are not const, never past their length. A pointer may not be NULL, not even with length 0, and is
+ * aligned for its type. A buffer that a call writes may not overlap any other buffer of that call; buffers that are
+ * only read may.
+ *
+ * What is answered. A refusal is the number of a just_refusal, 0 where there is none. What stands beside a refusal,
+ * or beside `found` false, is zeros. A refusal leaves every lent buffer as it was. Padding between the members of a
+ * struct that a call fills may hold anything, so compare verdicts member by member.
+ *
+ * Any bytes and any numbers may be handed in. A bool is false or true. A direction is 0 for horizontal and any other
+ * number for vertical. `glyphs` or `glyph_count` is the glyph count N that a table is read with. One unit is
+ * 1/65,536 point.
+ *
+ * No call has state, so calls may run at the same time on lent bytes that none of them writes. Calls for sheets, the
+ * writer among them, need up to 1.1 MiB of stack, all others less than 100 KiB.
+ *
+ * The calls stand in two archives: just_justify in libjust_line.a, all others in libjust_c.a. */
 #ifndef JUST_H
 #define JUST_H
 
@@ -27,11 +41,11 @@ enum just_refusal {
     JUST_BAD_ACTIONS = 8,     /* an action list breaks its rule */
     JUST_UNEQUAL_LENGTHS = 9, /* glyphs, advances, classes or movements lent in differing lengths */
     JUST_LONG_LINE = 10,      /* more than 1,024 glyphs */
-    JUST_POINT_SIZE = 11,     /* the point size */
-    JUST_ADVANCES = 12,       /* an advance, their sum, or the target */
+    JUST_POINT_SIZE = 11,     /* the point size is outside 1 to 67,108,864 units */
+    JUST_ADVANCES = 12,       /* an advance, their sum or the target is outside 0 to 1,073,741,823 units */
     JUST_UNKNOWN_GLYPH = 13,  /* a glyph of N or more, not deleted */
     JUST_ENDLESS_WALK = 14,   /* the class walk never ends */
-    JUST_STAGE_TOTAL = 15,    /* a stage's total of factors is too large */
+    JUST_STAGE_TOTAL = 15,    /* a stage's total of factors is above 8,589,934,592 units */
     JUST_SHORT_ROOM = 16,     /* verdicts or sheet longer than the lent room */
     JUST_NOT_SHEET = 17       /* bytes that are not a sheet */
 };
@@ -108,6 +122,29 @@ struct just_action_answer {
     struct just_action action;
 };
 
+/* How many bytes a sheet has. */
+struct just_length_answer {
+    uint32_t refusal;
+    uint32_t length;
+};
+
+/* An action that fires: the glyph's place in the line and the action's number in the glyph's list, both from 0, and
+ * whether it substitutes. */
+struct just_verdict {
+    uint16_t place;
+    uint16_t action;
+    bool substitutes;
+};
+
+/* What is said of a line: what is left of the gap, how many entries of the machine were taken (0 without a machine),
+ * and how many verdicts were stored. */
+struct just_line_answer {
+    uint32_t refusal;
+    int32_t remainder;
+    uint32_t entries;
+    uint32_t verdicts;
+};
+
 /* A stretch of a table: the offset of its first byte, and its length in bytes. */
 struct just_stretch {
     size_t offset;
@@ -132,6 +169,34 @@ struct just_action_answer just_table_action(const uint8_t *table, size_t length,
 /* Where the component list of a type 0 action stands in the table; length 0 where there is none. Never refuses. */
 struct just_stretch just_table_components(const uint8_t *table, size_t length, uint32_t glyphs, uint32_t direction,
                                           uint16_t glyph, uint16_t number);
+
+/* The length of a table's sheet, without writing it. Refuses with 1 to 8. */
+struct just_length_answer just_table_sheet_length(const uint8_t *table, size_t length, uint32_t glyphs);
+
+/* Writes a table's sheet into the first bytes of the room, whatever stood there, and answers their count; the rest
+ * of the room stays as it was. Refuses with 1 to 8, or with 16 exactly when the sheet is longer than the room. */
+struct just_length_answer just_write_sheet(const uint8_t *table, size_t length, uint32_t glyphs, uint8_t *room,
+                                           size_t room_length);
+
+/* Justifies one line.
+ *
+ * `starts` and `ends` say whether the line starts and ends the text, `size` is the point size in units (1 to
+ * 67,108,864). `glyphs` names at most 1,024 glyphs, 0xFFFF being a deleted one; `advances` are their widths,
+ * `target` is the width wanted, in units.
+ *
+ * `glyphs`, `advances`, `classes`, `before` and `after` have one length (else 9). On success `classes` has each
+ * glyph's class, `before` and `after` the movements on its two sides in units, signed as the gap is: together with
+ * the remainder they sum to `target` less the advances. The first `verdicts` records of the list are filled, by
+ * place and then by number, and the rest of the list stays as it was; 16 where it is too short for them. At most 64
+ * actions of a glyph fire, so a list of 64 times the glyphs is never too short.
+ *
+ * Refuses with the table's 1 to 8, then 9 to 16 in that order. */
+struct just_line_answer just_justify(const uint8_t *table, size_t length, uint32_t glyph_count, uint32_t direction,
+                                     bool starts, bool ends, uint32_t size, const uint16_t *glyphs,
+                                     size_t glyphs_length, const int32_t *advances, size_t advances_length,
+                                     int32_t target, uint8_t *classes, size_t classes_length, int32_t *before,
+                                     size_t before_length, int32_t *after, size_t after_length,
+                                     struct just_verdict *verdicts, size_t verdicts_length);
 
 /* Whether bytes are a sheet: 0, or 17. */
 uint32_t just_check_sheet(const uint8_t *sheet, size_t length);

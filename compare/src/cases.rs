@@ -1,6 +1,9 @@
-//! The inputs that are timed.
+//! The inputs that are timed: tables, lines and sheets of ordinary and of hostile make.
 
+use crate::drafts;
 use reference::examples::Fields;
+use reference::generate::LineCase;
+use reference::{sheet_of, Action, Cell, Direction, Parts, Sizes, WidthRecord};
 
 /// A cluster of one pair for class 0, in 28 bytes.
 fn cluster(fields: Fields, grow: u32) -> Fields {
@@ -12,17 +15,14 @@ fn head(clusters: u16) -> Fields {
     Fields::new().l(0x0001_0000).ws(&[0, 10, 0]).ws(&[0, clusters, 0])
 }
 
-/// `units` units of format 2, 13 glyphs apart, that lead in turn to `distinct` clusters.
-pub fn ranges(units: u16, distinct: u16) -> Vec<u8> {
+/// `units` units of format 2, `step` glyphs apart, that lead in turn to `distinct` clusters.
+pub fn ranges(units: u16, step: u16, distinct: u16) -> Vec<u8> {
     let clusters = 16 + 12 + 6 * units;
     let mut fields = head(clusters).ws(&[2, 6, units, 0, 0, 0]);
     for unit in 0..units {
-        fields = fields.ws(&[unit * 13 + 11, unit * 13, 28 * (unit % distinct)]);
+        fields = fields.ws(&[unit * step + step - 2, unit * step, 28 * (unit % distinct)]);
     }
-    for number in 0..distinct {
-        fields = cluster(fields, u32::from(number));
-    }
-    fields.done()
+    (0..distinct).fold(fields, |fields, number| cluster(fields, number.into())).done()
 }
 
 /// Units of format 4 that cover every glyph and share one array of `width` values, all for one cluster.
@@ -38,4 +38,127 @@ pub fn shared_array(width: u16) -> Vec<u8> {
         fields = fields.w(0);
     }
     cluster(fields, 7).done()
+}
+
+/// Format 8 for glyphs 0, 1, .., whose values are these offsets from the clusters.
+fn trimmed(values: &[u16]) -> Fields {
+    let count = values.len() as u16;
+    head(22 + 2 * count).ws(&[8, 0, count]).ws(values)
+}
+
+/// Nine rows of 128 pairs, in which the flags of each pair are the count of a cluster that begins there: 1,152 clusters, one
+/// to a glyph, and a sheet of more than 1 MB.
+pub fn nested_rows() -> Vec<u8> {
+    let values: Vec<u16> = (0..9u16).flat_map(|row| (0..128).map(move |pair| 3_076 * row + 24 * pair)).collect();
+    let mut fields = trimmed(&values);
+    for row in 0..9 {
+        fields = fields.l(128);
+        for pair in 0..128 {
+            let count = (1..128 - pair).rev().find(|count| count % 16 <= 3).unwrap_or(0);
+            fields = fields.ls(&[pair, row, 0x100, pair, 0x100, count]);
+        }
+    }
+    fields.done()
+}
+
+/// Clusters of one pair that begin at each eighth byte, all different, one to a glyph.
+pub fn overlapping_pairs(count: u16) -> Vec<u8> {
+    let values: Vec<u16> = (0..count).map(|number| 8 * number).collect();
+    let words = trimmed(&values);
+    (0..u32::from(count) + 4).fold(words, |fields, number| fields.ls(&[1, number << 7])).done()
+}
+
+/// A direction without machine and clusters whose actions are at 22: a lookup of format 8, then the rest.
+fn with_lists(values: &[u16]) -> Fields {
+    let head = Fields::new().l(0x0001_0000).ws(&[0, 10, 0]).ws(&[0, 0, 22]).ws(&[8, 0, 0]);
+    head.ws(&[8, 0, values.len() as u16]).ws(values)
+}
+
+/// Lists of 64 actions that begin at each eighth byte, one to a glyph. The first 504 differ from each other and from the
+/// rest, after a long common beginning; the rest are all alike.
+pub fn alike_lists(count: u16) -> Vec<u8> {
+    let place = |number: u16| 6 + 2 * count + 8 * number;
+    let values: Vec<u16> = (count - 504..count).chain(0..count - 504).map(place).collect();
+    let class = |number: u16| if number < count { 0 } else { (number - count) % 127 + 1 };
+    let words = with_lists(&values);
+    // Each length, 64, is also the count of the list that begins there.
+    (0..count + 8 * 64).fold(words, |fields, number| fields.l(64).ws(&[class(number), 4])).l(64).done()
+}
+
+/// A table with a list of 64 actions for each of its glyphs, and an unlimited record.
+pub fn many_actions() -> Vec<u8> {
+    let action = |fields: Fields, _| fields.ws(&[0, 3]).l(8);
+    let list = (0..64).fold(Fields::new().l(64), action).done();
+    drafts::table(&[drafts::grows(0, 0, 0x1000); 4], &list, &[])
+}
+
+/// A table with a machine in which each glyph takes 256 entries: all rows stay and lead to the next, but the last.
+pub fn long_walk() -> Vec<u8> {
+    let rows: Vec<[u8; 4]> = (0..=255).map(|row| [255, row, 255, 255]).collect();
+    let entries: Vec<(u16, u16)> = (0..256).map(|row| if row < 255 { (row + 1, 0x4000) } else { (0, 0) }).collect();
+    drafts::table(&[drafts::grows(0x1000, 0x1000, 0)], &[], &drafts::machine(&rows, &entries))
+}
+
+/// Apple's complex example without its machine.
+pub fn without_machine() -> Vec<u8> {
+    let mut table = reference::examples::complex();
+    table[10..12].fill(0);
+    table
+}
+
+/// A line of `count` glyphs from all over the font, at 12 pt, two points a glyph too narrow.
+pub fn line(table: Vec<u8>, n: u32, count: usize) -> LineCase {
+    LineCase {
+        table,
+        n,
+        direction: Direction::Horizontal,
+        starts: true,
+        ends: true,
+        size: 12 * 65_536,
+        glyphs: (0..count as u32).map(|place| (place * 7_919 % n) as u16).collect(),
+        advances: vec![6 * 65_536; count],
+        target: 8 * 65_536 * count as i64,
+        classes_len: count,
+        before_len: count,
+        after_len: count,
+        room: 64 * count,
+    }
+}
+
+/// A meaning in which each glyph has a cluster, of `distinct` in turn; no table could hold many.
+struct Spread {
+    glyphs: u32,
+    distinct: u32,
+}
+
+impl Parts for Spread {
+    fn glyph_count(&self) -> u32 {
+        self.glyphs
+    }
+
+    fn sizes(&self, _: Direction) -> Option<Sizes> {
+        None
+    }
+
+    fn glyph_class(&self, _: Direction, _: u32) -> Option<u8> {
+        None
+    }
+
+    fn cell(&self, _: Direction, _: u32, _: u32) -> Option<Cell> {
+        None
+    }
+
+    fn width_record(&self, direction: Direction, glyph: u32, class: u32) -> Option<WidthRecord> {
+        let asked = direction == Direction::Horizontal && class == 0;
+        asked.then(|| drafts::grows(0x1000, glyph % self.distinct, 0))
+    }
+
+    fn action(&self, _: Direction, _: u32, _: u32) -> Option<Action> {
+        None
+    }
+}
+
+/// The sheet of a meaning with so many glyphs and distinct clusters.
+pub fn sheet(glyphs: u32, distinct: u32) -> Vec<u8> {
+    sheet_of(&Spread { glyphs, distinct })
 }

@@ -3,12 +3,21 @@
 //! A case is a name, `KIND-SEED-INDEX`, from which its input is drawn again; a case in which the two differ is saved as a
 //! file of that name.
 
+pub mod caps;
 pub mod cases;
+pub mod clock;
+pub mod drafts;
+pub mod guarded;
 pub mod library;
+pub mod lines;
+pub mod marks;
 pub mod parts;
 pub mod questions;
+pub mod samples;
 pub mod sheets;
 pub mod tables;
+pub mod tally;
+pub mod written;
 
 /// What a comparison finds: nothing, or in which way the two differ.
 pub type Outcome = Result<(), String>;

@@ -2,6 +2,9 @@
 
 use reference::{Action, Cell, Direction, Sizes, Stretch, WidthRecord};
 
+pub mod line;
+pub mod write;
+
 mod raw {
     #[repr(C)]
     pub struct Count {

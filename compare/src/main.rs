@@ -2,7 +2,8 @@
 //! cases; with names, only on those cases. Exit status 1 where they differ.
 
 use compare::questions::Questions;
-use compare::{sheets, tables, Outcome};
+use compare::tally::Tally;
+use compare::{lines, marks, samples, sheets, tables, Outcome};
 use std::process::ExitCode;
 use std::time::{Duration, Instant};
 
@@ -37,11 +38,11 @@ fn asked() -> Result<Asked, String> {
 }
 
 /// The kinds of cases, each with its comparison.
-type Kind = (&'static str, fn(u64, u64) -> Outcome);
+type Kind = (&'static str, fn(u64, u64, &mut Tally) -> Outcome);
 
-const KINDS: [Kind; 2] = [("table", table_case), ("sheet", sheet_case)];
+const KINDS: [Kind; 4] = [("table", table_case), ("sheet", sheet_case), ("line", line_case), ("sample", sample_case)];
 
-fn table_case(seed: u64, index: u64) -> Outcome {
+fn table_case(seed: u64, index: u64, _: &mut Tally) -> Outcome {
     let (table, glyphs) = tables::draw(seed, index);
     let mut asked = Questions::new(seed, index);
     tables::compare(&table, glyphs, &mut asked)?;
@@ -51,13 +52,28 @@ fn table_case(seed: u64, index: u64) -> Outcome {
     Ok(())
 }
 
-fn sheet_case(seed: u64, index: u64) -> Outcome {
+fn sheet_case(seed: u64, index: u64, _: &mut Tally) -> Outcome {
     let bytes = sheets::draw(seed, index);
     sheets::compare(&bytes, &mut Questions::new(seed, index))?;
     if bytes.len() <= 200 && index % 40 == 0 {
         sheets::compare_changes(&bytes)?;
     }
     Ok(())
+}
+
+fn line_case(seed: u64, index: u64, tally: &mut Tally) -> Outcome {
+    let case = lines::draw(seed, index);
+    let second = case.justify();
+    marks::note(&case, &second, tally);
+    lines::compare(&case, &second, &mut Questions::new(seed, index))
+}
+
+/// There are few samples; a case past them is none.
+fn sample_case(seed: u64, index: u64, _: &mut Tally) -> Outcome {
+    match samples::ALL.get(index as usize) {
+        Some(sample) => samples::compare(sample, &mut Questions::new(seed, index)),
+        None => Ok(()),
+    }
 }
 
 /// One case by its name, `KIND-SEED-INDEX`.
@@ -68,7 +84,7 @@ fn replay(name: &str) -> Outcome {
     };
     let (_, case) = KINDS.iter().find(|(known, _)| *known == kind).ok_or(format!("{kind} is no kind of case"))?;
     let number = |text: &str| text.parse::<u64>().map_err(|_| format!("{text} is not a number"));
-    case(number(seed)?, number(index)?)
+    case(number(seed)?, number(index)?, &mut Tally::default())
 }
 
 /// Saves a case in which the two differ, and says so.
@@ -106,11 +122,12 @@ fn main() -> ExitCode {
 /// All kinds in turn, case by case, until the count or the time is used up.
 fn run(asked: &Asked) -> u32 {
     let began = Instant::now();
+    let mut tally = Tally::default();
     let mut differences = 0;
     let mut index = 0;
     while index < asked.count && asked.limit.is_none_or(|limit| began.elapsed() < limit) {
         for (kind, case) in KINDS {
-            if let Err(difference) = case(asked.seed, index) {
+            if let Err(difference) = case(asked.seed, index, &mut tally) {
                 report(&format!("{kind}-{}-{index}", asked.seed), &difference);
                 differences += 1;
             }
@@ -118,5 +135,17 @@ fn run(asked: &Asked) -> u32 {
         index += 1;
     }
     println!("compare: {index} cases of {} kinds, {differences} differences", KINDS.len());
-    differences
+    differences + missed(index, &tally)
+}
+
+/// Says how often lines were refused, and what a long run met too rarely; gives how many those are.
+fn missed(lines: u64, tally: &Tally) -> u32 {
+    let refused: Vec<u64> = (9..=16).map(|number| tally.count(&format!("refusal {number}"))).collect();
+    println!("compare: lines accepted {}, refused 9 to 16: {refused:?}", tally.count("accepted"));
+    if lines < marks::LONG_RUN {
+        return 0;
+    }
+    let short = tally.short(&marks::wanted());
+    short.iter().for_each(|mark| println!("compare: too rare: {mark}"));
+    short.len() as u32
 }

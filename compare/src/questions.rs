@@ -13,7 +13,8 @@ impl Questions {
         Questions(seed.wrapping_mul(0x9E37_79B9_7F4A_7C15) ^ index)
     }
 
-    fn next(&mut self) -> u64 {
+    /// Any number.
+    pub fn number(&mut self) -> u64 {
         self.0 = self.0.wrapping_add(0x9E37_79B9_7F4A_7C15);
         let mut mixed = self.0;
         mixed = (mixed ^ (mixed >> 30)).wrapping_mul(0xBF58_476D_1CE4_E5B9);
@@ -21,17 +22,22 @@ impl Questions {
         mixed ^ (mixed >> 31)
     }
 
+    /// A number below the end.
+    pub fn below(&mut self, end: u64) -> u64 {
+        self.number() % end
+    }
+
     /// A number below the end, or one at an edge.
     fn near(&mut self, end: u64) -> u16 {
         let edges = [0, 1, end.wrapping_sub(1), end, end + 1, 0xFFFE, 0xFFFF];
-        match self.next() % 4 {
-            0 => edges[(self.next() % 7) as usize] as u16,
-            _ => (self.next() % end.max(1)) as u16,
+        match self.number() % 4 {
+            0 => edges[(self.number() % 7) as usize] as u16,
+            _ => (self.number() % end.max(1)) as u16,
         }
     }
 
     pub fn glyph(&mut self, glyphs: u32) -> u16 {
-        let small = self.next() % 3 == 0;
+        let small = self.number() % 3 == 0;
         self.near(if small { 12 } else { glyphs.into() })
     }
 
@@ -41,17 +47,17 @@ impl Questions {
     }
 
     pub fn class(&mut self) -> u8 {
-        match self.next() % 4 {
-            0 => self.next() as u8,
-            _ => (self.next() % 4) as u8,
+        match self.number() % 4 {
+            0 => self.number() as u8,
+            _ => (self.number() % 4) as u8,
         }
     }
 
     pub fn action(&mut self) -> u16 {
-        match self.next() % 8 {
-            0 => self.next() as u16,
-            1 => [63, 64, 65][(self.next() % 3) as usize],
-            _ => (self.next() % 3) as u16,
+        match self.number() % 8 {
+            0 => self.number() as u16,
+            1 => [63, 64, 65][(self.number() % 3) as usize],
+            _ => (self.number() % 3) as u16,
         }
     }
 }

@@ -2,7 +2,7 @@
 
 use crate::library::{self, Asked};
 use crate::questions::{self, Questions};
-use crate::{parts, same, Outcome};
+use crate::{parts, same, written, Outcome};
 use reference::{generate, Direction};
 
 /// The table of a case, and the glyph count that it is read with.
@@ -25,13 +25,15 @@ pub fn compare(table: &[u8], glyphs: u32, asked: &mut Questions) -> Outcome {
     }
     match read {
         Ok(read) => compare_sheet(table, glyphs, read, asked),
-        Err(_) => Ok(()),
+        Err(number) => written::compare(table, glyphs, Err(number), asked),
     }
 }
 
-/// A table's sheet, where it is not too long to ask of again and again, is accepted and answers as the table does.
+/// A table's sheet is written alike and accepted, and where it is not too long to ask of again and again it answers as the
+/// table does.
 fn compare_sheet(table: &[u8], glyphs: u32, read: &reference::Table, asked: &mut Questions) -> Outcome {
     let sheet = reference::write_sheet(table, glyphs).expect("an accepted table");
+    written::compare(table, glyphs, Ok(&sheet), asked)?;
     same("check_sheet of a table's sheet", library::check_sheet(&sheet), 0)?;
     if sheet.len() > 4_000 {
         return Ok(());

@@ -1,19 +1,46 @@
-//! `bench`: the proved library against the second program, on the same input in the same run. Prints a table of times and
-//! ratios (the library's time over the second program's, medians of several rounds).
+//! `bench [WORDS]`: the proved library against the second program, on the same input in the same run. Prints tables of
+//! times and ratios (the library's time over the second program's, medians of several rounds), and the library's time for
+//! each byte of table and sheet. With words, only cases whose name has them are run.
 
-use compare::{cases, library};
+use compare::library::line::{justify, Lent, Told, Verdict};
+use compare::library::{self, write, Asked};
+use compare::{cases, clock, drafts};
+use reference::examples::{complex, simple};
+use reference::generate::LineCase;
+use reference::{Direction, Parts};
 use std::hint::black_box;
-use std::time::Instant;
+
+/// One line of a table.
+struct Case {
+    name: String,
+    /// The bytes of table and sheet.
+    bytes: usize,
+    library: Box<dyn FnMut()>,
+    second: Box<dyn FnMut()>,
+}
+
+impl Case {
+    fn new<A, B>(
+        name: String,
+        bytes: usize,
+        mut library: impl FnMut() -> A + 'static,
+        mut second: impl FnMut() -> B + 'static,
+    ) -> Case {
+        let library = Box::new(move || drop(black_box(library())));
+        let second = Box::new(move || drop(black_box(second())));
+        Case { name, bytes, library, second }
+    }
+}
 
 /// The time of one call in nanoseconds: as many calls as fill about 20 ms.
 fn once(call: &mut dyn FnMut()) -> f64 {
     let mut calls = 1u32;
     loop {
-        let began = Instant::now();
+        let began = clock::spent();
         for _ in 0..calls {
             call();
         }
-        let spent = began.elapsed();
+        let spent = clock::spent() - began;
         if spent.as_millis() >= 20 {
             return spent.as_nanos() as f64 / f64::from(calls);
         }
@@ -21,41 +48,178 @@ fn once(call: &mut dyn FnMut()) -> f64 {
     }
 }
 
-/// Both in turn, nine rounds; prints the medians and their ratio.
-fn line(name: &str, library: &mut dyn FnMut(), second: &mut dyn FnMut()) {
-    let mut times = [Vec::new(), Vec::new()];
-    for _ in 0..9 {
-        times[0].push(once(library));
-        times[1].push(once(second));
+/// Both in turn, nine rounds, or three where a call takes longer than 100 ms; prints the medians and their ratio.
+fn print_case(mut case: Case) {
+    let mut times = [vec![once(&mut case.library)], vec![once(&mut case.second)]];
+    let rounds = if times[0][0] > 1e8 { 3 } else { 9 };
+    for _ in 1..rounds {
+        times[0].push(once(&mut case.library));
+        times[1].push(once(&mut case.second));
     }
     let median = |times: &mut Vec<f64>| {
         times.sort_by(f64::total_cmp);
         times[times.len() / 2]
     };
     let [ours, theirs] = times.each_mut().map(median);
-    println!("| {name} | {:.2} | {:.2} | {:.2} |", ours / 1000.0, theirs / 1000.0, ours / theirs);
+    let (ratio, each) = (ours / theirs, ours / case.bytes as f64);
+    println!("| {} | {:.2} | {:.2} | {ratio:.2} | {each:.2} |", case.name, ours / 1000.0, theirs / 1000.0);
 }
 
-fn check(name: &str, table: &[u8], glyphs: u32) {
-    line(
-        &format!("check_table: {name}"),
-        &mut || {
-            black_box(library::check_table(black_box(table), glyphs));
-        },
-        &mut || {
-            black_box(reference::check_table(black_box(table), glyphs)).ok();
-        },
+fn print_group(title: &str, cases: Vec<Case>) {
+    let words = std::env::args().skip(1).collect::<Vec<_>>().join(" ");
+    println!(
+        "\n{title}\n\n| case | library, µs | second program, µs | ratio | library, ns a byte |\n|---|---|---|---|---|"
     );
+    cases.into_iter().filter(|case| case.name.contains(&words)).for_each(print_case);
+}
+
+fn check(name: &str, table: &[u8], n: u32) -> Case {
+    let [ours, theirs] = [table.to_vec(), table.to_vec()];
+    let library = move || library::check_table(black_box(&ours), n);
+    let second = move || reference::check_table(black_box(&theirs), n);
+    Case::new(format!("check_table: {name}"), table.len(), library, second)
+}
+
+fn write(name: &str, table: &[u8], n: u32) -> Case {
+    let [ours, theirs] = [table.to_vec(), table.to_vec()];
+    let length = reference::sheet_length(table, n).expect("an accepted table");
+    let mut room = vec![0; length];
+    let library = move || write::write_sheet(black_box(&ours), n, black_box(&mut room));
+    let second = move || reference::write_sheet(black_box(&theirs), n);
+    Case::new(format!("write_sheet: {name}, sheet of {length} bytes"), table.len() + length, library, second)
+}
+
+fn length(name: &str, table: &[u8], n: u32) -> Case {
+    let [ours, theirs] = [table.to_vec(), table.to_vec()];
+    let library = move || write::sheet_length(black_box(&ours), n);
+    let second = move || reference::sheet_length(black_box(&theirs), n);
+    Case::new(format!("sheet_length: {name}"), table.len(), library, second)
+}
+
+fn sheet(name: &str, sheet: &[u8]) -> Case {
+    let [ours, theirs] = [sheet.to_vec(), sheet.to_vec()];
+    let library = move || library::check_sheet(black_box(&ours));
+    let second = move || reference::check_sheet(black_box(&theirs));
+    Case::new(format!("check_sheet: {name}"), sheet.len(), library, second)
+}
+
+/// A record of a sheet: the sheet is judged first, on both sides.
+fn record(name: &str, sheet: &[u8], glyph: u16) -> Case {
+    let [ours, theirs] = [sheet.to_vec(), sheet.to_vec()];
+    let library = move || Asked::Sheet(black_box(&ours)).record(Direction::Horizontal, glyph, 0);
+    let second = move || {
+        let read = reference::read_sheet(black_box(&theirs));
+        read.map(|read| read.width_record(Direction::Horizontal, glyph.into(), 0))
+    };
+    Case::new(format!("sheet_record: {name}"), sheet.len(), library, second)
+}
+
+/// The whole call, with the table's check.
+fn line(name: &str, table: Vec<u8>, n: u32, count: usize) -> Case {
+    let bytes = table.len();
+    let ours = cases::line(table, n, count);
+    let theirs = ours.clone();
+    assert!(ours.justify().is_ok(), "{name} is refused");
+    let advances: Vec<i32> = ours.advances.iter().map(|&advance| advance as i32).collect();
+    let verdict = Verdict { place: 0, action: 0, substitutes: false };
+    let (mut classes, mut before, mut after) = (vec![0; count], vec![0; count], vec![0; count]);
+    let mut verdicts = vec![verdict; ours.room];
+    let library = move || {
+        let lent = Lent { classes: &mut classes, before: &mut before, after: &mut after, verdicts: &mut verdicts };
+        justify(&told(black_box(&ours), &advances), lent)
+    };
+    let second = move || black_box(&theirs).justify();
+    Case::new(format!("justify: {name}, {count} glyphs"), bytes, library, second)
+}
+
+fn told<'a>(case: &'a LineCase, advances: &'a [i32]) -> Told<'a> {
+    Told {
+        table: &case.table,
+        glyph_count: case.n,
+        direction: 0,
+        starts: case.starts,
+        ends: case.ends,
+        size: case.size as u32,
+        glyphs: &case.glyphs,
+        advances,
+        target: case.target as i32,
+    }
+}
+
+fn sheet_by_reference(table: &[u8], n: u32) -> Vec<u8> {
+    reference::write_sheet(table, n).expect("an accepted table")
+}
+
+fn ordinary() -> Vec<Case> {
+    let (apple, units, spread) = (complex(), cases::ranges(5_000, 13, 8), cases::ranges(1_500, 40, 500));
+    let (shared, rows) = (cases::shared_array(255), cases::nested_rows());
+    vec![
+        check("Apple's simple example, N 280", &simple(), 280),
+        check("Apple's complex example, N 280", &apple, 280),
+        check("5,000 format 2 units, N 65,000", &units, 65_000),
+        check("1,500 units, 500 distinct clusters, N 60,000", &spread, 60_000),
+        check("format 4 units that share one array, N 65,535", &shared, 65_535),
+        line("Apple's complex example", apple.clone(), 280, 60),
+        line("Apple's complex example", apple.clone(), 280, 1_024),
+        line("the same without its machine", cases::without_machine(), 280, 60),
+        line("the same without its machine", cases::without_machine(), 280, 1_024),
+        length("Apple's complex example, N 280", &apple, 280),
+        write("Apple's simple example, N 280", &simple(), 280),
+        write("Apple's complex example, N 280", &apple, 280),
+        write("1,500 units, 500 distinct clusters, N 60,000", &spread, 60_000),
+        write("clusters inside each other, N 1,200", &rows, 1_200),
+        sheet("Apple's complex example", &sheet_by_reference(&apple, 280)),
+        sheet("1,500 units, 500 distinct clusters", &sheet_by_reference(&spread, 60_000)),
+        sheet("clusters inside each other", &sheet_by_reference(&rows, 1_200)),
+        sheet("65,535 glyphs, 20,000 distinct clusters", &cases::sheet(65_535, 20_000)),
+        record("65,535 glyphs, 20,000 distinct clusters", &cases::sheet(65_535, 20_000), 40_000),
+    ]
+}
+
+fn hostile() -> Vec<Case> {
+    let (pairs, lists) = (cases::overlapping_pairs(3_200), cases::alike_lists(2_800));
+    vec![
+        check("3,200 clusters at each eighth byte", &pairs, 3_200),
+        check("2,800 lists at each eighth byte", &lists, 2_800),
+        check("clusters inside each other", &cases::nested_rows(), 1_200),
+        write("the empty table, N 65,535", &drafts::empty(), 65_535),
+        write("one cluster, N 65,535", &cases::shared_array(255), 65_535),
+        write("3,200 clusters at each eighth byte, all different", &pairs, 3_200),
+        write("2,800 lists at each eighth byte with long common beginnings", &lists, 2_800),
+        sheet("lists with long common beginnings", &sheet_by_reference(&lists, 2_800)),
+        line("64 actions a glyph, all fire", cases::many_actions(), 4, 1_024),
+        line("256 entries a glyph", cases::long_walk(), 1, 1_024),
+        line("5,000 format 2 units", cases::ranges(5_000, 13, 8), 65_000, 1_024),
+        line("clusters of up to 128 pairs", cases::nested_rows(), 1_152, 1_024),
+    ]
+}
+
+fn doubled() -> Vec<Case> {
+    let mut cases = Vec::new();
+    for units in [625, 1_250, 2_500, 5_000] {
+        cases.push(check(&format!("{units} format 2 units, N 65,000"), &cases::ranges(units, 13, 8), 65_000));
+    }
+    for n in [8_192, 16_384, 32_768, 65_535] {
+        cases.push(check(&format!("format 4 units that share one array, N {n}"), &cases::shared_array(255), n));
+    }
+    for n in [8_192, 16_384, 32_768, 65_535] {
+        cases.push(write(&format!("format 4 units that share one array, N {n}"), &cases::shared_array(255), n));
+    }
+    for count in [128, 256, 512, 1_024] {
+        cases.push(line("Apple's complex example", complex(), 280, count));
+    }
+    for distinct in [112, 225, 450, 900] {
+        let table = cases::ranges(900, 10, distinct);
+        cases.push(write(&format!("900 units, {distinct} distinct clusters, N 9,000"), &table, 9_000));
+    }
+    for distinct in [2_500, 5_000, 10_000, 20_000] {
+        cases.push(sheet(&format!("65,535 glyphs, {distinct} distinct clusters"), &cases::sheet(65_535, distinct)));
+    }
+    cases
 }
 
 fn main() {
-    println!("| case | library, µs | second program, µs | ratio |\n|---|---|---|---|");
-    let complex = reference::examples::complex();
-    check("Apple's complex example, N 280", &complex, 280);
-    let ranges = cases::ranges(5_000, 8);
-    check("5,000 format 2 units, N 65,000", &ranges, 65_000);
-    check("the same, N 32,500", &ranges, 32_500);
-    let shared = cases::shared_array(255);
-    check("format 4 units that share one array, N 65,535", &shared, 65_535);
-    check("the same, N 32,767", &shared, 32_767);
+    print_group("Ordinary inputs", ordinary());
+    print_group("Hostile inputs", hostile());
+    print_group("Bytes, N, glyphs and distinct clusters doubled", doubled());
 }

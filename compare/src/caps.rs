@@ -1,0 +1,89 @@
+//! Lines in which a stage's total is at its cap, one below or one above: drawn lines hardly ever hit these.
+
+use crate::drafts;
+use crate::questions::Questions;
+use reference::generate::LineCase;
+use reference::line::{MOST_SIZE, MOST_TOTAL};
+use reference::meaning::LIMIT;
+use reference::{factor, Direction, WidthRecord};
+
+/// Two limits whose factors sum to `total`; none where a short search finds none.
+fn limits_for(total: u64, size: u32) -> Option<(u32, u32)> {
+    let least_limit = |factor: u64| (factor * 65_536).div_ceil(size.into());
+    let first = least_limit(total).min(LIMIT.into()) as u32;
+    (first.saturating_sub(20_000)..=first).rev().find_map(|first| {
+        let rest = total.checked_sub(factor(first, size))?;
+        let second = least_limit(rest);
+        (second <= LIMIT.into() && factor(second as u32, size) == rest).then_some((first, second as u32))
+    })
+}
+
+/// A record with these limits in the gap's direction, and any others in the other one.
+fn record(limits: (u32, u32), flags: u16, grow: bool, asked: &mut Questions) -> WidthRecord {
+    let mut other = || asked.below(u64::from(LIMIT) + 1) as u32;
+    let (before, after) = (other(), other());
+    let given = WidthRecord {
+        before_grow: limits.0,
+        before_shrink: before,
+        after_grow: limits.1,
+        after_shrink: after,
+        grow_flags: flags,
+        shrink_flags: 0,
+    };
+    if grow {
+        return given;
+    }
+    WidthRecord {
+        before_grow: before,
+        before_shrink: limits.0,
+        after_grow: after,
+        after_shrink: limits.1,
+        grow_flags: 0,
+        shrink_flags: flags,
+    }
+}
+
+/// A size, and how many glyphs of 16 em on each side, with one glyph of what limits, give the total.
+fn shape(total: u64, asked: &mut Questions) -> (u32, u64, (u32, u32)) {
+    loop {
+        let size = (1 << 19) + asked.below(MOST_SIZE as u64 - (1 << 19) + 1) as u32;
+        let full = 2 * factor(LIMIT, size);
+        if let Some(limits) = limits_for(total % full, size) {
+            return (size, total / full, limits);
+        }
+    }
+}
+
+/// A line whose total in one stage is within one of the cap.
+pub fn draw(asked: &mut Questions) -> LineCase {
+    let (size, copies, limits) = shape(MOST_TOTAL - 1 + asked.below(3), asked);
+    let (stage, grow) = (asked.below(3) as u16, asked.below(2) == 0);
+    let unlimited = [0, 0x1000][asked.below(2) as usize];
+    let other = (stage + 1 + asked.below(2) as u16) % 3;
+    let records = [((LIMIT, LIMIT), stage), (limits, stage | unlimited), ((LIMIT, 1), other)];
+    let records = records.map(|(limits, flags)| record(limits, flags, grow, asked));
+    let mut glyphs = vec![0; copies as usize];
+    glyphs.extend([1, 2, 2, 0xFFFF]);
+    for end in (1..glyphs.len()).rev() {
+        glyphs.swap(end, asked.below(end as u64 + 1) as usize);
+    }
+    let advances: Vec<i64> = glyphs.iter().map(|_| asked.below(1_000) as i64 + 1).collect();
+    let gap = asked.below(100) as i64;
+    let sum: i64 = advances.iter().sum();
+    let count = glyphs.len();
+    LineCase {
+        table: drafts::table(&records, &[], &[]),
+        n: 3,
+        direction: Direction::Horizontal,
+        starts: true,
+        ends: true,
+        size: size.into(),
+        glyphs,
+        advances,
+        target: if grow { sum + gap } else { (sum - 1 - gap).max(0) },
+        classes_len: count,
+        before_len: count,
+        after_len: count,
+        room: 0,
+    }
+}

@@ -1,0 +1,109 @@
+//! Lines: the answer and every lent buffer, after refusals too.
+
+use crate::caps;
+use crate::guarded::Guarded;
+use crate::library::line::{justify, Lent, Said, Told, Verdict};
+use crate::questions::Questions;
+use crate::{same, Outcome};
+use reference::generate::{self, LineCase};
+use reference::{Direction, Justified};
+
+/// The line of a case: one in 40 has a stage's total at its cap. Sizes are those that 32 bits hold.
+pub fn draw(seed: u64, index: u64) -> LineCase {
+    let mut case = match index % 40 {
+        39 => caps::draw(&mut Questions::new(seed, index)),
+        _ => generate::line(seed, index),
+    };
+    case.size = i64::from(case.size as u32);
+    case
+}
+
+/// The four buffers that the call fills.
+#[derive(Clone)]
+struct Buffers {
+    classes: Guarded<u8>,
+    before: Guarded<i32>,
+    after: Guarded<i32>,
+    verdicts: Guarded<Verdict>,
+}
+
+fn noise(asked: &mut Questions) -> Verdict {
+    let number = asked.number();
+    Verdict { place: number as u16, action: (number >> 16) as u16, substitutes: number >> 63 == 1 }
+}
+
+fn verdict(record: &reference::VerdictRecord) -> Verdict {
+    Verdict { place: record.place as u16, action: record.number as u16, substitutes: record.substituting }
+}
+
+impl Buffers {
+    fn new(case: &LineCase, asked: &mut Questions) -> Buffers {
+        Buffers {
+            classes: Guarded::new(case.classes_len, || asked.number() as u8),
+            before: Guarded::new(case.before_len, || asked.number() as i32),
+            after: Guarded::new(case.after_len, || asked.number() as i32),
+            verdicts: Guarded::new(case.room, || noise(asked)),
+        }
+    }
+
+    /// What has to stand in them after an accepted line.
+    fn filled(self, answer: &Justified) -> Buffers {
+        Buffers {
+            classes: self.classes.filled(answer.classes.iter().copied()),
+            before: self.before.filled(answer.before.iter().map(|&units| units as i32)),
+            after: self.after.filled(answer.after.iter().map(|&units| units as i32)),
+            verdicts: self.verdicts.filled(answer.verdicts.iter().map(verdict)),
+        }
+    }
+
+    fn lend(&mut self) -> Lent<'_> {
+        Lent {
+            classes: self.classes.room(),
+            before: self.before.room(),
+            after: self.after.room(),
+            verdicts: self.verdicts.room(),
+        }
+    }
+
+    fn compare(&self, wanted: &Buffers) -> Outcome {
+        self.classes.compare("classes", &wanted.classes)?;
+        self.before.compare("movements before", &wanted.before)?;
+        self.after.compare("movements after", &wanted.after)?;
+        self.verdicts.compare("verdicts", &wanted.verdicts)
+    }
+}
+
+/// The direction's number; for vertical any number but 0.
+fn direction(case: &LineCase, asked: &mut Questions) -> u32 {
+    match case.direction {
+        Direction::Horizontal => 0,
+        Direction::Vertical => [1, 1, 2, u32::MAX][asked.below(4) as usize],
+    }
+}
+
+fn said(answer: &Justified) -> Said {
+    Said { remainder: answer.remainder as i32, entries: answer.entries as u32, verdicts: answer.verdicts.len() as u32 }
+}
+
+/// Compares the call on one line with what the second program answers.
+pub fn compare(case: &LineCase, second: &Result<Justified, u32>, asked: &mut Questions) -> Outcome {
+    let mut lent = Buffers::new(case, asked);
+    let wanted = match second {
+        Ok(answer) => lent.clone().filled(answer),
+        Err(_) => lent.clone(),
+    };
+    let advances: Vec<i32> = case.advances.iter().map(|&advance| advance as i32).collect();
+    let told = Told {
+        table: &case.table,
+        glyph_count: case.n,
+        direction: direction(case, asked),
+        starts: case.starts,
+        ends: case.ends,
+        size: case.size as u32,
+        glyphs: &case.glyphs,
+        advances: &advances,
+        target: case.target as i32,
+    };
+    same("justify", justify(&told, lent.lend()), second.as_ref().map(said).map_err(|&number| number))?;
+    lent.compare(&wanted)
+}

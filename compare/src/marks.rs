@@ -1,0 +1,124 @@
+//! What a drawn line shows, by name, and how often a long run has to meet each.
+
+use crate::tally::Tally;
+use reference::generate::LineCase;
+use reference::line::{classes_of, rooms_of, MOST_TOTAL};
+use reference::meaning::DELETED;
+use reference::{justify, read_table, totals, Justified};
+
+/// How many lines a run has at least before marks are asked of it.
+pub const LONG_RUN: u64 = 20_000;
+
+const SIZES: [i64; 4] = [0, 1, 67_108_864, 67_108_865];
+const PLACES: [usize; 3] = [0, 1_024, 1_025];
+const WAYS: [&str; 2] = ["growing", "shrinking"];
+const BESIDE: [&str; 3] = ["one below", "at", "one above"];
+const BUFFERS: [&str; 4] = ["advances", "classes", "before", "after"];
+const ROOMS: [&str; 3] = ["one short", "exact", "long"];
+
+/// What an accepted line may show, and the test for it.
+type Shown = (&'static str, fn(&LineCase, &Justified) -> bool);
+
+const SHOWN: [Shown; 4] = [
+    ("a walk that stays and ends", |case, answer| answer.entries > case.glyphs.len() as u64 + 1),
+    ("a deleted glyph with a class", |case, answer| {
+        case.glyphs.iter().zip(&answer.classes).any(|(&glyph, &class)| glyph == DELETED && class > 0)
+    }),
+    ("a remainder", |_, answer| answer.remainder != 0),
+    ("a substituting verdict", |_, answer| answer.verdicts.iter().any(|verdict| verdict.substituting)),
+];
+
+fn gap_mark(way: &str, beside: &str, stage: usize) -> String {
+    format!("{way} gap {beside} the totals of stages 0 to {stage}")
+}
+
+fn length_mark(buffer: &str, longer: bool) -> String {
+    format!("{buffer} {} than glyphs", if longer { "longer" } else { "shorter" })
+}
+
+/// Every mark, and how often it is wanted.
+pub fn wanted() -> Vec<(String, u64)> {
+    let mut wanted: Vec<(String, u64)> = (9..=16).map(|number| (format!("refusal {number}"), 100)).collect();
+    let mut want = |mark: String| wanted.push((mark, 20));
+    SIZES.iter().for_each(|size| want(format!("size {size}")));
+    PLACES.iter().for_each(|count| want(format!("{count} glyphs")));
+    ROOMS.iter().for_each(|room| want(format!("room {room}")));
+    SHOWN.iter().for_each(|(shown, _)| want(shown.to_string()));
+    BESIDE.iter().for_each(|beside| want(format!("a total {beside} the cap")));
+    for buffer in BUFFERS {
+        [false, true].iter().for_each(|&longer| want(length_mark(buffer, longer)));
+    }
+    for way in WAYS {
+        for stage in 0..3 {
+            BESIDE.iter().for_each(|beside| want(gap_mark(way, beside, stage)));
+        }
+    }
+    wanted
+}
+
+/// Notes what a line shows.
+pub fn note(case: &LineCase, second: &Result<Justified, u32>, tally: &mut Tally) {
+    match second {
+        Ok(answer) => {
+            tally.note("accepted".into());
+            let shown = SHOWN.iter().filter(|(_, shows)| shows(case, answer));
+            shown.for_each(|(shown, _)| tally.note(shown.to_string()));
+        }
+        Err(number) => tally.note(format!("refusal {number}")),
+    }
+    if SIZES.contains(&case.size) {
+        tally.note(format!("size {}", case.size));
+    }
+    if PLACES.contains(&case.glyphs.len()) {
+        tally.note(format!("{} glyphs", case.glyphs.len()));
+    }
+    match second {
+        Err(9) => note_lengths(case, tally),
+        Ok(_) | Err(15 | 16) => {
+            note_room(case, tally);
+            note_totals(case, tally);
+        }
+        Err(_) => {}
+    }
+}
+
+fn note_lengths(case: &LineCase, tally: &mut Tally) {
+    let lengths = [case.advances.len(), case.classes_len, case.before_len, case.after_len];
+    for (buffer, length) in BUFFERS.iter().zip(lengths) {
+        if length != case.glyphs.len() {
+            tally.note(length_mark(buffer, length > case.glyphs.len()));
+        }
+    }
+}
+
+fn note_room(case: &LineCase, tally: &mut Tally) {
+    let all = justify(&case.input(), case.classes_len, case.before_len, case.after_len, usize::MAX);
+    let fired = all.map_or(0, |answer| answer.verdicts.len());
+    if fired > 0 && case.room + 1 >= fired {
+        tally.note(format!("room {}", ROOMS[(case.room + 1 - fired).min(2)]));
+    }
+}
+
+/// How a number stands beside another: one below, at it or one above.
+fn beside(number: u64, of: u64) -> Option<&'static str> {
+    BESIDE.get((number + 1).checked_sub(of)? as usize).copied()
+}
+
+fn note_totals(case: &LineCase, tally: &mut Tally) {
+    let Ok(table) = read_table(&case.table, case.n) else { return };
+    let line = case.line();
+    let Some((classes, _)) = classes_of(&table, &line) else { return };
+    let gap = case.target - case.advances.iter().sum::<i64>();
+    let totals = totals(&rooms_of(&table, &line, &classes, gap >= 0));
+    let way = WAYS[usize::from(gap < 0)];
+    let mut so_far = 0;
+    for (stage, total) in totals.into_iter().enumerate() {
+        if let Some(beside) = beside(total, MOST_TOTAL) {
+            tally.note(format!("a total {beside} the cap"));
+        }
+        so_far += total;
+        if let (true, Some(beside)) = (total > 0, beside(gap.unsigned_abs(), so_far)) {
+            tally.note(gap_mark(way, beside, stage));
+        }
+    }
+}

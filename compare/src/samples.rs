@@ -1,0 +1,150 @@
+//! Document 01's sample lines, and lines at each limit, with the values that the page states.
+
+use crate::drafts::{empty, grows, machine, table};
+use crate::{lines, questions::Questions, Outcome};
+use reference::Direction;
+use reference::examples::Fields;
+use reference::generate::LineCase;
+use reference::meaning::LIMIT;
+use std::sync::LazyLock;
+
+const POINT: i64 = 65_536;
+const HALF_EM: i64 = 393_216; // at 12 pt
+const WIDEST: i64 = 1_073_741_823;
+
+/// What the page says of a line: its refusal, or its movements before and after, the remainder and how many verdicts.
+#[derive(Clone, Debug, PartialEq)]
+pub enum Says {
+    Refused(u32),
+    Moves(Vec<i64>, Vec<i64>, i64, usize),
+}
+
+pub struct Sample {
+    pub name: &'static str,
+    pub case: LineCase,
+    pub says: Says,
+}
+
+/// A horizontal line that starts and ends the text, of advances 0, with buffers of the right length and ample room.
+fn line(table: Vec<u8>, n: u32, glyphs: &[u16], target: i64, size: i64) -> LineCase {
+    let count = glyphs.len();
+    LineCase {
+        table,
+        n,
+        direction: Direction::Horizontal,
+        starts: true,
+        ends: true,
+        size,
+        glyphs: glyphs.to_vec(),
+        advances: vec![0; count],
+        target,
+        classes_len: count,
+        before_len: count,
+        after_len: count,
+        room: 8,
+    }
+}
+
+fn with(mut case: LineCase, change: impl FnOnce(&mut LineCase)) -> LineCase {
+    change(&mut case);
+    case
+}
+
+/// One glyph on the empty table.
+fn bare() -> LineCase {
+    line(empty(), 1, &[0], 0, POINT)
+}
+
+/// Sides of factors 3, 3, 3 at one point, and a gap.
+fn threes(gap: i64) -> LineCase {
+    line(table(&[grows(3, 3, 0), grows(3, 0, 0)], &[], &[]), 2, &[0, 1], gap, POINT)
+}
+
+/// One unlimited glyph with a ligature that breaks outside 0 to 0.5 em, at 12 pt.
+fn ligature(gap: i64) -> LineCase {
+    let list = Fields::new().l(1).ws(&[0, 0]).l(24).l(0).l(32_768).ws(&[0, 1, 0, 0]).done();
+    line(table(&[grows(0, 0, 0x1000)], &list, &[]), 1, &[0], gap, 12 * POINT)
+}
+
+/// Eight sides of 16 em at 1,024 pt are the cap of a stage's total; one unit of an em more is above it.
+fn cap(past: bool) -> LineCase {
+    let records = [grows(LIMIT, LIMIT, 2), grows(0, 1, 2)];
+    line(table(&records, &[], &[]), 2, if past { &[0, 0, 0, 0, 1] } else { &[0, 0, 0, 0] }, 0, 67_108_864)
+}
+
+/// An entry of row 1 that stays and leads to row 1.
+fn endless(starts: bool) -> LineCase {
+    let machine = machine(&[[0; 4], [0, 1, 0, 0]], &[(0, 0), (1, 0x4000)]);
+    with(line(table(&[], &[], &machine), 1, &[0], 0, POINT), |case| case.starts = starts)
+}
+
+fn sharing() -> Vec<(&'static str, LineCase, Says)> {
+    let tall = table(&[grows(0, 163_840, 0), grows(0, 163_840, 1)], &[], &[]);
+    let flat = table(&[grows(0, 0, 0)], &[], &[]);
+    let open = table(&[grows(0, 0, 0x1001)], &[], &[]);
+    let breaks = Says::Moves(vec![0], vec![HALF_EM + 1], 0, 1);
+    vec![
+        ("2.5 em at 12 pt", line(tall, 2, &[0, 1], 1_966_081, 12 * POINT), moves(&[0, 0], &[1_966_080, 1])),
+        ("factors 3, 3, 3, gap 7", threes(7), moves(&[2, 3], &[2, 0])),
+        ("factors 3, 3, 3, gap 9", threes(9), moves(&[3, 3], &[3, 0])),
+        ("factors 3, 3, 3, gap 10", threes(10), moves(&[3, 4], &[3, 0])),
+        ("all factors 0", line(flat, 1, &[0, 0], 5, POINT), Says::Moves(vec![0, 0], vec![0, 0], 5, 0)),
+        ("two unlimited", line(open, 2, &[0, 1, 0], 5, POINT), moves(&[0, 0, 0], &[2, 0, 3])),
+        ("half an em keeps the ligature", ligature(HALF_EM), moves(&[0], &[HALF_EM])),
+        ("one unit more breaks it", ligature(HALF_EM + 1), breaks.clone()),
+        ("an empty line", line(empty(), 1, &[], 4, POINT), Says::Moves(vec![], vec![], 4, 0)),
+        ("the walk starts elsewhere", endless(true), moves(&[0], &[0])),
+        ("a total at the cap", cap(false), moves(&[0; 4], &[0; 4])),
+        ("room for just that verdict", with(ligature(HALF_EM + 1), |case| case.room = 1), breaks),
+        ("the smallest size", with(bare(), |case| case.size = 1), moves(&[0], &[0])),
+        ("the greatest size", with(bare(), |case| case.size = 67_108_864), moves(&[0], &[0])),
+        ("1,024 glyphs", line(empty(), 1, &[0; 1_024], 0, POINT), moves(&[0; 1_024], &[0; 1_024])),
+        ("a deleted glyph", with(bare(), |case| case.glyphs[0] = 0xFFFF), moves(&[0], &[0])),
+        ("the widest line", with(bare(), |case| (case.advances[0], case.target) = (WIDEST, WIDEST)), moves(&[0], &[0])),
+    ]
+}
+
+/// Movements with no remainder and no verdict.
+fn moves(before: &[i64], after: &[i64]) -> Says {
+    Says::Moves(before.to_vec(), after.to_vec(), 0, 0)
+}
+
+fn refusals() -> Vec<(&'static str, LineCase, u32)> {
+    let pair = line(empty(), 1, &[0, 0], 0, POINT);
+    vec![
+        ("fewer advances", with(bare(), |case| case.advances.clear()), 9),
+        ("fewer classes", with(bare(), |case| case.classes_len = 0), 9),
+        ("more movements before", with(bare(), |case| case.before_len = 2), 9),
+        ("fewer movements after", with(bare(), |case| case.after_len = 0), 9),
+        ("1,025 glyphs", line(empty(), 1, &[0; 1_025], 0, POINT), 10),
+        ("size 0", with(bare(), |case| case.size = 0), 11),
+        ("size 67,108,865", with(bare(), |case| case.size = 67_108_865), 11),
+        ("advances 5 and -5", with(pair.clone(), |case| case.advances = vec![5, -5]), 12),
+        ("a sum of 2^30", with(pair, |case| case.advances = vec![WIDEST, 1]), 12),
+        ("target -1", with(bare(), |case| case.target = -1), 12),
+        ("glyph N", with(bare(), |case| case.glyphs[0] = 1), 13),
+        ("an endless walk", endless(false), 14),
+        ("a total above the cap", cap(true), 15),
+        ("no room for the verdict", with(ligature(HALF_EM + 1), |case| case.room = 0), 16),
+        ("size before advances", with(bare(), |case| (case.size, case.target) = (0, -1)), 11),
+    ]
+}
+
+/// All samples, in a fixed order.
+pub static ALL: LazyLock<Vec<Sample>> = LazyLock::new(|| {
+    let refused = refusals().into_iter().map(|(name, case, number)| (name, case, Says::Refused(number)));
+    sharing().into_iter().chain(refused).map(|(name, case, says)| Sample { name, case, says }).collect()
+});
+
+/// The second program says what the page says, and the library what the second program says.
+pub fn compare(sample: &Sample, asked: &mut Questions) -> Outcome {
+    let second = sample.case.justify();
+    let answered = match &second {
+        Ok(answer) => Says::Moves(answer.before.clone(), answer.after.clone(), answer.remainder, answer.verdicts.len()),
+        Err(number) => Says::Refused(*number),
+    };
+    if answered != sample.says {
+        return Err(format!("{}: the page says {:?}, the second program {answered:?}", sample.name, sample.says));
+    }
+    lines::compare(&sample.case, &second, asked).map_err(|difference| format!("{}: {difference}", sample.name))
+}

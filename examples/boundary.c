@@ -1,0 +1,118 @@
+/* Calls everything in just.h on buffers that end right before a page that may not be touched: a read or write past what was
+ * lent ends the program. Tables and sheets are cut off at every length. Compile it with -fsanitize=address,undefined. */
+#define _DEFAULT_SOURCE
+#include "just.h"
+
+#include <stdio.h>
+#include <stdlib.h>
+#include <string.h>
+#include <sys/mman.h>
+#include <unistd.h>
+
+#define GLYPHS 280
+#define PLACES 40
+
+_Static_assert(sizeof(struct just_verdict) == 6, "as the library has it");
+_Static_assert(sizeof(struct just_record_answer) == 32, "as the library has it");
+_Static_assert(sizeof(struct just_action_answer) == 92, "as the library has it");
+
+/* Bytes that end where their last page ends; the page after it may not be touched. */
+static void *lend(size_t length) {
+    size_t page = (size_t)sysconf(_SC_PAGESIZE), whole = (length + page - 1) / page * page;
+    uint8_t *start = mmap(NULL, whole + page, PROT_READ | PROT_WRITE, MAP_PRIVATE | MAP_ANONYMOUS, -1, 0);
+    if (start == MAP_FAILED || mprotect(start + whole, page, PROT_NONE) != 0) {
+        perror("boundary");
+        exit(1);
+    }
+    return start + whole - length;
+}
+
+/* Apple's complex example: header, lookup, two clusters, an action list, then a machine. */
+static const uint16_t apple[] = {
+    1, 0, 0, 10, 0, 168, 48, 128,                                              /* header, offsets */
+    2, 6, 2, 12, 1, 0, 2, 2, 0, 226, 3, 28, 0xFFFF, 0xFFFF, 0, 0,              /* width lookup */
+    0, 1, 0, 0, 0, 0x8000, 0xFFFF, 0xF500, 0, 0x8000, 0xFFFF, 0xF500, 1, 1,    /* a cluster of one pair */
+    0, 2, 0, 0, 0, 0x2500, 0xFFFF, 0xF500, 0, 0x2500, 0xFFFF, 0xF500, 2, 2,    /* a cluster of two */
+    0, 1, 0, 0x2500, 0xFFFF, 0xF500, 0, 0x2500, 0xFFFF, 0xF500, 0x1000, 2,     /* its second pair */
+    2, 6, 1, 6, 0, 0, 226, 2, 24, 0xFFFF, 0xFFFF, 0, 0, 1, 1, 1, 0, 12, 226, 0, /* action lookup and list */
+    276, 0, 0, 0, 5, 8, 236, 256, 3, 223};                                     /* machine; 223 classes follow */
+static const uint8_t rows[] = {0, 1, 2, 1, 1, 0, 1, 2, 1, 1, 0, 1, 2, 1, 1, 1, 1, 2, 1, 1, 0,
+                               0, 246, 0, 1, 0, 246, 0, 0, 0, 251, 0, 0};
+
+static size_t build(uint8_t *table) {
+    size_t at = 0;
+    for (size_t i = 0; i < sizeof apple / sizeof *apple; i++) {
+        table[at++] = (uint8_t)(apple[i] >> 8);
+        table[at++] = (uint8_t)apple[i];
+    }
+    memset(table + at, 4, 223);
+    memcpy(table + at + 223, rows, sizeof rows);
+    return at + 223 + sizeof rows;
+}
+
+static void ask_table(const uint8_t *table, size_t length) {
+    just_check_table(table, length, GLYPHS);
+    just_table_count(table, length, GLYPHS);
+    just_table_sheet_length(table, length, GLYPHS);
+    for (uint32_t way = 0; way < 2; way++) {
+        just_table_sizes(table, length, GLYPHS, way);
+        just_table_class(table, length, GLYPHS, way, 9);
+        just_table_cell(table, length, GLYPHS, way, 2, 4);
+        just_table_record(table, length, GLYPHS, way, 226, 1);
+        just_table_action(table, length, GLYPHS, way, 226, 0);
+        just_table_components(table, length, GLYPHS, way, 226, 0);
+    }
+}
+
+static void ask_sheet(const uint8_t *sheet, size_t length) {
+    just_check_sheet(sheet, length);
+    just_sheet_count(sheet, length);
+    for (uint32_t way = 0; way < 2; way++) {
+        just_sheet_sizes(sheet, length, way);
+        just_sheet_class(sheet, length, way, 9);
+        just_sheet_cell(sheet, length, way, 2, 4);
+        just_sheet_record(sheet, length, way, 226, 1);
+        just_sheet_action(sheet, length, way, 226, 0);
+    }
+}
+
+/* A line of so many glyphs, with room for each number of verdicts; answers how many fired in all. */
+static uint32_t justify(const uint8_t *table, size_t length, size_t places) {
+    uint16_t *glyphs = lend(2 * places);
+    int32_t *advances = lend(4 * places), *before = lend(4 * places), *after = lend(4 * places);
+    uint8_t *classes = lend(places);
+    uint32_t fired = 0;
+    for (size_t i = 0; i < places; i++) {
+        glyphs[i] = (uint16_t)(i * 37 % GLYPHS);
+        advances[i] = 65536;
+    }
+    for (size_t room = 0; room <= places; room++) {
+        struct just_verdict *verdicts = lend(room * sizeof *verdicts);
+        struct just_line_answer answer =
+            just_justify(table, length, GLYPHS, 0, true, true, 786432, glyphs, places, advances, places, 90000 * PLACES,
+                         classes, places, before, places, after, places, verdicts, room);
+        for (uint32_t i = 0; i < answer.verdicts; i++)
+            fired += verdicts[i].substitutes ? 2 : 1;
+    }
+    return fired;
+}
+
+int main(void) {
+    uint8_t whole[512];
+    size_t length = build(whole);
+    uint32_t sheet_length = just_table_sheet_length(whole, length, GLYPHS).length, fired = 0;
+    for (size_t cut = 0; cut <= length; cut++) {
+        uint8_t *table = memcpy(lend(cut), whole, cut);
+        ask_table(table, cut);
+        just_write_sheet(table, cut, GLYPHS, lend(sheet_length), sheet_length);
+    }
+    uint8_t *sheet = lend(sheet_length);
+    for (uint32_t room = 0; room <= sheet_length; room++)
+        just_write_sheet(whole, length, GLYPHS, sheet + sheet_length - room, room);
+    for (uint32_t cut = 0; cut <= sheet_length; cut++)
+        ask_sheet(memcpy(lend(cut), sheet, cut), cut);
+    for (size_t places = 0; places <= PLACES; places++)
+        fired += justify(whole, length, places);
+    printf("a table of %zu bytes, a sheet of %u, %u verdicts: nothing else was touched\n", length, sheet_length, fired);
+    return 0;
+}

@@ -1,0 +1,35 @@
+//! AAT 'just' tables, lines and sheets: a safe layer over the proved library.
+//!
+//! All work is done by the proved code. This crate passes slices on and turns numbers into types; it judges nothing itself.
+//!
+//! - [`Table`] is a table that was accepted with a glyph count; it justifies lines and writes its sheet.
+//! - [`Sheet`] is bytes that were accepted as a sheet, the plain record of what a table means.
+//! - Both answer the questions of [`Meaning`].
+//! - Whatever is refused is refused with a [`Refusal`], which has document 01's number; a refusal changes no lent buffer.
+//!
+//! One unit is 1/65,536 point; limits are in ems, 65,536 to the em.
+//!
+//! ```
+//! use just::{Refusal, Table};
+//!
+//! let bytes = [0, 1, 0, 0, 0, 0, 0, 0, 0, 0];
+//! let table = Table::new(&bytes, 1)?;
+//! assert_eq!(table.write_sheet()?.len(), 68);
+//! assert_eq!(Table::new(&bytes[..9], 1).unwrap_err(), Refusal::TableLength);
+//! # Ok::<(), Refusal>(())
+//! ```
+
+mod line;
+mod parts;
+mod raw;
+mod refusal;
+mod sections;
+mod sheet;
+mod table;
+
+pub use line::{Answer, Justified, Lent, Line, Verdict, DELETED};
+pub use parts::{Act, Action, Direction, Entry, Limits, Meaning, Pair, Rule, Sizes};
+pub use refusal::Refusal;
+pub use sections::{Machine, Run, Side};
+pub use sheet::Sheet;
+pub use table::Table;

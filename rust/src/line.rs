@@ -1,0 +1,174 @@
+//! Lines.
+
+use crate::parts::Direction;
+use crate::raw;
+use crate::refusal::Refusal;
+use crate::table::Table;
+
+/// The glyph that stands for a deleted one.
+pub const DELETED: u16 = 0xFFFF;
+
+/// The most actions of a glyph's list, all of which may fire.
+const MOST_ACTIONS: usize = 64;
+
+/// A line to be justified. Size, advances and target are in units.
+#[derive(Clone, Copy, Debug)]
+pub struct Line<'a> {
+    pub direction: Direction,
+    /// Whether the line starts the text.
+    pub starts: bool,
+    /// Whether the line ends the text.
+    pub ends: bool,
+    /// The point size, 1 to 67,108,864.
+    pub size: u32,
+    /// At most 1,024 glyphs; [`DELETED`] stands for a deleted one.
+    pub glyphs: &'a [u16],
+    pub advances: &'a [i32],
+    /// The width wanted.
+    pub target: i32,
+}
+
+/// An action that fires.
+#[derive(Clone, Copy, Debug, Default, PartialEq, Eq, Hash)]
+#[repr(C)]
+pub struct Verdict {
+    /// The glyph's place in the line, from 0.
+    pub place: u16,
+    /// The action's number in the glyph's list, from 0.
+    pub action: u16,
+    pub substitutes: bool,
+}
+
+/// What a line's call fills. All but the verdicts have the length of the line.
+#[derive(Debug)]
+pub struct Lent<'a> {
+    pub classes: &'a mut [u8],
+    pub before: &'a mut [i32],
+    pub after: &'a mut [i32],
+    pub verdicts: &'a mut [Verdict],
+}
+
+/// What is said of a line whose buffers were filled.
+#[derive(Clone, Copy, Debug, PartialEq, Eq)]
+pub struct Answer {
+    /// What is left of the gap.
+    pub remainder: i32,
+    /// How many entries the class walk took; 0 without a machine.
+    pub entries: u32,
+    /// How many verdicts were stored.
+    pub verdicts: usize,
+}
+
+/// A justified line.
+#[derive(Clone, Debug, PartialEq, Eq)]
+pub struct Justified {
+    pub classes: Vec<u8>,
+    /// The movements before each glyph, in units; with those after and the remainder they sum to the gap.
+    pub before: Vec<i32>,
+    pub after: Vec<i32>,
+    pub remainder: i32,
+    pub entries: u32,
+    pub verdicts: Vec<Verdict>,
+}
+
+impl Table<'_> {
+    /// Justifies a line into lent buffers. A refusal changes none of them.
+    ///
+    /// ```
+    /// use just::{Answer, Direction, Lent, Line, Table, Verdict};
+    ///
+    /// let bytes = [0, 1, 0, 0, 0, 0, 0, 0, 0, 0];
+    /// let table = Table::new(&bytes, 1)?;
+    /// let line = Line {
+    ///     direction: Direction::Horizontal,
+    ///     starts: true,
+    ///     ends: true,
+    ///     size: 12 << 16,
+    ///     glyphs: &[0, 0],
+    ///     advances: &[500, 500],
+    ///     target: 1_004,
+    /// };
+    /// let (mut classes, mut before, mut after) = ([9; 2], [9; 2], [9; 2]);
+    /// let lent = Lent { classes: &mut classes, before: &mut before, after: &mut after, verdicts: &mut [] };
+    /// // Nothing can grow, so all of the gap is left.
+    /// assert_eq!(table.justify_into(&line, lent), Ok(Answer { remainder: 4, entries: 0, verdicts: 0 }));
+    /// assert_eq!((classes, before, after), ([0; 2], [0; 2], [0; 2]));
+    /// # Ok::<(), just::Refusal>(())
+    /// ```
+    pub fn justify_into(&self, line: &Line, lent: Lent) -> Result<Answer, Refusal> {
+        let (table, length, glyph_count) = self.lent();
+        // SAFETY: each pointer and length are of one slice; what is written is lent to be written, and so overlaps nothing
+        // else; what the library stores are numbers and bools, valid in each place.
+        let answer = unsafe {
+            raw::just_justify(
+                table,
+                length,
+                glyph_count,
+                line.direction as u32,
+                line.starts,
+                line.ends,
+                line.size,
+                line.glyphs.as_ptr(),
+                line.glyphs.len(),
+                line.advances.as_ptr(),
+                line.advances.len(),
+                line.target,
+                lent.classes.as_mut_ptr(),
+                lent.classes.len(),
+                lent.before.as_mut_ptr(),
+                lent.before.len(),
+                lent.after.as_mut_ptr(),
+                lent.after.len(),
+                lent.verdicts.as_mut_ptr(),
+                lent.verdicts.len(),
+            )
+        };
+        Refusal::of(answer.refusal)?;
+        Ok(Answer { remainder: answer.remainder, entries: answer.entries, verdicts: answer.verdicts as usize })
+    }
+
+    /// Justifies a line.
+    ///
+    /// ```
+    /// use just::{Direction, Line, Refusal, Table};
+    ///
+    /// // Glyph 0 grows by up to half an em after it.
+    /// let bytes = [
+    ///     0, 1, 0, 0, 0, 0, 0, 10, 0, 0, 0, 0, 0, 24, 0, 0, 0, 8, 0, 0, 0, 1, 0, 0,
+    ///     0, 0, 0, 1, 0, 0, 0, 0, 0, 0, 0, 0, 0, 0, 0, 0, 0, 0, 0x80, 0, 0, 0, 0, 0, 0, 0, 0, 0,
+    /// ];
+    /// let table = Table::new(&bytes, 2)?;
+    /// let line = Line {
+    ///     direction: Direction::Horizontal,
+    ///     starts: true,
+    ///     ends: true,
+    ///     size: 12 << 16,
+    ///     glyphs: &[0, 1, 0],
+    ///     advances: &[100, 100, 100],
+    ///     target: 305,
+    /// };
+    /// let justified = table.justify(&line)?;
+    /// assert_eq!(justified.after, [2, 0, 3]);
+    /// assert_eq!(table.justify(&Line { size: 0, ..line }), Err(Refusal::PointSize));
+    /// # Ok::<(), Refusal>(())
+    /// ```
+    pub fn justify(&self, line: &Line) -> Result<Justified, Refusal> {
+        let count = line.glyphs.len();
+        match self.justify_with(line, count) {
+            // A refused call changes nothing, so it can be made again with all the room that a line can need.
+            Err(Refusal::ShortRoom) => self.justify_with(line, MOST_ACTIONS * count),
+            answered => answered,
+        }
+    }
+
+    /// The same with room for so many verdicts.
+    fn justify_with(&self, line: &Line, room: usize) -> Result<Justified, Refusal> {
+        let count = line.glyphs.len();
+        let (mut classes, mut before, mut after) = (vec![0; count], vec![0; count], vec![0; count]);
+        let mut verdicts = vec![Verdict::default(); room];
+        let lent = Lent { classes: &mut classes, before: &mut before, after: &mut after, verdicts: &mut verdicts };
+        let Answer { remainder, entries, verdicts: stored } = self.justify_into(line, lent)?;
+        verdicts.truncate(stored);
+        Ok(Justified { classes, before, after, remainder, entries, verdicts })
+    }
+}

@@ -1,0 +1,95 @@
+//! Refusals by document 01's numbers.
+
+use std::error::Error;
+use std::fmt;
+
+/// Why a call was refused. The numbers are document 01's.
+#[derive(Clone, Copy, Debug, PartialEq, Eq, Hash, PartialOrd, Ord)]
+#[repr(u32)]
+pub enum Refusal {
+    TableLength = 1,
+    GlyphCount = 2,
+    Version = 3,
+    Outside = 4,
+    BadLookup = 5,
+    BadCluster = 6,
+    BadMachine = 7,
+    BadActions = 8,
+    UnequalLengths = 9,
+    LongLine = 10,
+    PointSize = 11,
+    Advances = 12,
+    UnknownGlyph = 13,
+    EndlessWalk = 14,
+    StageTotal = 15,
+    ShortRoom = 16,
+    NotSheet = 17,
+}
+
+/// Each refusal with what it means, by number.
+const MEANINGS: [(Refusal, &str); 17] = [
+    (Refusal::TableLength, "the table's length is outside 10 to 32,768 bytes"),
+    (Refusal::GlyphCount, "the glyph count is outside 1 to 65,535"),
+    (Refusal::Version, "the table's version or format is not known"),
+    (Refusal::Outside, "a field to be read is not wholly in the table"),
+    (Refusal::BadLookup, "a lookup breaks its rule"),
+    (Refusal::BadCluster, "a width cluster breaks its rule"),
+    (Refusal::BadMachine, "a class machine breaks its rule"),
+    (Refusal::BadActions, "an action list breaks its rule"),
+    (Refusal::UnequalLengths, "glyphs, advances, classes or movements are lent in differing lengths"),
+    (Refusal::LongLine, "the line has more than 1,024 glyphs"),
+    (Refusal::PointSize, "the point size is outside 1 to 67,108,864 units"),
+    (Refusal::Advances, "an advance, their sum or the target is outside 0 to 1,073,741,823 units"),
+    (Refusal::UnknownGlyph, "a glyph is at or past the glyph count and is not the deleted one"),
+    (Refusal::EndlessWalk, "the class walk never ends"),
+    (Refusal::StageTotal, "a stage's total of factors is above 8,589,934,592 units"),
+    (Refusal::ShortRoom, "the verdicts or the sheet are longer than the lent room"),
+    (Refusal::NotSheet, "the bytes are not a sheet"),
+];
+
+impl Refusal {
+    /// Document 01's number.
+    ///
+    /// ```
+    /// assert_eq!(just::Refusal::EndlessWalk.number(), 14);
+    /// ```
+    pub fn number(self) -> u32 {
+        self as u32
+    }
+
+    /// What it means, in words.
+    pub fn meaning(self) -> &'static str {
+        MEANINGS[self as usize - 1].1
+    }
+
+    /// What a call's number says: 0 is no refusal.
+    pub(crate) fn of(number: u32) -> Result<(), Refusal> {
+        match number {
+            0 => Ok(()),
+            _ => Err(MEANINGS[number as usize - 1].0),
+        }
+    }
+}
+
+impl fmt::Display for Refusal {
+    fn fmt(&self, out: &mut fmt::Formatter) -> fmt::Result {
+        write!(out, "refused {}: {}", self.number(), self.meaning())
+    }
+}
+
+impl Error for Refusal {}
+
+#[cfg(test)]
+mod tests {
+    use super::*;
+
+    #[test]
+    fn each_number_has_its_refusal() {
+        assert_eq!(Refusal::of(0), Ok(()));
+        for (place, (refusal, meaning)) in MEANINGS.into_iter().enumerate() {
+            assert_eq!(refusal.number() as usize, place + 1);
+            assert_eq!(Refusal::of(refusal.number()), Err(refusal));
+            assert_eq!(refusal.to_string(), format!("refused {}: {meaning}", place + 1));
+        }
+    }
+}

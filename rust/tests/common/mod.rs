@@ -1,0 +1,82 @@
+//! Tables for the tests, built field by field.
+#![allow(dead_code)]
+
+/// The glyph count that Apple's examples are read with.
+pub const GLYPHS: u32 = 280;
+
+fn words(values: &[u16]) -> Vec<u8> {
+    values.iter().flat_map(|value| value.to_be_bytes()).collect()
+}
+
+fn longs(values: &[u32]) -> Vec<u8> {
+    values.iter().flat_map(|value| value.to_be_bytes()).collect()
+}
+
+/// A pair of equal limits on both sides, shrinking by 0x0B00, written with a sign.
+fn pair(class: u32, grow: u32, flags: [u16; 2]) -> Vec<u8> {
+    [longs(&[class, grow, 0xFFFF_F500, grow, 0xFFFF_F500]), words(&flags)].concat()
+}
+
+/// Apple's simple example of source document 000, 104 bytes.
+pub fn simple() -> Vec<u8> {
+    [
+        longs(&[0x0001_0000]),
+        words(&[0, 10, 0, 0, 48, 0]),
+        words(&[2, 6, 2, 12, 1, 0, 2, 2, 0, 275, 3, 28, 0xFFFF, 0xFFFF, 0, 0]),
+        longs(&[1]),
+        pair(0, 0x8000, [1, 1]),
+        longs(&[1]),
+        pair(0, 0x2500, [2, 2]),
+    ]
+    .concat()
+}
+
+/// Apple's complex example of source document 000, 444 bytes.
+pub fn complex() -> Vec<u8> {
+    let rows = [[1, 2, 1, 1, 0], [1, 2, 1, 1, 0], [1, 2, 1, 1, 1], [1, 2, 1, 1, 0]];
+    [
+        longs(&[0x0001_0000]),
+        words(&[0, 10, 0, 168, 48, 128]),
+        words(&[2, 6, 2, 12, 1, 0, 2, 2, 0, 226, 3, 28, 0xFFFF, 0xFFFF, 0, 0]),
+        longs(&[1]),
+        pair(0, 0x8000, [1, 1]),
+        longs(&[2]),
+        pair(0, 0x2500, [2, 2]),
+        pair(1, 0x2500, [0x1000, 2]),
+        words(&[2, 6, 1, 6, 0, 0, 226, 2, 24, 0xFFFF, 0xFFFF, 0]),
+        longs(&[1]),
+        words(&[1, 1, 0, 12, 226, 0]),
+        words(&[276, 0, 0, 0, 5, 8, 236, 256, 3, 223]),
+        vec![4; 223],
+        vec![0],
+        rows.concat(),
+        words(&[246, 1, 246, 0, 251, 0]),
+    ]
+    .concat()
+}
+
+/// One glyph that is unlimited, with a list of these actions, already written.
+fn with_list(count: u32, actions: &[u8]) -> Vec<u8> {
+    [
+        longs(&[0x0001_0000]),
+        words(&[0, 10, 0, 0, 24, 52, 8, 0, 1, 0]),
+        longs(&[1, 0, 0, 0, 0, 0]),
+        words(&[0x1000, 0]),
+        words(&[8, 0, 1, 8]),
+        longs(&[count]),
+        actions.to_vec(),
+    ]
+    .concat()
+}
+
+/// The glyph is a ligature of glyphs 1 and 0, whose bytes stand last.
+pub fn with_ligature() -> Vec<u8> {
+    let action = [words(&[0, 0]), longs(&[24, 0, 0x8000]), words(&[7, 2, 1, 0])].concat();
+    with_list(1, &action)
+}
+
+/// The glyph has so many actions that stretch it.
+pub fn with_actions(count: u32) -> Vec<u8> {
+    let action = [words(&[0, 3]), longs(&[8])].concat();
+    with_list(count, &action.repeat(count as usize))
+}
