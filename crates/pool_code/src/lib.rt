@@ -218,7 +218,7 @@ fn put_looked(
     put_large(table, glyphs, kind, at, base, out, to)
 }
 
-// With small rooms for a small table, if they are large enough.
+// With small rooms if they are large enough.
 fn put_lookup(
     table: &[u8],
     glyphs: usize,
@@ -231,9 +231,6 @@ fn put_lookup(
     requires { ⌜ Ready kind (now table) glyphs (Source.Lookup at base) × (to < 2 ^ 38) ⌝ }
     ensures { λ r. ⌜ Placed kind (now (table .entry)) glyphs (Source.Lookup at base) (now (out .entry)) (now (out .exit)) to r ⌝ }
 {
-    if 512 < table.len() {
-        return put_looked(table, glyphs, kind, at, base, out, to);
-    }
     let end = put_small(table, glyphs, kind, at, base, out, to);
     if 0 < end {
         return end;
@@ -266,5 +263,8 @@ pub fn put_pool(
         put_none(out, to);
         return to + 8;
     };
+    if 512 < table.len() {
+        return put_looked(table, glyphs, kind, at, base, out, to);
+    }
     put_lookup(table, glyphs, kind, at, base, out, to)
 }

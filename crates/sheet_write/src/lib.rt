@@ -97,7 +97,7 @@ fn write_large(table: &[u8], glyphs: usize, room: &mut [u8]) -> WriteAnswer
     requires { ⌜ tableFault (now table) glyphs ≡ Clear ⌝ }
     ensures { λ r. ⌜ record { said = saysWritten r; room = now (room .exit) } ≡ stored (sheetOf (now (table .entry)) glyphs) (now (room .entry)) ⌝ }
 {
-    let mut draft = [0u8; 8192];
+    let mut draft = [0u8; 32768];
     write_by(table, glyphs, &mut draft, room)
 }
 
