@@ -32,3 +32,9 @@ module _ {A : Type 0} where
 
   pub put-length : (xs l₀ l₁ : List A) (i n : ℕ) → l₁ ≡ sets l₀ i xs → length l₀ ≡ n → length l₁ ≡ n
   put-length xs l₀ l₁ i n a e = ap length a ∙ length-sets l₀ i xs ∙ e
+
+  -- what would stand past the end is not stored
+  pub put-part : (xs ys l₀ l₁ : List A) (i : ℕ) → length l₀ ≤ i + length xs → l₁ ≡ sets l₀ i xs → l₁ ≡ sets l₀ i (xs ++ ys)
+  put-part xs ys l₀ l₁ i h a =
+      let e : length l₁ ≤ i + length xs = omega (arith, h, put-length xs l₀ l₁ i (length l₀) a refl) in
+      put-two xs ys l₀ l₁ l₁ i (i + length xs) refl a (sym (sets-out ys l₁ (i + length xs) e))

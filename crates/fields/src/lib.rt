@@ -120,24 +120,48 @@ pub fn put_u8(out: &mut [u8], at: usize, byte: u8)
     }
 }
 
-// Stores a 16-bit number at a position; what would stand past the end is dropped.
+// Stores a 16-bit number at a position; what would stand past the end is dropped. Where there is room for all of it, that is
+// seen once, and its bytes are stored as one.
 pub fn put_u16(out: &mut [u8], at: usize, number: u16)
     ensures { λ r. ⌜ now (out .exit) ≡ sets (now (out .entry)) at (be16 number) ⌝ }
 {
-    if at < out.len() {
+    if out.len() < 2 {
         put_u8(out, at, (number / 256 % 256) as u8);
-        put_u8(out, at + 1, (number % 256) as u8);
+        return;
     }
+    if out.len() - 2 < at {
+        put_u8(out, at, (number / 256 % 256) as u8);
+        return;
+    }
+    put_u8(out, at, (number / 256 % 256) as u8);
+    put_u8(out, at + 1, (number % 256) as u8);
 }
 
-// Stores a 32-bit number at a position; what would stand past the end is dropped.
-pub fn put_u32(out: &mut [u8], at: usize, number: u32)
+// Stores a 32-bit number at a position near the end or past it.
+fn put_u32_near_end(out: &mut [u8], at: usize, number: u32)
     ensures { λ r. ⌜ now (out .exit) ≡ sets (now (out .entry)) at (be32 number) ⌝ }
 {
     if at < out.len() {
         put_u16(out, at, (number / 65536) as u16);
         put_u16(out, at + 2, (number % 65536) as u16);
     }
+}
+
+// Stores a 32-bit number at a position; what would stand past the end is dropped. Where there is room for all of it, that is
+// seen once, and its bytes are stored as one.
+pub fn put_u32(out: &mut [u8], at: usize, number: u32)
+    ensures { λ r. ⌜ now (out .exit) ≡ sets (now (out .entry)) at (be32 number) ⌝ }
+{
+    if out.len() < 4 {
+        put_u32_near_end(out, at, number);
+        return;
+    }
+    if out.len() - 4 < at {
+        put_u32_near_end(out, at, number);
+        return;
+    }
+    put_u16(out, at, (number / 65536) as u16);
+    put_u16(out, at + 2, (number % 65536) as u16);
 }
 
 // `first` where it is a fault, else `second`. A fault is built anew from its parts, so that compiled code keeps chains of
