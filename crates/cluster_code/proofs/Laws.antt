@@ -54,12 +54,12 @@ same-flagged false x y c b a f = λ e. f (ap (λ (p : Pair). p .flags) e)
 
 module _ (t : List ℕ) where
   pub print-more : (n at print w : ℕ) → 0 < n → w ≡ pairPrint (pairAt t at)
-      → pairsPrint ((31 * print + w) % 1021) (pairsAt t (n - 1) (at + 24)) ≡ pairsPrint print (pairsAt t n at)
+      → pairsPrint ((31 * print + w) % 4294967296) (pairsAt t (n - 1) (at + 24)) ≡ pairsPrint print (pairsAt t n at)
   unfolding pairsPrint
   print-more n at print w h e =
-      ap (λ (k : ℕ). pairsPrint ((31 * print + k) % 1021) (pairsAt t (n - 1) (at + 24))) e ∙ ap (pairsPrint print) (sym (pairs-cons t n at h))
+      ap (λ (k : ℕ). pairsPrint ((31 * print + k) % 4294967296) (pairsAt t (n - 1) (at + 24))) e ∙ ap (pairsPrint print) (sym (pairs-cons t n at h))
 
-  pub print-none : (n at print : ℕ) → n ≤ 0 → pairsPrint print (pairsAt t n at) ≡ print
+  pub print-none : (n at print : ℕ) → n ≤ 0 → pairsPrint print (pairsAt t n at) ≡ print % 1021
   unfolding pairsPrint
   print-none n at print h = ap (pairsPrint print) (pairs-none t n at h)
 

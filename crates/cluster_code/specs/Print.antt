@@ -9,5 +9,5 @@ pairPrint p =
 
 -- that of pairs, after others whose number is given
 unfoldable pub pairsPrint : ℕ → List Pair → ℕ
-pairsPrint print [] = print
-pairsPrint print (p ∷ ps) = pairsPrint ((31 * print + pairPrint p) % 1021) ps
+pairsPrint print [] = print % 1021
+pairsPrint print (p ∷ ps) = pairsPrint ((31 * print + pairPrint p) % 4294967296) ps

@@ -111,11 +111,11 @@ pub fn cluster_print(table: &[u8], at: u16) -> usize
     let mut first = at as usize + 4;
     let mut print: usize = 0;
     while 0 < left {
-        print = (31 * print + pair_print(cluster::pair_at(table, first))) % 1021;
+        print = (31 * print + pair_print(cluster::pair_at(table, first))) % 4294967296;
         first += 24;
         left -= 1;
     }
-    print
+    print % 1021
 }
 
 // How many bytes the cluster at a position is written in.

@@ -214,12 +214,12 @@ module _ (t : List ℕ) where
       ap (λ (x : ℕ). 17 * c + 19 * k + x) ew ∙ ap₂ (λ (i j : ℕ). 17 * i + 19 * j + weight 0 0 (contentAt t at j)) ec ek
 
   pub print-more : (n at print w j : ℕ) → 0 < n → w ≡ actionPrint (actionAt t at) → j ≡ u32At t (at + 4)
-      → actionsPrint ((31 * print + w) % 1021) (actionsAt t (n - 1) (at + j)) ≡ actionsPrint print (actionsAt t n at)
+      → actionsPrint ((31 * print + w) % 4294967296) (actionsAt t (n - 1) (at + j)) ≡ actionsPrint print (actionsAt t n at)
   unfolding actionsPrint
   print-more n at print w j h e ej =
-      ap₂ (λ (k i : ℕ). actionsPrint ((31 * print + k) % 1021) (actionsAt t (n - 1) (at + i))) e ej ∙ ap (actionsPrint print) (sym (actions-cons t n at h))
+      ap₂ (λ (k i : ℕ). actionsPrint ((31 * print + k) % 4294967296) (actionsAt t (n - 1) (at + i))) e ej ∙ ap (actionsPrint print) (sym (actions-cons t n at h))
 
-  pub print-none : (n at print : ℕ) → n ≤ 0 → actionsPrint print (actionsAt t n at) ≡ print
+  pub print-none : (n at print : ℕ) → n ≤ 0 → actionsPrint print (actionsAt t n at) ≡ print % 1021
   unfolding actionsPrint
   print-none n at print h = ap (actionsPrint print) (actions-none t n at h)
 

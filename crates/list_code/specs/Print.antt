@@ -13,5 +13,5 @@ actionPrint a = 17 * a .class + 19 * a .kind + weight 0 0 (a .content)
 
 -- that of actions, after others whose number is given
 unfoldable pub actionsPrint : ℕ → List Action → ℕ
-actionsPrint print [] = print
-actionsPrint print (a ∷ l) = actionsPrint ((31 * print + actionPrint a) % 1021) l
+actionsPrint print [] = print % 1021
+actionsPrint print (a ∷ l) = actionsPrint ((31 * print + actionPrint a) % 4294967296) l

@@ -155,11 +155,11 @@ pub fn list_print(table: &[u8], place: u16) -> usize
     let mut left = fields::u32_at(table, place as usize);
     let mut print: usize = 0;
     while 0 < left {
-        print = (31 * print + action_print(table, at)) % 1021;
+        print = (31 * print + action_print(table, at)) % 4294967296;
         at += fields::u32_at(table, at + 4);
         left -= 1;
     }
-    print
+    print % 1021
 }
 
 // How many bytes the action at `at` is written in.

@@ -10,7 +10,7 @@ use Rattle.cluster_code.proofs.cluster_print.Tie as tie
 
 abbrev Inv-loop : tie.InvT-loop
 Inv-loop table at left₀ first₀ print₀ left first print =
-    (first + 24 * left < 2 ^ 60) × (print < 1021) × (pairsPrint print (pairsAt table left first) ≡ pairsPrint 0 (clusterAt table at))
+    (first + 24 * left < 2 ^ 60) × (print < 4294967296) × (pairsPrint print (pairsAt table left first) ≡ pairsPrint 0 (clusterAt table at))
 
 abbrev μ-loop : tie.MeasureT-loop
 μ-loop table at left₀ first₀ print₀ left first print = left
@@ -56,7 +56,7 @@ loop-again c =
 returns : tie.Need-returns Inv-loop μ-loop
 returns c =
     let l = (c .before .loop) in
-    (sym (print-none ((c .before .before .before .before .args) .table .now) (l .left) (l .first) (l .print) (omega arith)) ∙ l .inv .2, l .inv .1)
+    (sym (print-none ((c .before .before .before .before .args) .table .now) (l .left) (l .first) (l .print) (omega arith)) ∙ l .inv .2, omega arith)
 
 pub cluster-print-spec : {M : Type 1} → statement M
 cluster-print-spec =

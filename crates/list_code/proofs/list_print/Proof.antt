@@ -10,7 +10,7 @@ use Rattle.list_code.proofs.list_print.Tie as tie
 
 abbrev Inv-loop : tie.InvT-loop
 Inv-loop table place at₀ left₀ print₀ at left print =
-    (at < 2 ^ 33) × (print < 1021) × (actionsPrint print (actionsAt table left at) ≡ actionsPrint 0 (listAt table place))
+    (at < 2 ^ 33) × (print < 4294967296) × (actionsPrint print (actionsAt table left at) ≡ actionsPrint 0 (listAt table place))
 
 abbrev μ-loop : tie.MeasureT-loop
 μ-loop table place at₀ left₀ print₀ at left print = left
@@ -59,7 +59,7 @@ loop-again c =
 returns : tie.Need-returns Inv-loop μ-loop
 returns c =
     let l = (c .before .loop) in
-    (sym (print-none ((c .before .before .before .before .args) .table .now) (l .left) (l .at) (l .print) (omega arith)) ∙ l .inv .2, l .inv .1)
+    (sym (print-none ((c .before .before .before .before .args) .table .now) (l .left) (l .at) (l .print) (omega arith)) ∙ l .inv .2, omega arith)
 
 pub list-print-spec : {M : Type 1} → statement M
 list-print-spec =
