@@ -24,21 +24,21 @@ pub enum Sought {
 }
 
 // A pair's class: the low 7 bits of its field.
-fn class_at(table: &[u8], at: usize) -> u32
+pub fn class_at(table: &[u8], at: usize) -> u32
     ensures { λ r. ⌜ (r ≡ classAt (now (table .entry)) at) × (r < 128) ⌝ }
 {
     (fields::u32_at(table, at) % 128) as u32
 }
 
 // A Fixed as its field has it.
-fn fixed_at(table: &[u8], at: usize) -> u32
+pub fn fixed_at(table: &[u8], at: usize) -> u32
     ensures { λ r. ⌜ r ≡ u32At (now (table .entry)) at ⌝ }
 {
     fields::u32_at(table, at) as u32
 }
 
 // A Fixed without its sign.
-fn size_at(table: &[u8], at: usize) -> u32
+pub fn size_at(table: &[u8], at: usize) -> u32
     ensures { λ r. ⌜ r ≡ fixedSize (u32At (now (table .entry)) at) ⌝ }
 {
     units::fixed_size(fixed_at(table, at))
@@ -52,7 +52,7 @@ fn flags_at(table: &[u8], at: usize) -> u16
 }
 
 // The same with the ignored bits zero.
-fn kept_at(table: &[u8], at: usize) -> u16
+pub fn kept_at(table: &[u8], at: usize) -> u16
     ensures { λ r. ⌜ r ≡ keptFlags (u16At (now (table .entry)) at) ⌝ }
 {
     units::kept_flags(flags_at(table, at))

@@ -1,11 +1,13 @@
 -- Pairs one after the other, and the bytes of a cluster.
 use Prim.Native.Nat.{ℕ, zero, suc, _+_, _-_, _*_, _%_, _≤_, _<_}
-use mathlib.Core.Path.{_≡_, refl, sym, ap, ap₂, _∙_}
+use mathlib.Core.Path.{_≡_, refl, sym, ap, ap₂, _∙_, subst}
 use mathlib.Core.Bool.{Bool, true, false}
 use mathlib.Core.List.{List, [], _∷_, _++_, head-eq-of-cons-eq, tail-eq-of-cons-eq}
 use native.Mathlib.Omega.{arith}
 use lib.ListN.{length}
-use Rattle.fields.specs.Field.{u32At, be32}
+use Rattle.fields.specs.Field.{u16At, u32At, be32}
+use Rattle.units.specs.Fixed.{fixedSize}
+use Rattle.units.specs.Flags.{keptFlags}
 use Rattle.lists.specs.Codes.{many, counted}
 use Rattle.lists.proofs.CodeLaws.{many-length}
 use Rattle.parts.specs.declared.Pair.{Pair}
@@ -13,9 +15,27 @@ use Rattle.meaning.specs.Sheet.{pairCode}
 use Rattle.lists.specs.Tests.{Says}
 use Rattle.cluster.specs.Pairs.{pairAt, pairsAt, clusterAt}
 use Rattle.cluster.proofs.Laws.{pairs-length, cluster-length}
-use Rattle.cluster_code.specs.Print.{pairPrint, pairsPrint}
+use Rattle.cluster.specs.Faults.{classAt}
+use Rattle.cluster_code.specs.Print.{limitsAt, flagsAt, pairPrint, pairsPrint}
 
 module _ (t : List ℕ) where
+  -- a pair by its parts
+  abbrev pub partsAt : ℕ → Pair
+  partsAt at = record { class = classAt t at; before = limitsAt t (at + 4); after = limitsAt t (at + 12); flags = flagsAt t (at + 20) }
+
+  pub pair-parts : (at : ℕ) → pairAt t at ≡ partsAt at
+  unfolding pairAt
+  pair-parts at =
+      let b : at + 8 ≡ at + 4 + 4 = omega arith in
+      let a : at + 16 ≡ at + 12 + 4 = omega arith in
+      let f : at + 22 ≡ at + 20 + 2 = omega arith in
+      λ i. record {
+        class = classAt t at;
+        before = record { grow = u32At t (at + 4); shrink = fixedSize (u32At t (b i)) };
+        after = record { grow = u32At t (at + 12); shrink = fixedSize (u32At t (a i)) };
+        flags = record { grow = keptFlags (u16At t (at + 20)); shrink = keptFlags (u16At t (f i)) };
+      }
+
   pub pairs-cons : (n at : ℕ) → 0 < n → pairsAt t n at ≡ pairAt t at ∷ pairsAt t (n - 1) (at + 24)
   unfolding pairsAt
   pairs-cons zero at h = absurd (omega arith)
@@ -44,6 +64,10 @@ module _ (t : List ℕ) where
   cluster-code at n e =
       ap (λ (k : ℕ). be32 k ++ many pairCode (pairsAt t n (at + 4))) (sym (pairs-length t n (at + 4)))
       ∙ ap (λ (k : ℕ). counted pairCode (pairsAt t k (at + 4))) e
+
+-- what was asked of two values that stand for two others
+pub says-of : {A : Type 0} (r : Bool) {x x′ y y′ : A} → x ≡ x′ → y ≡ y′ → Says r (x ≡ y) → Says r (x′ ≡ y′)
+says-of {A} r {x} {x′} {y} {y′} e f s = subst (λ (b : A). Says r (x′ ≡ b)) f (subst (λ (a : A). Says r (a ≡ y)) e s)
 
 -- what is left to compare of two pairs
 pub same-flagged : (r : Bool) (x y : Pair) → x .class ≡ y .class → x .before ≡ y .before → x .after ≡ y .after → Says r (x .flags ≡ y .flags) → Says r (x ≡ y)

@@ -1,11 +1,25 @@
 -- A number below 1,021 for a cluster, the same for clusters that are the same: it tells where to look for one.
 use Prim.Native.Nat.{ℕ, _+_, _*_, _%_}
 use mathlib.Core.List.{List, [], _∷_}
+use Rattle.fields.specs.Field.{u16At, u32At}
+use Rattle.units.specs.Fixed.{fixedSize}
+use Rattle.units.specs.Flags.{keptFlags}
+use Rattle.parts.specs.declared.Flags.{Flags}
+use Rattle.parts.specs.declared.Limits.{Limits}
 use Rattle.parts.specs.declared.Pair.{Pair}
 
+-- the limits and the flags that begin at a position, as they are written
+abbrev pub limitsAt : List ℕ → ℕ → Limits
+limitsAt t at = record { grow = u32At t at; shrink = fixedSize (u32At t (at + 4)) }
+
+abbrev pub flagsAt : List ℕ → ℕ → Flags
+flagsAt t at = record { grow = keptFlags (u16At t at); shrink = keptFlags (u16At t (at + 2)) }
+
+abbrev pub limitsPrint : Limits → ℕ
+limitsPrint l = l .grow + 3 * l .shrink
+
 abbrev pub pairPrint : Pair → ℕ
-pairPrint p =
-    17 * p .class + (p .before .grow + 3 * p .before .shrink) + (5 * p .after .grow + 7 * p .after .shrink) + (11 * p .flags .grow + 13 * p .flags .shrink)
+pairPrint p = 17 * p .class + (limitsPrint (p .before) + 5 * limitsPrint (p .after)) + (11 * p .flags .grow + 13 * p .flags .shrink)
 
 -- that of pairs, after others whose number is given
 unfoldable pub pairsPrint : ℕ → List Pair → ℕ

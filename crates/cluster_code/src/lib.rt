@@ -11,11 +11,10 @@ ghost use Rattle.fields.specs.Field.{be16, be32};
 ghost use Rattle.lists.specs.Codes.{many, counted};
 ghost use Rattle.meaning.specs.Sheet.{pairCode};
 ghost use Rattle.lists.specs.Tests.{Says};
-ghost use Rattle.cluster.specs.Pairs.{pairsAt, clusterAt};
-ghost use Rattle.cluster_code.specs.Print.{pairPrint, pairsPrint};
+ghost use Rattle.cluster.specs.Pairs.{pairAt, pairsAt, clusterAt};
+ghost use Rattle.cluster_code.specs.Print.{limitsAt, flagsAt, limitsPrint, pairPrint, pairsPrint};
 use parts::Flags;
 use parts::Limits;
-use parts::Pair;
 
 fn same_limits(a: Limits, b: Limits) -> bool
     ensures { λ r. ⌜ Says r (a ≡ b) ⌝ }
@@ -41,15 +40,39 @@ fn same_flags(a: Flags, b: Flags) -> bool
     true
 }
 
-fn same_pair(a: Pair, b: Pair) -> bool
-    ensures { λ r. ⌜ Says r (a ≡ b) ⌝ }
+// The limits that begin at a position: grow, then shrink.
+fn limits_at(table: &[u8], at: usize) -> Limits
+    requires { ⌜ at < 2 ^ 62 ⌝ }
+    ensures { λ r. ⌜ r ≡ limitsAt (now (table .entry)) at ⌝ }
 {
-    if a.class != b.class {
+    Limits {
+        grow: cluster::fixed_at(table, at),
+        shrink: cluster::size_at(table, at + 4),
+    }
+}
+
+// The flags that begin at a position: grow, then shrink.
+fn flags_at(table: &[u8], at: usize) -> Flags
+    requires { ⌜ at < 2 ^ 62 ⌝ }
+    ensures { λ r. ⌜ r ≡ flagsAt (now (table .entry)) at ⌝ }
+{
+    Flags {
+        grow: cluster::kept_at(table, at),
+        shrink: cluster::kept_at(table, at + 2),
+    }
+}
+
+// Whether two positions hold the same pair. Most that differ do so in their first fields.
+fn same_pair(table: &[u8], a: usize, b: usize) -> bool
+    requires { ⌜ (a < 2 ^ 61) × (b < 2 ^ 61) ⌝ }
+    ensures { λ r. ⌜ Says r (pairAt (now (table .entry)) a ≡ pairAt (now (table .entry)) b) ⌝ }
+{
+    if cluster::class_at(table, a) != cluster::class_at(table, b) {
         return false;
     }
-    if same_limits(a.before, b.before) {
-        if same_limits(a.after, b.after) {
-            return same_flags(a.flags, b.flags);
+    if same_limits(limits_at(table, a + 4), limits_at(table, b + 4)) {
+        if same_limits(limits_at(table, a + 12), limits_at(table, b + 12)) {
+            return same_flags(flags_at(table, a + 20), flags_at(table, b + 20));
         } else {
             return false;
         }
@@ -60,16 +83,14 @@ fn same_pair(a: Pair, b: Pair) -> bool
 
 // Whether the `count` pairs from `first` on are the same as those from `second` on.
 fn same_pairs(table: &[u8], first: usize, second: usize, count: usize) -> bool
-    requires { ⌜ (first + 24 * count < 2 ^ 62) × (second + 24 * count < 2 ^ 62) ⌝ }
+    requires { ⌜ (first + 24 * count < 2 ^ 60) × (second + 24 * count < 2 ^ 60) ⌝ }
     ensures { λ r. ⌜ Says r (pairsAt (now (table .entry)) count first ≡ pairsAt (now (table .entry)) count second) ⌝ }
 {
     let mut a = first;
     let mut b = second;
     let mut left = count;
     while 0 < left {
-        let x = cluster::pair_at(table, a);
-        let y = cluster::pair_at(table, b);
-        if same_pair(x, y) {
+        if same_pair(table, a, b) {
             a += 24;
             b += 24;
             left -= 1;
@@ -94,13 +115,22 @@ pub fn same_cluster(table: &[u8], first: u16, second: u16) -> bool
     }
 }
 
-fn pair_print(pair: Pair) -> usize
-    ensures { λ r. ⌜ (r ≡ pairPrint pair) × (r < 2 ^ 38) ⌝ }
+fn limits_print(limits: Limits) -> usize
+    ensures { λ r. ⌜ (r ≡ limitsPrint limits) × (r < 2 ^ 35) ⌝ }
 {
-    let before = pair.before.grow as usize + 3 * (pair.before.shrink as usize);
-    let after = 5 * (pair.after.grow as usize) + 7 * (pair.after.shrink as usize);
-    let flags = 11 * (pair.flags.grow as usize) + 13 * (pair.flags.shrink as usize);
-    17 * (pair.class as usize) + before + after + flags
+    limits.grow as usize + 3 * (limits.shrink as usize)
+}
+
+fn pair_print(table: &[u8], at: usize) -> usize
+    requires { ⌜ at < 2 ^ 61 ⌝ }
+    ensures { λ r. ⌜ (r ≡ pairPrint (pairAt (now (table .entry)) at)) × (r < 2 ^ 40) ⌝ }
+{
+    let before = limits_print(limits_at(table, at + 4));
+    let after = limits_print(limits_at(table, at + 12));
+    let flags = flags_at(table, at + 20);
+    let sides = before + 5 * after;
+    let marks = 11 * (flags.grow as usize) + 13 * (flags.shrink as usize);
+    17 * (cluster::class_at(table, at) as usize) + sides + marks
 }
 
 // A number below 1,021 for the cluster at a position, the same for the same clusters.
@@ -111,7 +141,7 @@ pub fn cluster_print(table: &[u8], at: u16) -> usize
     let mut first = at as usize + 4;
     let mut print: usize = 0;
     while 0 < left {
-        print = (31 * print + pair_print(cluster::pair_at(table, first))) % 4294967296;
+        print = (31 * print + pair_print(table, first)) % 4294967296;
         first += 24;
         left -= 1;
     }
@@ -141,15 +171,15 @@ fn put_flags(out: &mut [u8], to: usize, flags: Flags)
     fields::put_u16(out, to + 2, flags.shrink);
 }
 
-// Stores a pair, in 24 bytes.
-fn put_pair(out: &mut [u8], to: usize, pair: Pair)
-    requires { ⌜ to < 2 ^ 61 ⌝ }
-    ensures { λ r. ⌜ now (out .exit) ≡ sets (now (out .entry)) to (pairCode pair) ⌝ }
+// Stores the pair at a position, in 24 bytes.
+fn put_pair(table: &[u8], at: usize, out: &mut [u8], to: usize)
+    requires { ⌜ (at < 2 ^ 61) × (to < 2 ^ 61) ⌝ }
+    ensures { λ r. ⌜ now (out .exit) ≡ sets (now (out .entry)) to (pairCode (pairAt (now (table .entry)) at)) ⌝ }
 {
-    fields::put_u32(out, to, pair.class);
-    put_limits(out, to + 4, pair.before);
-    put_limits(out, to + 12, pair.after);
-    put_flags(out, to + 20, pair.flags);
+    fields::put_u32(out, to, cluster::class_at(table, at));
+    put_limits(out, to + 4, limits_at(table, at + 4));
+    put_limits(out, to + 12, limits_at(table, at + 12));
+    put_flags(out, to + 20, flags_at(table, at + 20));
 }
 
 // Stores the `count` pairs from `first` on.
@@ -161,7 +191,7 @@ fn put_pairs(table: &[u8], first: usize, count: usize, out: &mut [u8], to: usize
     let mut end = to;
     let mut left = count;
     while 0 < left {
-        put_pair(out, end, cluster::pair_at(table, at));
+        put_pair(table, at, out, end);
         at += 24;
         end += 24;
         left -= 1;

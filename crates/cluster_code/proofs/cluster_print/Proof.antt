@@ -1,12 +1,16 @@
-use Prim.Native.Nat.{_+_, _*_, _<_, _^_}
-use mathlib.Core.Path.{_≡_, ap, sym, _∙_}
-use native.Mathlib.Omega.{arith}
-use Rattle.cluster.specs.Pairs.{pairsAt, clusterAt}
-use Rattle.cluster_code.specs.Print.{pairPrint, pairsPrint}
-use Rattle.cluster_code.proofs.Laws.{print-more, print-none, print-all}
 use borrow.Author.Needs.{needs}
+use Rattle.cluster_code.proofs.Laws.{print-more, print-none, print-all}
+use Rattle.cluster_code.specs.Print.{pairsPrint}
+use Rattle.cluster.specs.Pairs.{pairsAt, clusterAt}
+use native.Mathlib.Omega.{arith}
+use mathlib.Core.Path.{_≡_, sym, _∙_}
+use Prim.Native.Nat.{_+_, _*_, _<_, _^_}
 use Rattle.cluster_code.proofs.cluster_print.Statement.{statement}
 use Rattle.cluster_code.proofs.cluster_print.Tie as tie
+use Rattle.cluster_code.proofs.cluster_print.Reads as reads
+use Rattle.cluster_code.proofs.cluster_print.Lts as lts
+use Rattle.cluster_code.proofs.pair_print.Reads as pair-print-reads
+use Rattle.fields.proofs.u32_at.Reads as u32-at-reads
 
 abbrev Inv-loop : tie.InvT-loop
 Inv-loop table at left₀ first₀ print₀ left first print =
@@ -15,48 +19,53 @@ Inv-loop table at left₀ first₀ print₀ left first print =
 abbrev μ-loop : tie.MeasureT-loop
 μ-loop table at left₀ first₀ print₀ left first print = left
 
+-- src/lib.rt:140:9
 u32-at-requires : tie.Need-u32-at-requires Inv-loop μ-loop
 u32-at-requires c κs = search needs
 
+-- src/lib.rt:141:21
 add-first : tie.Need-add-first Inv-loop μ-loop
 add-first c = search needs
 
+-- src/lib.rt:143:5
 loop-holds : tie.Need-loop-holds Inv-loop μ-loop
-loop-holds c = (omega (arith, (c .u32-at) .ensures .1), omega arith, print-all ((c .before .before .args) .table .now) ((c .before .before .args) .at) ((c .u32-at) .result) ((c .u32-at) .ensures .0))
+loop-holds c = (omega (arith, (c .u32-at) .ensures .1), omega arith, print-all (c .before .before .args .table .now) (c .before .before .args .at) ((c .u32-at) .result) ((c .u32-at) .ensures .0))
 
+-- src/lib.rt:144:18
 mul-print : tie.Need-mul-print Inv-loop μ-loop
 mul-print c = search needs
 
-pair-at-requires : tie.Need-pair-at-requires Inv-loop μ-loop
-pair-at-requires c κs = search needs
-
+-- src/lib.rt:144:31
 pair-print-requires : tie.Need-pair-print-requires Inv-loop μ-loop
 pair-print-requires c κs = search needs
 
+-- src/lib.rt:144:18
 add-print : tie.Need-add-print Inv-loop μ-loop
 add-print c = search needs
 
+-- src/lib.rt:145:9
 add-first-2 : tie.Need-add-first-2 Inv-loop μ-loop
 add-first-2 c = search needs
 
+-- src/lib.rt:146:9
 sub-left : tie.Need-sub-left Inv-loop μ-loop
 sub-left c = search needs
 
+-- src/lib.rt:143:5
 loop-less : tie.Need-loop-less Inv-loop μ-loop
 loop-less c = search needs
 
+-- src/lib.rt:143:5
 loop-again : tie.Need-loop-again Inv-loop μ-loop
 loop-again c =
-    let l = (c .before .before .before .loop) in (
-      omega arith,
-      omega arith,
-      print-more ((c .before .before .before .before .before .before .args) .table .now) (l .left) (l .first) (l .print) ((c .pair-print) .result) (omega arith) ((c .pair-print) .ensures .0 ∙ ap pairPrint ((c .before .pair-at) .ensures)) ∙ l .inv .2,
-    )
+    let l = c .before .before .loop in
+    (omega arith, omega arith, print-more (c .before .before .before .before .before .args .table .now) (l .left) (l .first) (l .print) (c .pair-print .result) (omega arith) (c .pair-print .ensures .0) ∙ l .inv .2)
 
+-- src/lib.rt:137:1
 returns : tie.Need-returns Inv-loop μ-loop
 returns c =
-    let l = (c .before .loop) in
-    (sym (print-none ((c .before .before .before .before .args) .table .now) (l .left) (l .first) (l .print) (omega arith)) ∙ l .inv .2, omega arith)
+    let l = c .before .loop in
+    (sym (print-none (c .before .before .before .before .args .table .now) (l .left) (l .first) (l .print) (omega arith)) ∙ l .inv .2, omega arith)
 
 pub cluster-print-spec : {M : Type 1} → statement M
 cluster-print-spec =
@@ -68,7 +77,6 @@ cluster-print-spec =
     add-first
     loop-holds
     mul-print
-    pair-at-requires
     pair-print-requires
     add-print
     add-first-2
