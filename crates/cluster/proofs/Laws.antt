@@ -120,11 +120,6 @@ module _ (t : List ℕ) where
 
   -- ---- a cluster without fault
 
-  pub cluster-some : (at : ℕ) → clusterFault t at ≡ Clear → 1 ≤ u32At t at
-  unfolding clusterFault
-  cluster-some at e =
-      leb-true _ _ (and-first (leb 1 (u32At t at)) (leb (u32At t at) 128) (rule-holds _ BadCluster at (then-first _ _ (then-second _ _ e))))
-
   pub cluster-few : (at : ℕ) → clusterFault t at ≡ Clear → u32At t at ≤ 128
   unfolding clusterFault
   cluster-few at e =

@@ -265,12 +265,3 @@ numbered-cut t here n firsts sheet k h w =
       each = w .each;
       within = λ j hj. omega (arith, l, w .within j hj);
     }
-
-pub cut-length : (t : List ℕ) (here n : ℕ) (firsts sheet : List ℕ) (k : ℕ) → k ≤ length firsts → Numbered t here n firsts sheet k
-    → length (entryBytes t here n) ≡ 8 + 4 * k + n
-cut-length t here n firsts sheet k h w =
-    omega (
-      arith,
-      numbered-length t here n (take k firsts) sheet (length (take k firsts)) (numbered-cut t here n firsts sheet k h w) refl,
-      length-take-le k firsts h,
-    )

@@ -134,15 +134,6 @@ module _ (t : List ℕ) (n : ℕ) (l : Line) (b : Lent) where
       go Clear e = last-clear e
       go (Bad r at) e = omega arith
 
-  -- where there are any, nothing bars the line
-  pub stored-clear : 0 < storedIn (justified t n l b .answer) → lineFault t n l b ≡ Clear
-  unfolding justified
-  stored-clear h = go (lineFault t n l b) refl h
-    where
-      go : (f : Fault) → lineFault t n l b ≡ f → 0 < storedIn (settled f side l b .answer) → lineFault t n l b ≡ Clear
-      go Clear e h = e
-      go (Bad r at) e h = absurd (omega arith)
-
   -- what a line that nothing bars has: an accepted table, and a class and two movements for each of at most 1,024 glyphs
   pub record Cleared : Type 0 where
     pub accepted : tableFault t n ≡ Clear

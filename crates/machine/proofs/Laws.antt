@@ -186,10 +186,6 @@ module _ (t : List ℕ) (glyphs here : ℕ) (e : machineFault t glyphs here ≡ 
 
 -- ---- stored numbers and flags, of any machine
 
--- a stored entry number is a byte: there are at most 256 distinct entries
-pub number-fits : (t : List ℕ) (here row class : ℕ) → Bytes t → numberAt t here row class < 256
-number-fits t here row class bytes = bytes _
-
 pub flags-fit : (t : List ℕ) (here row class : ℕ) → Bytes t → cellAt t here row class .flags < 65536
 unfolding cellAt entryAt
 flags-fit t here row class bytes = u16At-fits t _ bytes

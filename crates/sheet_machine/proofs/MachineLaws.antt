@@ -52,13 +52,6 @@ one-says s at room one rows classes er ec true z =
 one-says s at room one rows classes er ec false z =
     λ o. z (subst (λ (k : ℕ). Sizes k classes) (sym er) (subst (λ (k : ℕ). Sizes (u32At s (at + 4)) k) (sym ec) (o .sizes)))
 
--- what is written where there is no machine, and where there is one
-none-written : machineBytes none ≡ be32 0 ++ (be32 0 ++ (be32 0 ++ be32 0))
-none-written = refl
-
-one-written : (m : Machine) → machineBytes (some m) ≡ be32 1 ++ (be32 (m .rows) ++ (be32 (m .classes) ++ withinBytes (m .kinds, m .cells)))
-one-written m = refl
-
 -- the sections of a machine that stands at a place
 record Opened (glyphs : ℕ) (s : List ℕ) (at : ℕ) (m : Machine) (rest : List ℕ) : Type 0 where
   room : at + 12 ≤ length s

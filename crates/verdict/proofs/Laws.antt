@@ -4,8 +4,7 @@ use mathlib.Core.Bool.{Bool, true, false, cond, not, _||_}
 use mathlib.Core.Path.{_≡_, refl, sym, ap, ap₂, _∙_, subst}
 use native.Mathlib.Nat.{mul-le-mul, div-le-self}
 use native.Mathlib.Omega.{arith}
-use mathlib.Core.List.{List, [], _∷_, _++_}
-use lib.ListN.{length, getD, replicate}
+use mathlib.Core.List.{List}
 use mathlib.Core.Logic.{_⊎_, inl, inr, ⊎-elim}
 use lib.Dec.{ltb, eqb}
 use lib.IntN.{ℤ, pos, negsuc, negℤ, natAbs, negℤ-negℤ, _-ℤ_, _*ℤ_, +ℤ-idl}
@@ -16,11 +15,7 @@ use mir.ValLaws.{toZ-ofZ}
 use borrow.Author.Tests.{ltb-true, ltb-false, eq-eqb, ne-eqb}
 use Rattle.units.specs.Fixed.{fixedOf, farOut, factorOf}
 use Rattle.units.proofs.Rounding.{turned, above-factor, below-factor, not-below, fixed-near, negative-near}
-use Rattle.verdict.specs.Verdict.{below, above, reaches, lower, upper, threshold, grows, breaks, adds, substitutes, stretches, kindFires, firesOf, heldFires}
-use Rattle.fields.specs.Field.{u16At, u32At}
-use Rattle.meaning.specs.Meaning.{Action}
-use Rattle.meaning.specs.Ask.{held}
-use Rattle.parts.specs.declared.HeldAction.{HeldAction}
+use Rattle.verdict.specs.Verdict.{below, above, reaches, lower, upper, threshold, grows, breaks, adds, substitutes, stretches, kindFires}
 use Rattle.verdict.specs.declared.Fires.{Fires}
 use Rattle.verdict.specs.declared.Fires.the-variants.{No, Plain, Substitutes}
 
@@ -176,7 +171,7 @@ module _ (test : ℤ → ℤ → ℕ → Bool) (g : ℤ) (s : ℕ) where
   pub made : {r b : Bool} {bits n : ℕ} → r ≡ test g (fixedOf bits) s → bits ≡ n → r ≡ b → test g (fixedOf n) s ≡ b
   made {r} {b} {bits} {n} e f h = ap (λ (k : ℕ). test g (fixedOf k) s) (sym f) ∙ sym e ∙ h
 
--- ---- an action by its type, and by its class
+-- ---- an action by its type
 
 module _ (content : List ℕ) (g : ℤ) (s : ℕ) where
   pub kind-breaks : (k : ℕ) → k ≡ 0 → breaks content g s ≡ kindFires k content g s
@@ -211,34 +206,3 @@ module _ (content : List ℕ) (g : ℤ) (s : ℕ) where
         ne-eqb k 3 (λ e. omega arith),
         ne-eqb k 4 (λ e. omega arith),
       )
-
-module _ (h : HeldAction) (g : ℤ) (s : ℕ) where
-  pub other-class : {class : ℕ} → (h .class ≡ class → ⊥) → No ≡ heldFires h class g s
-  unfolding firesOf
-  other-class {class} e = sym (ap (λ (t : Bool). cond t (kindFires (h .kind) (h .bytes) g s) No) (ne-eqb (h .class) class e))
-
-  pub own-class : {class : ℕ} {r : Fires} → h .class ≡ class → r ≡ kindFires (h .kind) (h .bytes) g s → r ≡ heldFires h class g s
-  unfolding firesOf
-  own-class {class} {r} e f = f ∙ sym (ap (λ (t : Bool). cond t (kindFires (h .kind) (h .bytes) g s) No) (eq-eqb (h .class) class e))
-
--- ---- an action that is handed out
-
-getD-zeros : (l : List ℕ) (n i : ℕ) → getD (l ++ replicate n 0) i 0 ≡ getD l i 0
-getD-zeros [] zero i = refl
-getD-zeros [] (suc n) zero = refl
-getD-zeros [] (suc n) (suc i) = getD-zeros [] n i
-getD-zeros (x ∷ l) n zero = refl
-getD-zeros (x ∷ l) n (suc i) = getD-zeros l n i
-
-u32At-zeros : (l : List ℕ) (n i : ℕ) → u32At (l ++ replicate n 0) i ≡ u32At l i
-unfolding u32At u16At
-u32At-zeros l n i = simp getD-zeros
-
-kind-zeros : (k : ℕ) (l : List ℕ) (n : ℕ) (g : ℤ) (s : ℕ) → kindFires k (l ++ replicate n 0) g s ≡ kindFires k l g s
-unfolding kindFires breaks substitutes
-kind-zeros k l n g s = simp u32At-zeros
-
--- it fires as the action does
-pub held-fires : (a : Action) (class : ℕ) (g : ℤ) (s : ℕ) → heldFires (held a) class g s ≡ firesOf a class g s
-unfolding firesOf
-held-fires a class g s = ap (λ (f : Fires). cond (eqb (a .class) class) f No) (kind-zeros (a .kind) (a .content) (76 - length (a .content)) g s)

@@ -9,7 +9,6 @@ use lib.Signed.{ltZ, leZ}
 use Rattle.fields.specs.Field.{u32At}
 use Rattle.units.specs.Fixed.{fixedOf}
 use Rattle.meaning.specs.Meaning.{Action}
-use Rattle.parts.specs.declared.HeldAction.{HeldAction}
 use Rattle.verdict.specs.declared.Fires.{Fires}
 use Rattle.verdict.specs.declared.Fires.the-variants.{No, Plain, Substitutes}
 
@@ -67,7 +66,3 @@ kindFires kind content g s =
 -- an action of another class than the glyph's does not fire
 unfoldable pub firesOf : Action → ℕ → ℤ → ℕ → Fires
 firesOf a class g s = cond (eqb (a .class) class) (kindFires (a .kind) (a .content) g s) No
-
--- an action as it is handed out: what follows its data is zeros, and counts for nothing
-abbrev pub heldFires : HeldAction → ℕ → ℤ → ℕ → Fires
-heldFires h = firesOf (record { class = h .class; kind = h .kind; content = h .bytes })

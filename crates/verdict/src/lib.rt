@@ -1,11 +1,10 @@
 // Whether an action fires (document 01, "Verdicts"). A limit in ems and a growth in units meet only through `units::factor`.
-use parts::HeldAction;
 use units::Ems;
 use units::Units;
 ghost use mathlib.Core.Path.{_≡_};
 ghost use Rattle.fields.specs.Field.{u32At};
 ghost use Rattle.units.specs.Fixed.{fixedOf};
-ghost use Rattle.verdict.specs.Verdict.{below, above, breaks, adds, substitutes, stretches, kindFires, heldFires};
+ghost use Rattle.verdict.specs.Verdict.{below, above, breaks, adds, substitutes, stretches, kindFires};
 
 // What an action does at a growth. Only type 2 substitutes.
 pub enum Fires {
@@ -98,16 +97,4 @@ pub fn kind_fires(kind: u16, content: &[u8], growth: Units, size: u32) -> Fires
         3 | 4 => stretches_at(growth),
         _ => Fires::No,
     }
-}
-
-// Whether an action fires for a glyph of this class, at its growth in units and the point size.
-pub fn action_fires(action: HeldAction, class: u8, growth: Units, size: u32) -> Fires
-    ensures { λ r. ⌜ r ≡ heldFires action class (growth .0) size ⌝ }
-{
-    if action.class != class as u16 {
-        return Fires::No;
-    }
-    let kind = action.kind;
-    let bytes = action.bytes;
-    kind_fires(kind, &bytes, growth, size)
 }
