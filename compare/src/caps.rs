@@ -5,7 +5,7 @@ use crate::questions::Questions;
 use reference::generate::LineCase;
 use reference::line::{MOST_SIZE, MOST_TOTAL};
 use reference::meaning::LIMIT;
-use reference::{factor, Direction, WidthRecord};
+use reference::{factor, WidthRecord};
 
 /// Two limits whose factors sum to `total`; none where a short search finds none.
 fn limits_for(total: u64, size: u32) -> Option<(u32, u32)> {
@@ -20,27 +20,12 @@ fn limits_for(total: u64, size: u32) -> Option<(u32, u32)> {
 
 /// A record with these limits in the gap's direction, and any others in the other one.
 fn record(limits: (u32, u32), flags: u16, grow: bool, asked: &mut Questions) -> WidthRecord {
-    let mut other = || asked.below(u64::from(LIMIT) + 1) as u32;
-    let (before, after) = (other(), other());
-    let given = WidthRecord {
-        before_grow: limits.0,
-        before_shrink: before,
-        after_grow: limits.1,
-        after_shrink: after,
-        grow_flags: flags,
-        shrink_flags: 0,
-    };
-    if grow {
-        return given;
-    }
-    WidthRecord {
-        before_grow: before,
-        before_shrink: limits.0,
-        after_grow: after,
-        after_shrink: limits.1,
-        grow_flags: 0,
-        shrink_flags: flags,
-    }
+    let mut any = || asked.below(u64::from(LIMIT) + 1) as u32;
+    let (given, other) = ((limits, flags), ((any(), any()), 0));
+    let (grows, shrinks) = if grow { (given, other) } else { (other, given) };
+    let ((before_grow, after_grow), grow_flags) = grows;
+    let ((before_shrink, after_shrink), shrink_flags) = shrinks;
+    WidthRecord { before_grow, before_shrink, after_grow, after_shrink, grow_flags, shrink_flags }
 }
 
 /// A size, and how many glyphs of 16 em on each side, with one glyph of what limits, give the total.
@@ -70,20 +55,6 @@ pub fn draw(asked: &mut Questions) -> LineCase {
     let advances: Vec<i64> = glyphs.iter().map(|_| asked.below(1_000) as i64 + 1).collect();
     let gap = asked.below(100) as i64;
     let sum: i64 = advances.iter().sum();
-    let count = glyphs.len();
-    LineCase {
-        table: drafts::table(&records, &[], &[]),
-        n: 3,
-        direction: Direction::Horizontal,
-        starts: true,
-        ends: true,
-        size: size.into(),
-        glyphs,
-        advances,
-        target: if grow { sum + gap } else { (sum - 1 - gap).max(0) },
-        classes_len: count,
-        before_len: count,
-        after_len: count,
-        room: 0,
-    }
+    let target = if grow { sum + gap } else { (sum - 1 - gap).max(0) };
+    LineCase { size: size.into(), advances, target, ..drafts::line(drafts::table(&records, &[], &[]), 3, glyphs) }
 }

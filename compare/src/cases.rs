@@ -108,20 +108,13 @@ pub fn without_machine() -> Vec<u8> {
 
 /// A line of `count` glyphs from all over the font, at 12 pt, two points a glyph too narrow.
 pub fn line(table: Vec<u8>, n: u32, count: usize) -> LineCase {
+    let glyphs = (0..count as u32).map(|place| (place * 7_919 % n) as u16).collect();
     LineCase {
-        table,
-        n,
-        direction: Direction::Horizontal,
-        starts: true,
-        ends: true,
         size: 12 * 65_536,
-        glyphs: (0..count as u32).map(|place| (place * 7_919 % n) as u16).collect(),
         advances: vec![6 * 65_536; count],
         target: 8 * 65_536 * count as i64,
-        classes_len: count,
-        before_len: count,
-        after_len: count,
         room: 64 * count,
+        ..drafts::line(table, n, glyphs)
     }
 }
 

@@ -1,7 +1,8 @@
-//! Small tables, put together field by field.
+//! Small tables, put together field by field, and lines.
 
 use reference::examples::Fields;
-use reference::{cluster, WidthRecord};
+use reference::generate::LineCase;
+use reference::{cluster, Direction, WidthRecord};
 
 /// The smallest table: both directions absent.
 pub fn empty() -> Vec<u8> {
@@ -46,5 +47,26 @@ pub fn grows(before: u32, after: u32, flags: u16) -> WidthRecord {
         after_shrink: 0,
         grow_flags: flags,
         shrink_flags: 0,
+    }
+}
+
+/// A horizontal line at 1 pt that starts and ends the text, of advances and target 0, with buffers of the right length and
+/// no room for verdicts.
+pub fn line(table: Vec<u8>, n: u32, glyphs: Vec<u16>) -> LineCase {
+    let count = glyphs.len();
+    LineCase {
+        table,
+        n,
+        direction: Direction::Horizontal,
+        starts: true,
+        ends: true,
+        size: 65_536,
+        glyphs,
+        advances: vec![0; count],
+        target: 0,
+        classes_len: count,
+        before_len: count,
+        after_len: count,
+        room: 0,
     }
 }

@@ -1,8 +1,7 @@
 //! Document 01's sample lines, and lines at each limit, with the values that the page states.
 
-use crate::drafts::{empty, grows, machine, table};
+use crate::drafts::{self, empty, grows, machine, table};
 use crate::{lines, questions::Questions, Outcome};
-use reference::Direction;
 use reference::examples::Fields;
 use reference::generate::LineCase;
 use reference::meaning::LIMIT;
@@ -25,24 +24,9 @@ pub struct Sample {
     pub says: Says,
 }
 
-/// A horizontal line that starts and ends the text, of advances 0, with buffers of the right length and ample room.
+/// A line of advances 0 with ample room for verdicts.
 fn line(table: Vec<u8>, n: u32, glyphs: &[u16], target: i64, size: i64) -> LineCase {
-    let count = glyphs.len();
-    LineCase {
-        table,
-        n,
-        direction: Direction::Horizontal,
-        starts: true,
-        ends: true,
-        size,
-        glyphs: glyphs.to_vec(),
-        advances: vec![0; count],
-        target,
-        classes_len: count,
-        before_len: count,
-        after_len: count,
-        room: 8,
-    }
+    LineCase { target, size, room: 8, ..drafts::line(table, n, glyphs.to_vec()) }
 }
 
 fn with(mut case: LineCase, change: impl FnOnce(&mut LineCase)) -> LineCase {

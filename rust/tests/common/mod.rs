@@ -17,29 +17,29 @@ fn pair(class: u32, grow: u32, flags: [u16; 2]) -> Vec<u8> {
     [longs(&[class, grow, 0xFFFF_F500, grow, 0xFFFF_F500]), words(&flags)].concat()
 }
 
-/// Apple's simple example of source document 000, 104 bytes.
-pub fn simple() -> Vec<u8> {
+/// What Apple's examples begin with: the header, the offsets of machine, clusters and actions, the width lookup, by which
+/// glyph 2 has the first cluster and glyphs 3 to `last` the second, and the first cluster.
+fn apple(machine: u16, actions: u16, last: u16) -> Vec<u8> {
     [
         longs(&[0x0001_0000]),
-        words(&[0, 10, 0, 0, 48, 0]),
-        words(&[2, 6, 2, 12, 1, 0, 2, 2, 0, 275, 3, 28, 0xFFFF, 0xFFFF, 0, 0]),
+        words(&[0, 10, 0, machine, 48, actions]),
+        words(&[2, 6, 2, 12, 1, 0, 2, 2, 0, last, 3, 28, 0xFFFF, 0xFFFF, 0, 0]),
         longs(&[1]),
         pair(0, 0x8000, [1, 1]),
-        longs(&[1]),
-        pair(0, 0x2500, [2, 2]),
     ]
     .concat()
+}
+
+/// Apple's simple example of source document 000, 104 bytes.
+pub fn simple() -> Vec<u8> {
+    [apple(0, 0, 275), longs(&[1]), pair(0, 0x2500, [2, 2])].concat()
 }
 
 /// Apple's complex example of source document 000, 444 bytes.
 pub fn complex() -> Vec<u8> {
     let rows = [[1, 2, 1, 1, 0], [1, 2, 1, 1, 0], [1, 2, 1, 1, 1], [1, 2, 1, 1, 0]];
     [
-        longs(&[0x0001_0000]),
-        words(&[0, 10, 0, 168, 48, 128]),
-        words(&[2, 6, 2, 12, 1, 0, 2, 2, 0, 226, 3, 28, 0xFFFF, 0xFFFF, 0, 0]),
-        longs(&[1]),
-        pair(0, 0x8000, [1, 1]),
+        apple(168, 128, 226),
         longs(&[2]),
         pair(0, 0x2500, [2, 2]),
         pair(1, 0x2500, [0x1000, 2]),
