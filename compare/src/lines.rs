@@ -2,9 +2,9 @@
 
 use crate::caps;
 use crate::guarded::Guarded;
-use crate::library::line::{justify, Lent, Said, Told, Verdict};
 use crate::questions::Questions;
-use crate::{same, Outcome};
+use crate::{library, same, Outcome};
+use just_raw::{Lent, Line, Said, Table, Verdict};
 use reference::generate::{self, LineCase};
 use reference::{Direction, Justified};
 
@@ -73,6 +73,29 @@ impl Buffers {
     }
 }
 
+/// The table that a case is set with.
+pub fn table(case: &LineCase) -> Table<'_> {
+    Table { bytes: &case.table, glyph_count: case.n }
+}
+
+/// The advances of a case, as the library takes them.
+pub fn advances(case: &LineCase) -> Vec<i32> {
+    case.advances.iter().map(|&advance| advance as i32).collect()
+}
+
+/// The line of a case, with its advances.
+pub fn line<'a>(case: &'a LineCase, advances: &'a [i32]) -> Line<'a> {
+    Line {
+        direction: library::number(case.direction),
+        starts: case.starts,
+        ends: case.ends,
+        size: case.size as u32,
+        glyphs: &case.glyphs,
+        advances,
+        target: case.target as i32,
+    }
+}
+
 /// The direction's number; for vertical any number but 0.
 fn direction(case: &LineCase, asked: &mut Questions) -> u32 {
     match case.direction {
@@ -92,18 +115,9 @@ pub fn compare(case: &LineCase, second: &Result<Justified, u32>, asked: &mut Que
         Ok(answer) => lent.clone().filled(answer),
         Err(_) => lent.clone(),
     };
-    let advances: Vec<i32> = case.advances.iter().map(|&advance| advance as i32).collect();
-    let told = Told {
-        table: &case.table,
-        glyph_count: case.n,
-        direction: direction(case, asked),
-        starts: case.starts,
-        ends: case.ends,
-        size: case.size as u32,
-        glyphs: &case.glyphs,
-        advances: &advances,
-        target: case.target as i32,
-    };
-    same("justify", justify(&told, lent.lend()), second.as_ref().map(said).map_err(|&number| number))?;
+    let advances = advances(case);
+    let line = Line { direction: direction(case, asked), ..line(case, &advances) };
+    let answer = table(case).justify(&line, lent.lend());
+    same("justify", library::said(answer), second.as_ref().map(said).map_err(|&number| number))?;
     lent.compare(&wanted)
 }

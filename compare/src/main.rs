@@ -4,6 +4,7 @@
 use compare::questions::Questions;
 use compare::tally::Tally;
 use compare::{lines, marks, samples, sheets, tables, Outcome};
+use just_raw::Table;
 use std::process::ExitCode;
 use std::time::{Duration, Instant};
 
@@ -43,11 +44,11 @@ type Kind = (&'static str, fn(u64, u64, &mut Tally) -> Outcome);
 const KINDS: [Kind; 4] = [("table", table_case), ("sheet", sheet_case), ("line", line_case), ("sample", sample_case)];
 
 fn table_case(seed: u64, index: u64, _: &mut Tally) -> Outcome {
-    let (table, glyphs) = tables::draw(seed, index);
+    let (bytes, glyph_count) = tables::draw(seed, index);
     let mut asked = Questions::new(seed, index);
-    tables::compare(&table, glyphs, &mut asked)?;
+    tables::compare(Table { bytes: &bytes, glyph_count }, &mut asked)?;
     if index % 50 == 0 {
-        tables::compare_counts(&table, &mut asked)?;
+        tables::compare_counts(&bytes, &mut asked)?;
     }
     Ok(())
 }
@@ -116,7 +117,11 @@ fn main() -> ExitCode {
     if asked.names.is_empty() {
         differences = run(&asked);
     }
-    if differences == 0 { ExitCode::SUCCESS } else { ExitCode::FAILURE }
+    if differences == 0 {
+        ExitCode::SUCCESS
+    } else {
+        ExitCode::FAILURE
+    }
 }
 
 /// All kinds in turn, case by case, until the count or the time is used up.

@@ -1,8 +1,8 @@
 //! Sheets and near misses: whether bytes are a sheet, and the parts of those that are.
 
-use crate::library::{self, Asked};
 use crate::questions::Questions;
 use crate::{parts, same, Outcome};
+use just_raw::Sheet;
 use reference::generate;
 
 /// The bytes of a case.
@@ -14,11 +14,11 @@ pub fn draw(seed: u64, index: u64) -> Vec<u8> {
 pub fn compare(bytes: &[u8], asked: &mut Questions) -> Outcome {
     let second = reference::read_sheet(bytes);
     let read = second.as_ref().ok_or(17);
-    same("check_sheet", library::check_sheet(bytes), read.err().unwrap_or(0))?;
+    same("check_sheet", Sheet { bytes }.check(), read.err().unwrap_or(0))?;
     if bytes.len() > 4_000 {
         return Ok(());
     }
-    parts::compare("sheet", Asked::Sheet(bytes), read, asked)
+    parts::compare("sheet", Sheet { bytes }, read, asked)
 }
 
 /// Every change of one byte of a small sheet is judged alike.
@@ -28,7 +28,7 @@ pub fn compare_changes(bytes: &[u8]) -> Outcome {
         for change in 1..=255 {
             changed[at] = bytes[at] ^ change;
             let second = if reference::check_sheet(&changed) { 0 } else { 17 };
-            same(&format!("byte {at} changed by {change}"), library::check_sheet(&changed), second)?;
+            same(&format!("byte {at} changed by {change}"), Sheet { bytes: &changed }.check(), second)?;
         }
         changed[at] = bytes[at];
     }

@@ -33,7 +33,8 @@ fn files_and_names_are_there() {
             };
             seen += 1;
             if before.trim_end().ends_with("in") {
-                wrong.extend(names(before).into_iter().filter(|name| !body.contains(name)).map(|name| format!("{path}: no {name}")));
+                let missing = names(before).into_iter().filter(|name| !body.contains(name));
+                wrong.extend(missing.map(|name| format!("{path}: no {name}")));
             }
         }
     }

@@ -1,6 +1,7 @@
 //! AAT 'just' tables, lines and sheets: a safe layer over the proved library.
 //!
-//! All work is done by the proved code. This crate passes slices on and turns numbers into types; it judges nothing itself.
+//! All work is done by the proved code. This crate passes slices on, through `just-raw`, and turns numbers into types; it
+//! judges nothing itself.
 //!
 //! - [`Table`] is a table that was accepted with a glyph count; it justifies lines and writes its sheet.
 //! - [`Sheet`] is bytes that were accepted as a sheet, the plain record of what a table means.
@@ -19,9 +20,10 @@
 //! # Ok::<(), Refusal>(())
 //! ```
 
+#![forbid(unsafe_code)]
+
 mod line;
 mod parts;
-mod raw;
 mod refusal;
 mod sections;
 mod sheet;

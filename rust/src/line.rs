@@ -1,9 +1,11 @@
 //! Lines.
 
 use crate::parts::Direction;
-use crate::raw;
 use crate::refusal::Refusal;
 use crate::table::Table;
+use just_raw as raw;
+
+pub use raw::{Lent, Verdict};
 
 /// The glyph that stands for a deleted one.
 pub const DELETED: u16 = 0xFFFF;
@@ -26,26 +28,6 @@ pub struct Line<'a> {
     pub advances: &'a [i32],
     /// The width wanted.
     pub target: i32,
-}
-
-/// An action that fires.
-#[derive(Clone, Copy, Debug, Default, PartialEq, Eq, Hash)]
-#[repr(C)]
-pub struct Verdict {
-    /// The glyph's place in the line, from 0.
-    pub place: u16,
-    /// The action's number in the glyph's list, from 0.
-    pub action: u16,
-    pub substitutes: bool,
-}
-
-/// What a line's call fills. All but the verdicts have the length of the line.
-#[derive(Debug)]
-pub struct Lent<'a> {
-    pub classes: &'a mut [u8],
-    pub before: &'a mut [i32],
-    pub after: &'a mut [i32],
-    pub verdicts: &'a mut [Verdict],
 }
 
 /// What is said of a line whose buffers were filled.
@@ -96,35 +78,10 @@ impl Table<'_> {
     /// # Ok::<(), just::Refusal>(())
     /// ```
     pub fn justify_into(&self, line: &Line, lent: Lent) -> Result<Answer, Refusal> {
-        let (table, length, glyph_count) = self.lent();
-        // SAFETY: each pointer and length are of one slice; what is written is lent to be written, and so overlaps nothing
-        // else; what the library stores are numbers and bools, valid in each place.
-        let answer = unsafe {
-            raw::just_justify(
-                table,
-                length,
-                glyph_count,
-                line.direction as u32,
-                line.starts,
-                line.ends,
-                line.size,
-                line.glyphs.as_ptr(),
-                line.glyphs.len(),
-                line.advances.as_ptr(),
-                line.advances.len(),
-                line.target,
-                lent.classes.as_mut_ptr(),
-                lent.classes.len(),
-                lent.before.as_mut_ptr(),
-                lent.before.len(),
-                lent.after.as_mut_ptr(),
-                lent.after.len(),
-                lent.verdicts.as_mut_ptr(),
-                lent.verdicts.len(),
-            )
-        };
-        Refusal::of(answer.refusal)?;
-        Ok(Answer { remainder: answer.remainder, entries: answer.entries, verdicts: answer.verdicts as usize })
+        let Line { direction, starts, ends, size, glyphs, advances, target } = *line;
+        let line = raw::Line { direction: direction as u32, starts, ends, size, glyphs, advances, target };
+        let raw::Said { remainder, entries, verdicts } = Refusal::or(self.lent.justify(&line, lent))?;
+        Ok(Answer { remainder, entries, verdicts: verdicts as usize })
     }
 
     /// Justifies a line.

@@ -1,7 +1,9 @@
 //! The parts of a meaning, and the questions that tables and sheets both answer.
 
-use crate::raw;
 use crate::refusal::Refusal;
+use just_raw::{self as raw, Asked};
+
+pub use raw::{Limits, Sizes};
 
 /// The two directions of a table.
 #[derive(Clone, Copy, Debug, PartialEq, Eq, Hash)]
@@ -9,13 +11,6 @@ use crate::refusal::Refusal;
 pub enum Direction {
     Horizontal = 0,
     Vertical = 1,
-}
-
-/// How many rows and classes a class machine has.
-#[derive(Clone, Copy, Debug, PartialEq, Eq, Hash)]
-pub struct Sizes {
-    pub rows: u16,
-    pub classes: u16,
 }
 
 /// What a cell of the class machine holds: the number of the new row, and flags.
@@ -45,13 +40,6 @@ impl Entry {
     pub fn current_class(self) -> u8 {
         (self.flags & 0x7F) as u8
     }
-}
-
-/// By how much a side may grow and shrink, in ems (65,536 is one em), as sizes.
-#[derive(Clone, Copy, Debug, PartialEq, Eq, Hash)]
-pub struct Limits {
-    pub grow: u32,
-    pub shrink: u32,
 }
 
 /// When a glyph takes its share: its priority, 0 to 3, and whether it is unlimited.
@@ -153,8 +141,8 @@ impl Action {
 
 /// What tables and sheets answer. Where there is nothing, the answer is `None`.
 ///
-/// Each question judges the whole table or sheet again; [`Sheet::side`](crate::Sheet::side) hands out all of a direction at
-/// once.
+/// Each question but that for the glyph count judges the whole table or sheet again; [`Sheet::side`](crate::Sheet::side)
+/// hands out all of a direction at once.
 pub trait Meaning {
     /// The glyph count N.
     fn glyph_count(&self) -> u32;
@@ -175,53 +163,45 @@ pub trait Meaning {
     fn action(&self, direction: Direction, glyph: u16, number: u16) -> Option<Action>;
 }
 
+/// What was accepted, as the library is asked for its parts.
+pub(crate) trait Accepted {
+    fn count(&self) -> u32;
+
+    fn asked(&self) -> impl Asked;
+}
+
+impl<T: Accepted> Meaning for T {
+    fn glyph_count(&self) -> u32 {
+        self.count()
+    }
+
+    fn sizes(&self, direction: Direction) -> Option<Sizes> {
+        part(self.asked().sizes(direction as u32))
+    }
+
+    fn class(&self, direction: Direction, glyph: u16) -> Option<u8> {
+        part(self.asked().class(direction as u32, glyph))
+    }
+
+    fn cell(&self, direction: Direction, row: u16, class: u16) -> Option<Entry> {
+        let raw::Entry { row, flags } = part(self.asked().cell(direction as u32, row, class))?;
+        Some(Entry { row, flags })
+    }
+
+    fn record(&self, direction: Direction, glyph: u16, class: u8) -> Option<Pair> {
+        let raw::Pair { class, before, after, flags } = part(self.asked().record(direction as u32, glyph, class))?;
+        let (grow, shrink) = (Rule::of(flags.grow), Rule::of(flags.shrink));
+        Some(Pair { class: class as u8, before, after, grow, shrink })
+    }
+
+    fn action(&self, direction: Direction, glyph: u16, number: u16) -> Option<Action> {
+        let raw::Action { class, kind, size, bytes } = part(self.asked().action(direction as u32, glyph, number))?;
+        Some(Action::of(class, kind, &bytes[..size as usize]))
+    }
+}
+
 /// A part of what was accepted before: no refusal can come, for the bytes are lent and so cannot have changed.
-fn part<T>(refusal: u32, found: bool, part: T) -> Option<T> {
-    Refusal::of(refusal).expect("what was accepted is accepted again");
+fn part<T>(answer: raw::Part<T>) -> Option<T> {
+    let raw::Found { found, part } = Refusal::or(answer).expect("what was accepted is accepted again");
     found.then_some(part)
-}
-
-impl raw::Count {
-    pub(crate) fn part(self) -> Option<u32> {
-        part(self.refusal, true, self.count)
-    }
-}
-
-impl raw::Sizes {
-    pub(crate) fn part(self) -> Option<Sizes> {
-        part(self.refusal, self.found, Sizes { rows: self.rows, classes: self.classes })
-    }
-}
-
-impl raw::Class {
-    pub(crate) fn part(self) -> Option<u8> {
-        part(self.refusal, self.found, self.class)
-    }
-}
-
-impl raw::Cell {
-    pub(crate) fn part(self) -> Option<Entry> {
-        part(self.refusal, self.found, Entry { row: self.row, flags: self.flags })
-    }
-}
-
-impl raw::Record {
-    pub(crate) fn part(self) -> Option<Pair> {
-        let limits = |[grow, shrink]: [u32; 2]| Limits { grow, shrink };
-        let pair = Pair {
-            class: self.class as u8,
-            before: limits(self.before),
-            after: limits(self.after),
-            grow: Rule::of(self.flags[0]),
-            shrink: Rule::of(self.flags[1]),
-        };
-        part(self.refusal, self.found, pair)
-    }
-}
-
-impl raw::Action {
-    pub(crate) fn part(self) -> Option<Action> {
-        let held = part(self.refusal, self.found, self.action)?;
-        Some(Action::of(held.class, held.kind, &held.bytes[..held.size as usize]))
-    }
 }

@@ -1,5 +1,6 @@
 //! Refusals by document 01's numbers.
 
+use just_raw as raw;
 use std::error::Error;
 use std::fmt;
 
@@ -68,6 +69,11 @@ impl Refusal {
             0 => Ok(()),
             _ => Err(MEANINGS[number as usize - 1].0),
         }
+    }
+
+    /// What an answer says, unless it is a refusal.
+    pub(crate) fn or<T>(answer: raw::Answer<T>) -> Result<T, Refusal> {
+        Refusal::of(answer.refusal).map(|()| answer.said)
     }
 }
 

@@ -1,9 +1,9 @@
 //! Sheets.
 
-use crate::parts::{Action, Direction, Entry, Meaning, Pair, Sizes};
-use crate::raw;
+use crate::parts::{Accepted, Direction};
 use crate::refusal::Refusal;
 use crate::sections::{self, Side};
+use just_raw::{self as raw, Asked};
 
 /// Bytes that were accepted as a sheet. It holds the lent bytes.
 ///
@@ -20,67 +20,35 @@ use crate::sections::{self, Side};
 /// ```
 #[derive(Clone, Copy, Debug)]
 pub struct Sheet<'a> {
-    bytes: &'a [u8],
+    lent: raw::Sheet<'a>,
+    glyph_count: u32,
 }
 
 impl<'a> Sheet<'a> {
     /// Judges some bytes.
     pub fn new(bytes: &'a [u8]) -> Result<Sheet<'a>, Refusal> {
-        // SAFETY: pointer and length are of one slice, which the call only reads.
-        Refusal::of(unsafe { raw::just_check_sheet(bytes.as_ptr(), bytes.len()) })?;
-        Ok(Sheet { bytes })
+        let lent = raw::Sheet { bytes };
+        let glyph_count = Refusal::or(lent.count())?;
+        Ok(Sheet { lent, glyph_count })
     }
 
     /// The lent bytes.
     pub fn bytes(&self) -> &'a [u8] {
-        self.bytes
+        self.lent.bytes
     }
 
     /// All that the sheet says of a direction.
     pub fn side(&self, direction: Direction) -> Side {
-        sections::read(self.bytes, direction)
-    }
-
-    /// Pointer and length, as every call takes a sheet.
-    fn lent(&self) -> (*const u8, usize) {
-        (self.bytes.as_ptr(), self.bytes.len())
+        sections::read(self.lent.bytes, direction)
     }
 }
 
-impl Meaning for Sheet<'_> {
-    fn glyph_count(&self) -> u32 {
-        let (sheet, length) = self.lent();
-        // SAFETY: pointer and length are of one slice, which the call only reads.
-        unsafe { raw::just_sheet_count(sheet, length) }.part().expect("a sheet has a glyph count")
+impl Accepted for Sheet<'_> {
+    fn count(&self) -> u32 {
+        self.glyph_count
     }
 
-    fn sizes(&self, direction: Direction) -> Option<Sizes> {
-        let (sheet, length) = self.lent();
-        // SAFETY: pointer and length are of one slice, which the call only reads.
-        unsafe { raw::just_sheet_sizes(sheet, length, direction as u32) }.part()
-    }
-
-    fn class(&self, direction: Direction, glyph: u16) -> Option<u8> {
-        let (sheet, length) = self.lent();
-        // SAFETY: pointer and length are of one slice, which the call only reads.
-        unsafe { raw::just_sheet_class(sheet, length, direction as u32, glyph) }.part()
-    }
-
-    fn cell(&self, direction: Direction, row: u16, class: u16) -> Option<Entry> {
-        let (sheet, length) = self.lent();
-        // SAFETY: pointer and length are of one slice, which the call only reads.
-        unsafe { raw::just_sheet_cell(sheet, length, direction as u32, row, class) }.part()
-    }
-
-    fn record(&self, direction: Direction, glyph: u16, class: u8) -> Option<Pair> {
-        let (sheet, length) = self.lent();
-        // SAFETY: pointer and length are of one slice, which the call only reads.
-        unsafe { raw::just_sheet_record(sheet, length, direction as u32, glyph, class) }.part()
-    }
-
-    fn action(&self, direction: Direction, glyph: u16, number: u16) -> Option<Action> {
-        let (sheet, length) = self.lent();
-        // SAFETY: pointer and length are of one slice, which the call only reads.
-        unsafe { raw::just_sheet_action(sheet, length, direction as u32, glyph, number) }.part()
+    fn asked(&self) -> impl Asked {
+        self.lent
     }
 }

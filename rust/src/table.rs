@@ -1,8 +1,8 @@
 //! Tables.
 
-use crate::parts::{Action, Direction, Entry, Meaning, Pair, Sizes};
-use crate::raw;
+use crate::parts::{Accepted, Direction};
 use crate::refusal::Refusal;
+use just_raw::{self as raw, Asked};
 
 /// A table that was accepted with a glyph count. It holds the lent bytes.
 ///
@@ -28,43 +28,32 @@ use crate::refusal::Refusal;
 /// ```
 #[derive(Clone, Copy, Debug)]
 pub struct Table<'a> {
-    bytes: &'a [u8],
-    glyph_count: u32,
+    pub(crate) lent: raw::Table<'a>,
 }
 
 impl<'a> Table<'a> {
     /// Judges a table with a glyph count.
     pub fn new(bytes: &'a [u8], glyph_count: u32) -> Result<Table<'a>, Refusal> {
-        // SAFETY: pointer and length are of one slice, which the call only reads.
-        Refusal::of(unsafe { raw::just_check_table(bytes.as_ptr(), bytes.len(), glyph_count) })?;
-        Ok(Table { bytes, glyph_count })
+        let lent = raw::Table { bytes, glyph_count };
+        Refusal::of(lent.check())?;
+        Ok(Table { lent })
     }
 
     /// The lent bytes.
     pub fn bytes(&self) -> &'a [u8] {
-        self.bytes
-    }
-
-    /// Pointer, length and glyph count, as every call takes a table.
-    pub(crate) fn lent(&self) -> (*const u8, usize, u32) {
-        (self.bytes.as_ptr(), self.bytes.len(), self.glyph_count)
+        self.lent.bytes
     }
 
     /// The component glyphs of a type 0 action, as that very stretch of the table, two bytes each; empty where there is
     /// none.
     pub fn components(&self, direction: Direction, glyph: u16, number: u16) -> &'a [u8] {
-        let (table, length, glyphs) = self.lent();
-        // SAFETY: pointer and length are of one slice, which the call only reads.
-        let at = unsafe { raw::just_table_components(table, length, glyphs, direction as u32, glyph, number) };
-        &self.bytes[at.offset..at.offset + at.length]
+        let at = self.lent.components(direction as u32, glyph, number);
+        &self.lent.bytes[at.offset..at.offset + at.length]
     }
 
     /// How many bytes the table's sheet has.
     pub fn sheet_length(&self) -> Result<usize, Refusal> {
-        let (table, length, glyphs) = self.lent();
-        // SAFETY: pointer and length are of one slice, which the call only reads.
-        let answer = unsafe { raw::just_table_sheet_length(table, length, glyphs) };
-        Refusal::of(answer.refusal).map(|()| answer.length as usize)
+        Refusal::or(self.lent.sheet_length()).map(|length| length as usize)
     }
 
     /// The table's sheet.
@@ -89,46 +78,16 @@ impl<'a> Table<'a> {
     /// # Ok::<(), Refusal>(())
     /// ```
     pub fn write_sheet_into(&self, room: &mut [u8]) -> Result<usize, Refusal> {
-        let (table, length, glyphs) = self.lent();
-        // SAFETY: each pointer and length are of one slice; the table is only read, and the room, which is lent to be
-        // written, does not overlap it.
-        let answer = unsafe { raw::just_write_sheet(table, length, glyphs, room.as_mut_ptr(), room.len()) };
-        Refusal::of(answer.refusal).map(|()| answer.length as usize)
+        Refusal::or(self.lent.write_sheet(room)).map(|length| length as usize)
     }
 }
 
-impl Meaning for Table<'_> {
-    fn glyph_count(&self) -> u32 {
-        self.glyph_count
+impl Accepted for Table<'_> {
+    fn count(&self) -> u32 {
+        self.lent.glyph_count
     }
 
-    fn sizes(&self, direction: Direction) -> Option<Sizes> {
-        let (table, length, glyphs) = self.lent();
-        // SAFETY: pointer and length are of one slice, which the call only reads.
-        unsafe { raw::just_table_sizes(table, length, glyphs, direction as u32) }.part()
-    }
-
-    fn class(&self, direction: Direction, glyph: u16) -> Option<u8> {
-        let (table, length, glyphs) = self.lent();
-        // SAFETY: pointer and length are of one slice, which the call only reads.
-        unsafe { raw::just_table_class(table, length, glyphs, direction as u32, glyph) }.part()
-    }
-
-    fn cell(&self, direction: Direction, row: u16, class: u16) -> Option<Entry> {
-        let (table, length, glyphs) = self.lent();
-        // SAFETY: pointer and length are of one slice, which the call only reads.
-        unsafe { raw::just_table_cell(table, length, glyphs, direction as u32, row, class) }.part()
-    }
-
-    fn record(&self, direction: Direction, glyph: u16, class: u8) -> Option<Pair> {
-        let (table, length, glyphs) = self.lent();
-        // SAFETY: pointer and length are of one slice, which the call only reads.
-        unsafe { raw::just_table_record(table, length, glyphs, direction as u32, glyph, class) }.part()
-    }
-
-    fn action(&self, direction: Direction, glyph: u16, number: u16) -> Option<Action> {
-        let (table, length, glyphs) = self.lent();
-        // SAFETY: pointer and length are of one slice, which the call only reads.
-        unsafe { raw::just_table_action(table, length, glyphs, direction as u32, glyph, number) }.part()
+    fn asked(&self) -> impl Asked {
+        self.lent
     }
 }

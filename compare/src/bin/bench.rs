@@ -2,11 +2,9 @@
 //! times and ratios (the library's time over the second program's, medians of several rounds), and the library's time for
 //! each byte of table and sheet. With words, only cases whose name has them are run.
 
-use compare::library::line::{justify, Lent, Told, Verdict};
-use compare::library::{self, write, Asked};
-use compare::{cases, clock, drafts};
+use compare::{cases, clock, drafts, library, lines};
+use just_raw::{Lent, Sheet, Table, Verdict};
 use reference::examples::{complex, simple};
-use reference::generate::LineCase;
 use reference::{Direction, Parts};
 use std::hint::black_box;
 
@@ -75,7 +73,7 @@ fn print_group(title: &str, cases: Vec<Case>) {
 
 fn check(name: &str, table: &[u8], n: u32) -> Case {
     let [ours, theirs] = [table.to_vec(), table.to_vec()];
-    let library = move || library::check_table(black_box(&ours), n);
+    let library = move || Table { bytes: black_box(&ours), glyph_count: n }.check();
     let second = move || reference::check_table(black_box(&theirs), n);
     Case::new(format!("check_table: {name}"), table.len(), library, second)
 }
@@ -84,21 +82,21 @@ fn write(name: &str, table: &[u8], n: u32) -> Case {
     let [ours, theirs] = [table.to_vec(), table.to_vec()];
     let length = reference::sheet_length(table, n).expect("an accepted table");
     let mut room = vec![0; length];
-    let library = move || write::write_sheet(black_box(&ours), n, black_box(&mut room));
+    let library = move || Table { bytes: black_box(&ours), glyph_count: n }.write_sheet(black_box(&mut room));
     let second = move || reference::write_sheet(black_box(&theirs), n);
     Case::new(format!("write_sheet: {name}, sheet of {length} bytes"), table.len() + length, library, second)
 }
 
 fn length(name: &str, table: &[u8], n: u32) -> Case {
     let [ours, theirs] = [table.to_vec(), table.to_vec()];
-    let library = move || write::sheet_length(black_box(&ours), n);
+    let library = move || Table { bytes: black_box(&ours), glyph_count: n }.sheet_length();
     let second = move || reference::sheet_length(black_box(&theirs), n);
     Case::new(format!("sheet_length: {name}"), table.len(), library, second)
 }
 
 fn sheet(name: &str, sheet: &[u8]) -> Case {
     let [ours, theirs] = [sheet.to_vec(), sheet.to_vec()];
-    let library = move || library::check_sheet(black_box(&ours));
+    let library = move || Sheet { bytes: black_box(&ours) }.check();
     let second = move || reference::check_sheet(black_box(&theirs));
     Case::new(format!("check_sheet: {name}"), sheet.len(), library, second)
 }
@@ -106,7 +104,7 @@ fn sheet(name: &str, sheet: &[u8]) -> Case {
 /// A record of a sheet: the sheet is judged first, on both sides.
 fn record(name: &str, sheet: &[u8], glyph: u16) -> Case {
     let [ours, theirs] = [sheet.to_vec(), sheet.to_vec()];
-    let library = move || Asked::Sheet(black_box(&ours)).record(Direction::Horizontal, glyph, 0);
+    let library = move || library::record(Sheet { bytes: black_box(&ours) }, Direction::Horizontal, glyph, 0);
     let second = move || {
         let read = reference::read_sheet(black_box(&theirs));
         read.map(|read| read.width_record(Direction::Horizontal, glyph.into(), 0))
@@ -120,30 +118,16 @@ fn line(name: &str, table: Vec<u8>, n: u32, count: usize) -> Case {
     let ours = cases::line(table, n, count);
     let theirs = ours.clone();
     assert!(ours.justify().is_ok(), "{name} is refused");
-    let advances: Vec<i32> = ours.advances.iter().map(|&advance| advance as i32).collect();
-    let verdict = Verdict { place: 0, action: 0, substitutes: false };
+    let advances = lines::advances(&ours);
     let (mut classes, mut before, mut after) = (vec![0; count], vec![0; count], vec![0; count]);
-    let mut verdicts = vec![verdict; ours.room];
+    let mut verdicts = vec![Verdict::default(); ours.room];
     let library = move || {
         let lent = Lent { classes: &mut classes, before: &mut before, after: &mut after, verdicts: &mut verdicts };
-        justify(&told(black_box(&ours), &advances), lent)
+        let ours = black_box(&ours);
+        lines::table(ours).justify(&lines::line(ours, &advances), lent)
     };
     let second = move || black_box(&theirs).justify();
     Case::new(format!("justify: {name}, {count} glyphs"), bytes, library, second)
-}
-
-fn told<'a>(case: &'a LineCase, advances: &'a [i32]) -> Told<'a> {
-    Told {
-        table: &case.table,
-        glyph_count: case.n,
-        direction: 0,
-        starts: case.starts,
-        ends: case.ends,
-        size: case.size as u32,
-        glyphs: &case.glyphs,
-        advances,
-        target: case.target as i32,
-    }
 }
 
 fn sheet_by_reference(table: &[u8], n: u32) -> Vec<u8> {

@@ -112,7 +112,11 @@ fn put_machine(out: &mut String, machine: &Machine) {
 }
 
 fn run_text(run: &Run) -> String {
-    if run.first == run.last { run.first.to_string() } else { format!("{}-{}", run.first, run.last) }
+    if run.first == run.last {
+        run.first.to_string()
+    } else {
+        format!("{}-{}", run.first, run.last)
+    }
 }
 
 /// The glyphs that have the cluster or the list of a number.

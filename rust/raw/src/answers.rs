@@ -1,0 +1,97 @@
+//! What the calls answer. The header's structs for answers all begin with a refusal, and those for parts go on with
+//! `found`; here both are said once, for whatever follows.
+
+/// The number of a refusal and zeros, or 0 and what is said.
+#[derive(Clone, Copy, Debug, PartialEq, Eq)]
+#[repr(C)]
+pub struct Answer<T> {
+    pub refusal: u32,
+    pub said: T,
+}
+
+/// Whether there is such a part, and the part; zeros where there is none.
+#[derive(Clone, Copy, Debug, Default, PartialEq, Eq)]
+#[repr(C)]
+pub struct Found<T> {
+    pub found: bool,
+    pub part: T,
+}
+
+/// What is answered to who asks for a part.
+pub type Part<T> = Answer<Found<T>>;
+
+/// How many rows and classes a class machine has.
+#[derive(Clone, Copy, Debug, Default, PartialEq, Eq, Hash)]
+#[repr(C)]
+pub struct Sizes {
+    pub rows: u16,
+    pub classes: u16,
+}
+
+/// What a cell of the class machine holds.
+#[derive(Clone, Copy, Debug, Default, PartialEq, Eq, Hash)]
+#[repr(C)]
+pub struct Entry {
+    pub row: u16,
+    pub flags: u16,
+}
+
+/// By how much a side may grow and shrink, in ems (65,536 is one em), as sizes.
+#[derive(Clone, Copy, Debug, Default, PartialEq, Eq, Hash)]
+#[repr(C)]
+pub struct Limits {
+    pub grow: u32,
+    pub shrink: u32,
+}
+
+/// 0x1000 for unlimited, and the priority, 0 to 3.
+#[derive(Clone, Copy, Debug, Default, PartialEq, Eq, Hash)]
+#[repr(C)]
+pub struct Flags {
+    pub grow: u16,
+    pub shrink: u16,
+}
+
+/// A width record with its class.
+#[derive(Clone, Copy, Debug, Default, PartialEq, Eq, Hash)]
+#[repr(C)]
+pub struct Pair {
+    pub class: u32,
+    pub before: Limits,
+    pub after: Limits,
+    pub flags: Flags,
+}
+
+/// An action: its data is the first `size` bytes, zeros follow.
+#[derive(Clone, Copy, Debug, PartialEq, Eq, Hash)]
+#[repr(C)]
+pub struct Action {
+    pub class: u16,
+    pub kind: u16,
+    pub size: u32,
+    pub bytes: [u8; 76],
+}
+
+impl Default for Action {
+    fn default() -> Action {
+        Action { class: 0, kind: 0, size: 0, bytes: [0; 76] }
+    }
+}
+
+/// A stretch of a table: the offset of its first byte, and its length in bytes.
+#[derive(Clone, Copy, Debug, Default, PartialEq, Eq, Hash)]
+#[repr(C)]
+pub struct Stretch {
+    pub offset: usize,
+    pub length: usize,
+}
+
+/// In the header `found` and sizes have no struct of their own; the layout is the same, for no part is aligned more strictly
+/// than a refusal.
+const _: () = {
+    assert!(size_of::<Part<Sizes>>() == 12);
+    assert!(size_of::<Part<u8>>() == 8);
+    assert!(size_of::<Part<Entry>>() == 12);
+    assert!(size_of::<Part<Pair>>() == 32);
+    assert!(size_of::<Part<Action>>() == 92);
+};
