@@ -1,6 +1,6 @@
 -- Laws of what a lookup's values lead to, for the proofs of the functions and for callers.
-use Prim.Native.Nat.{ℕ, zero, suc, _+_, _-_, _*_, _≤_, _<_, _^_, min}
-use mathlib.Core.Path.{_≡_, refl, sym, ap, ap₂, _∙_}
+use Prim.Native.Nat.{ℕ, zero, suc, _+_, _-_, _*_, _/_, _%_, _≤_, _<_, _^_, min}
+use mathlib.Core.Path.{_≡_, refl, sym, ap, ap₂, subst, _∙_}
 use mathlib.Core.List.{List}
 use mathlib.Core.Bool.{Bool, true, false, cond}
 use native.Mathlib.Decide.{ℕ-discrete}
@@ -13,7 +13,7 @@ use Rattle.fields.specs.declared.Fault.{Fault}
 use Rattle.fields.specs.declared.Fault.the-variants.{Clear, Bad}
 use Rattle.fields.specs.Field.{u16At}
 use Rattle.fields.specs.Faults.{_then_}
-use Rattle.fields.specs.Laws.{then-assoc}
+use Rattle.fields.specs.Laws.{then-assoc, then-clear, then-go}
 use Rattle.fields.specs.Walk.{walk, each, walk-stop, walk-next, walk-none}
 use Rattle.lookup.specs.declared.Found.{Found}
 use Rattle.lookup.specs.declared.Found.the-variants.{Value, Nothing}
@@ -23,35 +23,145 @@ use Rattle.runs.specs.Runs.{placeOf, Follows}
 use Rattle.lookup.specs.Find.{valueOf}
 use Rattle.actions.specs.declared.Spot.{Spot}
 use Rattle.actions.specs.declared.Spot.the-variants.{At, Nowhere}
+use Rattle.values.specs.declared.Split.{Split}
 use Rattle.values.specs.declared.Kind.{Kind}
 use Rattle.values.specs.declared.Kind.the-variants.{Lists}
-use Rattle.values.specs.Values.{spotOf, itemFault, spotFault, placeFault, glyphFault, Judged}
+use Rattle.values.specs.Values.{spotOf, itemFault, spotFault, placeFault, blockPlace, blockFault, glyphFault, Marked, Told, Splits}
 
--- a position that was found without fault may be marked
-pub mark : {t : List ℕ} {glyphs : ℕ} {kind : Kind} {judged : List ℕ} (at : ℕ) → Judged t glyphs kind judged → itemFault t glyphs kind at ≡ Clear
-    → Judged t glyphs kind (set judged at 1)
-mark {t} {glyphs} {kind} {judged} at j clear = record { clear = λ p e. go p e (ℕ-discrete p at) }
+-- what was found without fault may be marked
+pub mark : {one : ℕ → Fault} {marks : List ℕ} (at : ℕ) → Marked one marks → one at ≡ Clear → Marked one (set marks at 1)
+mark {one} {marks} at m clear = record { clear = λ i e. go i e (ℕ-discrete i at) }
   where
-    go : (p : ℕ) → getD (set judged at 1) p 0 ≡ 1 → Dec (p ≡ at) → itemFault t glyphs kind p ≡ Clear
-    go p e (yes q) = ap (itemFault t glyphs kind) q ∙ clear
-    go p e (no n) = j .clear p (sym (getD-set-other judged at p 1 0 n) ∙ e)
+    go : (i : ℕ) → getD (set marks at 1) i 0 ≡ 1 → Dec (i ≡ at) → one i ≡ Clear
+    go i e (yes q) = ap one q ∙ clear
+    go i e (no n) = m .clear i (sym (getD-set-other marks at i 1 0 n) ∙ e)
 
 -- what is judged of a value, from what its steps found
-pub place-of : (t : List ℕ) (glyphs : ℕ) (kind : Kind) (base p value : ℕ) {fault : Fault} {spot : Spot}
-    → fault ≡ spotFault t glyphs kind spot → spot ≡ spotOf kind base (Value value) → value ≡ u16At t p
-    → fault ≡ placeFault t glyphs kind base p
+pub place-of : (t : List ℕ) (glyphs : ℕ) (kind : Kind) (base p : ℕ) {fault : Fault} {spot : Spot}
+    → fault ≡ spotFault t glyphs kind spot → spot ≡ spotOf kind base (Value (u16At t p)) → fault ≡ placeFault t glyphs kind base p
 unfolding placeFault
-place-of t glyphs kind base p value {fault} {spot} f s v =
-    f ∙ ap (spotFault t glyphs kind) (s ∙ ap (λ (k : ℕ). spotOf kind base (Value k)) v)
+place-of t glyphs kind base p f s = f ∙ ap (spotFault t glyphs kind) s
 
--- no position is marked at first
-pub none-judged : (t : List ℕ) (glyphs : ℕ) (kind : Kind) (n : ℕ) → Judged t glyphs kind (replicate n 0)
-none-judged t glyphs kind n = record { clear = λ p e. let z : _≡_ {A = ℕ} 0 1 = sym (getD-replicate n p) ∙ e in absurd (omega arith) }
+-- what a value leads to has no fault where that is marked, and where it leads nowhere
+pub told-at : (t : List ℕ) (kind : Kind) (base p : ℕ) (judged : List ℕ) (at : ℕ) → At at ≡ spotOf kind base (Value (u16At t p)) → getD judged at 0 ≡ 1
+    → Told t kind base judged p
+told-at t kind base p judged at s e = record { clear = λ glyphs m. sym (place-of t glyphs kind base p (sym (m .clear at e)) s) }
+
+pub told-nowhere : (t : List ℕ) (kind : Kind) (base p : ℕ) (judged : List ℕ) → Nowhere ≡ spotOf kind base (Value (u16At t p)) → Told t kind base judged p
+told-nowhere t kind base p judged s = record { clear = λ glyphs m. sym (place-of t glyphs kind base p refl s) }
+
+-- one value more of which the marks tell
+pub told-next : {t : List ℕ} {kind : Kind} {base : ℕ} {judged : List ℕ} (place count left p : ℕ) → left ≤ count → p ≡ place + 2 * (count - left)
+    → ((i : ℕ) → i < count - left → Told t kind base judged (place + 2 * i)) → Told t kind base judged p
+    → (i : ℕ) → i < count - (left - 1) → Told t kind base judged (place + 2 * i)
+told-next {t} {kind} {base} {judged} place count left p fewer here before told i l = go (ℕ-discrete i (count - left))
   where
-    getD-replicate : (m p : ℕ) → getD (replicate {A = ℕ} m 0) p 0 ≡ 0
-    getD-replicate zero p = refl
+    go : Dec (i ≡ count - left) → Told t kind base judged (place + 2 * i)
+    go (yes q) = let e : p ≡ place + 2 * i = omega arith in subst (Told t kind base judged) e told
+    go (no n) = before i (omega arith)
+
+-- what is judged of a block, from what was found of its values
+pub block-of : (t : List ℕ) (glyphs : ℕ) (kind : Kind) (base block place : ℕ) {fault : Fault}
+    → fault ≡ each (placeFault t glyphs kind base) (λ q. q + 2) 16 place → place ≡ blockPlace block
+    → fault ≡ blockFault t glyphs kind base block
+unfolding blockFault
+block-of t glyphs kind base block place f e = f ∙ ap (λ (p : ℕ). each (placeFault t glyphs kind base) (λ q. q + 2) 16 p) e
+
+-- nothing is marked at first
+pub none-marked : (one : ℕ → Fault) (n : ℕ) → Marked one (replicate n 0)
+none-marked one n = record { clear = λ i e. let z : _≡_ {A = ℕ} 0 1 = sym (getD-replicate n i) ∙ e in absurd (omega arith) }
+  where
+    getD-replicate : (m i : ℕ) → getD (replicate {A = ℕ} m 0) i 0 ≡ 0
+    getD-replicate zero i = refl
     getD-replicate (suc m) zero = refl
-    getD-replicate (suc m) (suc p) = getD-replicate m p
+    getD-replicate (suc m) (suc i) = getD-replicate m i
+
+-- values that follow each other are judged as two stretches
+each-both : (one : ℕ → Fault) (n m p : ℕ) → each one (λ q. q + 2) (n + m) p ≡ (each one (λ q. q + 2) n p then each one (λ q. q + 2) m (p + 2 * n))
+unfolding walk _then_
+each-both one zero m p =
+    let count : 0 + m ≡ m = omega arith in
+    let e : p ≡ p + 2 * 0 = omega arith in
+    ap₂ (λ (k q : ℕ). each one (λ q. q + 2) k q) count e
+each-both one (suc n) m p =
+    let count : suc n + m ≡ suc (n + m) = omega arith in
+    let end : p + 2 + 2 * n ≡ p + 2 * suc n = omega arith in
+    ap (λ (k : ℕ). each one (λ q. q + 2) k p) count
+    ∙ ap (λ (f : Fault). one p then f) (each-both one n m (p + 2))
+    ∙ sym (then-assoc (one p) (each one (λ q. q + 2) n (p + 2)) (each one (λ q. q + 2) m (p + 2 + 2 * n)))
+    ∙ ap (λ (k : ℕ). each one (λ q. q + 2) (suc n) p then each one (λ q. q + 2) m k) end
+
+-- values that each lead to no fault
+each-clear : (one : ℕ → Fault) (n p : ℕ) → ((i : ℕ) → i < n → one (p + 2 * i) ≡ Clear) → each one (λ q. q + 2) n p ≡ Clear
+unfolding walk
+each-clear one zero p clear = refl
+each-clear one (suc n) p clear = then-go _ (first (clear 0 (omega arith))) ∙ each-clear one n (p + 2) (λ i l. next i (clear (suc i) (omega arith)))
+  where
+    first : one (p + 2 * 0) ≡ Clear → one p ≡ Clear
+    first e = let q : p ≡ p + 2 * 0 = omega arith in ap one q ∙ e
+
+    next : (i : ℕ) → one (p + 2 * suc i) ≡ Clear → one (p + 2 + 2 * i) ≡ Clear
+    next i e = let q : p + 2 + 2 * i ≡ p + 2 * suc i = omega arith in ap one q ∙ e
+
+-- values of which the marks tell are passed: `rest` are left
+pub each-told : (t : List ℕ) (glyphs : ℕ) (kind : Kind) (base : ℕ) (judged : List ℕ) (left p rest : ℕ) → Marked (itemFault t glyphs kind) judged
+    → (rest ≤ left) × ((i : ℕ) → i < left - rest → Told t kind base judged (p + 2 * i))
+    → each (placeFault t glyphs kind base) (λ q. q + 2) left p ≡ each (placeFault t glyphs kind base) (λ q. q + 2) rest (p + 2 * (left - rest))
+each-told t glyphs kind base judged left p rest m told =
+    let fewer : rest ≤ left = told .0 in
+    let count : left ≡ left - rest + rest = omega arith in
+    ap (λ (k : ℕ). each (placeFault t glyphs kind base) (λ q. q + 2) k p) count
+    ∙ each-both (placeFault t glyphs kind base) (left - rest) rest p
+    ∙ then-go _ (each-clear (placeFault t glyphs kind base) (left - rest) p (λ i l. told .1 i l .clear glyphs m))
+
+-- the values of a run: one, or as many as an array has
+pub one-value : (one : ℕ → Fault) (array : Bool) (n p : ℕ) → array ≡ false → one p ≡ each one (λ q. q + 2) (cond array n 1) p
+unfolding walk
+one-value one array n p e = sym (ap (λ (b : Bool). each one (λ q. q + 2) (cond b n 1) p) e ∙ then-clear (one p))
+
+pub array-values : (one : ℕ → Fault) (array : Bool) (count n p : ℕ) → array ≡ true → count ≡ n
+    → each one (λ q. q + 2) count p ≡ each one (λ q. q + 2) (cond array n 1) p
+array-values one array count n p e q = ap (λ (k : ℕ). each one (λ q. q + 2) k p) q ∙ sym (ap (λ (b : Bool). each one (λ q. q + 2) (cond b n 1) p) e)
+
+each-first : (one : ℕ → Fault) (n p : ℕ) → each one (λ q. q + 2) (suc n) p ≡ (one p then each one (λ q. q + 2) n (p + 2))
+unfolding walk
+each-first one n p = refl
+
+block-next : (block : ℕ) → blockPlace (block + 2) ≡ blockPlace block + 2 * 16
+unfolding blockPlace
+block-next block = omega arith
+
+module _ (t : List ℕ) (glyphs : ℕ) (kind : Kind) (base : ℕ) where
+  -- blocks that follow each other are judged by their values
+  blocks-places : (n block : ℕ)
+      → each (blockFault t glyphs kind base) (λ b. b + 2) n block ≡ each (placeFault t glyphs kind base) (λ q. q + 2) (16 * n) (blockPlace block)
+  unfolding blockFault
+  blocks-places zero block =
+      walk-none (λ b _. blockFault t glyphs kind base b) (λ b. b + 2) (λ b. 0) 0 block 0 (omega arith)
+      ∙ sym (walk-none (λ q _. placeFault t glyphs kind base q) (λ q. q + 2) (λ q. 0) (16 * 0) (blockPlace block) 0 (omega arith))
+  blocks-places (suc n) block =
+      let count : 16 + 16 * n ≡ 16 * suc n = omega arith in
+      each-first (blockFault t glyphs kind base) n block
+      ∙ ap (λ (f : Fault). blockFault t glyphs kind base block then f) (blocks-places n (block + 2))
+      ∙ ap (λ (q : ℕ). blockFault t glyphs kind base block then each (placeFault t glyphs kind base) (λ q. q + 2) (16 * n) q) (block-next block)
+      ∙ sym (each-both (placeFault t glyphs kind base) 16 (16 * n) (blockPlace block))
+      ∙ ap (λ (k : ℕ). each (placeFault t glyphs kind base) (λ q. q + 2) k (blockPlace block)) count
+
+  -- values are judged as those before the first block, the blocks, and the rest
+  pub by-blocks : (place count : ℕ) (s : Split) → Splits place count s
+      → each (placeFault t glyphs kind base) (λ q. q + 2) count place
+      ≡ (each (placeFault t glyphs kind base) (λ q. q + 2) (s .front) place
+      then (each (blockFault t glyphs kind base) (λ b. b + 2) (s .whole) (s .first)
+      then each (placeFault t glyphs kind base) (λ q. q + 2) (s .rest) (s .after)))
+  by-blocks place count s w =
+      let there : place + 2 * s .front + 2 * (16 * s .whole) ≡ s .after = omega (arith, w .ends) in
+      ap (λ (k : ℕ). each (placeFault t glyphs kind base) (λ q. q + 2) k place) (sym (w .all))
+      ∙ each-both (placeFault t glyphs kind base) (s .front) (16 * s .whole + s .rest) place
+      ∙ ap (λ (f : Fault). each (placeFault t glyphs kind base) (λ q. q + 2) (s .front) place then f)
+      (each-both (placeFault t glyphs kind base) (16 * s .whole) (s .rest) (place + 2 * s .front)
+      ∙ ap₂ _then_
+      (ap (λ (q : ℕ). each (placeFault t glyphs kind base) (λ q. q + 2) (16 * s .whole) q) (sym (w .begins)) ∙ sym (blocks-places (s .whole) (s .first)))
+      (ap (λ (q : ℕ). each (placeFault t glyphs kind base) (λ q. q + 2) (s .rest) q) there))
 
 -- where an action value leads
 pub list-nowhere : (base value : ℕ) → value ≡ 0 → spotOf Lists base (Value value) ≡ Nowhere

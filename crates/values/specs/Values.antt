@@ -1,6 +1,6 @@
 -- What the values of a direction's two lookups lead to (document 01, "The table"): a width value to a cluster, an action value to an action list; the first
 -- fault of the lookup and of all that its values lead to, glyph by glyph; and what each glyph has.
-use Prim.Native.Nat.{ℕ, _+_}
+use Prim.Native.Nat.{ℕ, _+_, _*_, _/_, _%_, _<_, _^_}
 use mathlib.Core.Bool.{cond}
 use mathlib.Core.Path.{_≡_}
 use mathlib.Core.List.{List, []}
@@ -23,6 +23,7 @@ use Rattle.actions.specs.declared.Spot.{Spot}
 use Rattle.actions.specs.declared.Spot.the-variants.{At, Nowhere}
 use Rattle.actions.specs.Faults.{listFault}
 use Rattle.actions.specs.Actions.{listAt}
+use Rattle.values.specs.declared.Split.{Split}
 use Rattle.values.specs.declared.Kind.{Kind}
 use Rattle.values.specs.declared.Kind.the-variants.{Clusters, Lists}
 
@@ -45,6 +46,21 @@ spotFault t glyphs kind Nowhere = Clear
 unfoldable pub placeFault : List ℕ → ℕ → Kind → ℕ → ℕ → Fault
 placeFault t glyphs kind base p = spotFault t glyphs kind (spotOf kind base (Value (u16At t p)))
 
+-- where a block stands, which is 16 values: blocks of even number follow each other from position 0 on, blocks of odd number from position 1 on
+unfoldable pub blockPlace : ℕ → ℕ
+blockPlace block = block / 2 * 32 + block % 2
+
+-- `count` values that stand from `place` on, as values before the first block, whole blocks, and the rest
+pub record Splits (place count : ℕ) (s : Split) : Type 0 where
+  pub begins : blockPlace (s .first) ≡ place + 2 * s .front
+  pub all : s .front + (16 * s .whole + s .rest) ≡ count
+  pub ends : s .after ≡ place + 2 * (s .front + 16 * s .whole)
+  pub near : s .first + 2 * s .whole < 2 ^ 42
+
+-- the first fault of what a block's values lead to
+unfoldable pub blockFault : List ℕ → ℕ → Kind → ℕ → ℕ → Fault
+blockFault t glyphs kind base block = each (placeFault t glyphs kind base) (λ p. p + 2) 16 (blockPlace block)
+
 -- the first fault of what a glyph's value leads to; the lookup stands at `at`
 unfoldable pub glyphFault : List ℕ → ℕ → Kind → ℕ → ℕ → ℕ → Fault
 glyphFault t glyphs kind at base glyph = spotFault t glyphs kind (spotOf kind base (valueOf t glyphs at glyph))
@@ -62,9 +78,13 @@ abbrev pub listHere : List ℕ → Spot → List Action
 listHere t (At p) = listAt t p
 listHere t Nowhere = []
 
--- positions marked in `judged` hold clusters or lists without fault
-pub record Judged (t : List ℕ) (glyphs : ℕ) (kind : Kind) (judged : List ℕ) : Type 0 where
-  pub clear : (p : ℕ) → getD judged p 0 ≡ 1 → itemFault t glyphs kind p ≡ Clear
+-- what is marked has no fault
+pub record Marked (one : ℕ → Fault) (marks : List ℕ) : Type 0 where
+  pub clear : (i : ℕ) → getD marks i 0 ≡ 1 → one i ≡ Clear
+
+-- the marks in `judged` tell that what the value at `place` leads to has no fault
+pub record Told (t : List ℕ) (kind : Kind) (base : ℕ) (judged : List ℕ) (place : ℕ) : Type 0 where
+  pub clear : (glyphs : ℕ) → Marked (itemFault t glyphs kind) judged → placeFault t glyphs kind base place ≡ Clear
 
 -- a glyph's width records and a glyph's actions
 unfoldable pub clusterOf : List ℕ → ℕ → ℕ → ℕ → ℕ → List Pair

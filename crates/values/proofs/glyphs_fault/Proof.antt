@@ -1,26 +1,27 @@
-use mathlib.Core.Path.{_≡_, refl, sym, _∙_}
-use Rattle.values.proofs.Laws.{run-end, run-judged, all-left}
-use Rattle.values.specs.Values.{glyphFault, Judged}
-use denote.Ref.{now}
-use Prim.Native.Nat.{_+_, _-_}
-use Rattle.fields.specs.Walk.{each, walk-none}
-use Rattle.fields.specs.Laws.{then-stop, then-go}
-use Rattle.lookup.specs.Pass.{Serves}
-use native.Mathlib.Omega.{arith}
-use lib.ListN.{length}
 use borrow.Author.Needs.{needs}
+use lib.ListN.{length}
+use native.Mathlib.Omega.{arith}
+use Rattle.lookup.specs.Pass.{Serves}
+use Rattle.fields.specs.Laws.{then-stop, then-go}
+use Rattle.fields.specs.Walk.{each, walk-none}
+use Prim.Native.Nat.{_+_, _-_}
+use denote.Ref.{now}
+use Rattle.values.specs.Values.{itemFault, blockFault, glyphFault, Marked}
+use Rattle.values.proofs.Laws.{run-end, run-judged, all-left}
+use mathlib.Core.Path.{_≡_, refl, sym, _∙_}
 use Rattle.values.proofs.glyphs_fault.Statement.{statement}
 use Rattle.values.proofs.glyphs_fault.Tie as tie
 
 abbrev Inv-loop : tie.InvT-loop
-Inv-loop table glyphs kind at base judged₀ format cursor₀ glyph₀ judged cursor glyph =
+Inv-loop table glyphs kind at base judged₀ blocks₀ format cursor₀ glyph₀ judged blocks cursor glyph =
     (each (glyphFault table glyphs kind at base) (λ g. g + 1) glyphs 0 ≡ each (glyphFault table glyphs kind at base) (λ g. g + 1) (glyphs - glyph) glyph)
     × Serves table at glyph cursor
-    × Judged table glyphs kind judged
+    × (Marked (itemFault table glyphs kind) judged × Marked (blockFault table glyphs kind base) blocks)
     × (length judged ≡ length judged₀)
+    × (length blocks ≡ length blocks₀)
 
 abbrev μ-loop : tie.MeasureT-loop
-μ-loop table glyphs kind at base judged₀ format cursor₀ glyph₀ judged cursor glyph = glyphs - glyph
+μ-loop table glyphs kind at base judged₀ blocks₀ format cursor₀ glyph₀ judged blocks cursor glyph = glyphs - glyph
 
 u16-at-requires : tie.Need-u16-at-requires Inv-loop μ-loop
 u16-at-requires c κs = search needs
@@ -29,66 +30,72 @@ begin-requires : tie.Need-begin-requires Inv-loop μ-loop
 begin-requires c κs = search needs
 
 loop-holds : tie.Need-loop-holds Inv-loop μ-loop
-loop-holds c = (all-left _ _, c .begin .ensures _ (c .before .before .before .before .pre .0 .1 .1 .1), c .before .before .before .before .pre .1, refl)
+loop-holds c = (all-left _ _, c .begin .ensures _ (c .before .before .before .before .before .pre .0 .1 .1 .1), c .before .before .before .before .before .pre .1, refl, refl)
 
 next-run-requires : tie.Need-next-run-requires Inv-loop μ-loop
-next-run-requires c κs = (c .before .before .before .before .before .before .pre .0 .0, (omega (arith, c .loop-test .taken, c .before .before .before .before .before .before .pre .0 .1 .1 .0), (c .before .before .before .u16-at .ensures .0, c .before .loop .inv .1)))
+next-run-requires c κs = (c .before .before .before .before .before .before .before .pre .0 .0, (omega (arith, c .loop-test .taken, c .before .before .before .before .before .before .before .pre .0 .1 .1 .0), (c .before .before .before .u16-at .ensures .0, c .before .loop .inv .1)))
 
 same-length : tie.Need-same-length Inv-loop μ-loop
 same-length c = search needs
 
+same-length-2 : tie.Need-same-length-2 Inv-loop μ-loop
+same-length-2 c = search needs
+
 returns : tie.Need-returns Inv-loop μ-loop
 returns c =
-    let a = c .before .before .before .before .before .before .before .before .args in
-    sym (c .before .before .before .loop .inv .0 ∙ run-end (now (a .table)) (a .glyphs) (a .kind) (a .at) (a .base) (c .before .before .before .loop .glyph) _ (c .before .next-run .ensures) (c .before .before .before .before .before .before .before .before .pre .0 .1 .1 .0) (c .if1 .taken))
+    let a = c .before .before .before .before .before .before .before .before .before .before .args in
+    sym (c .before .before .before .before .loop .inv .0 ∙ run-end (now (a .table)) (a .glyphs) (a .kind) (a .at) (a .base) (c .before .before .before .before .loop .glyph) _ (c .before .before .next-run .ensures) (c .before .before .before .before .before .before .before .before .before .before .pre .0 .1 .1 .0) (c .if1 .taken))
 
-value-count-requires : tie.Need-value-count-requires Inv-loop μ-loop
-value-count-requires c κs = (c .before .next-run .ensures .more, c .if1 .left)
-
-places-fault-requires : tie.Need-places-fault-requires Inv-loop μ-loop
-places-fault-requires c κs =
-    ((c .before .before .before .before .before .before .before .before .before .before .pre .0 .1 .0, omega (arith, c .before .before .before .next-run .ensures .near, c .before .value-count .ensures .1, c .before .before .before .before .before .before .before .before .before .before .pre .0 .1 .1 .0)), c .before .before .before .before .before .loop .inv .2)
+run-fault-requires : tie.Need-run-fault-requires Inv-loop μ-loop
+run-fault-requires c κs =
+    let w = c .before .before .before .before .next-run .ensures in
+    ((c .before .before .before .before .before .before .before .before .before .before .before .before .pre .0 .1 .0, (c .before .before .before .before .before .before .before .before .before .before .before .before .pre .0 .1 .1 .0, (w .more, (c .before .before .if1 .left, w .near)))), c .before .before .before .before .before .before .loop .inv .2)
 
 enum-told : tie.Need-enum-told Inv-loop μ-loop
 enum-told c = search needs
 
-same-length-2 : tie.Need-same-length-2 Inv-loop μ-loop
-same-length-2 c = search needs
+same-length-3 : tie.Need-same-length-3 Inv-loop μ-loop
+same-length-3 c = search needs
+
+same-length-4 : tie.Need-same-length-4 Inv-loop μ-loop
+same-length-4 c = search needs
 
 returns-2 : tie.Need-returns-2 Inv-loop μ-loop
 returns-2 c =
-    let a = c .before .before .before .before .before .before .before .before .before .before .before .before .before .before .before .args in
-    let judged = rw (c .before .before .before .before .before .before .value-count .ensures .0) at (c .before .before .before .before .places-fault .ensures .0) in
+    let a = c .before .before .before .before .before .before .before .before .before .before .before .before .before .before .before .before .before .before .before .args in
     sym
-    (c .before .before .before .before .before .before .before .before .before .before .loop .inv .0
-    ∙ run-judged (now (a .table)) (a .glyphs) (a .kind) (a .at) (a .base) (c .before .before .before .before .before .before .before .before .before .before .loop .glyph) _ (c .before .before .before .before .before .before .before .before .next-run .ensures) (c .before .before .before .before .before .before .before .before .before .before .before .before .before .before .before .pre .0 .1 .1 .0) (c .before .before .before .before .before .before .before .if1 .left) _ judged
+    (c .before .before .before .before .before .before .before .before .before .before .before .before .before .loop .inv .0
+    ∙ run-judged (now (a .table)) (a .glyphs) (a .kind) (a .at) (a .base) (c .before .before .before .before .before .before .before .before .before .before .before .before .before .loop .glyph) _ (c .before .before .before .before .before .before .before .before .before .before .before .next-run .ensures) (c .before .before .before .before .before .before .before .before .before .before .before .before .before .before .before .before .before .before .before .pre .0 .1 .1 .0) (c .before .before .before .before .before .before .before .before .before .if1 .left) _ (c .before .before .before .before .before .before .run-fault .ensures .0)
     ∙ then-stop _ (c .enum-told .given .1))
 
 enum-told-2 : tie.Need-enum-told-2 Inv-loop μ-loop
 enum-told-2 c = search needs
 
 loop-less : tie.Need-loop-less Inv-loop μ-loop
-loop-less c = let w = c .before .before .before .before .before .before .before .before .before .next-run .ensures in omega (arith, w .begins, w .more)
+loop-less c = let w = c .before .before .before .before .before .before .before .before .before .before .before .before .next-run .ensures in omega (arith, w .begins, w .more)
 
 loop-again : tie.Need-loop-again Inv-loop μ-loop
 loop-again c =
-    let a = c .before .before .before .before .before .before .before .before .before .before .before .before .before .before .before .before .args in
-    let w = c .before .before .before .before .before .before .before .before .before .next-run .ensures in
-    let judged = rw (c .before .before .before .before .before .before .before .value-count .ensures .0) at (c .before .before .before .before .before .places-fault .ensures .0) in (
-      c .before .before .before .before .before .before .before .before .before .before .before .loop .inv .0
-          ∙ run-judged (now (a .table)) (a .glyphs) (a .kind) (a .at) (a .base) (c .before .before .before .before .before .before .before .before .before .before .before .loop .glyph) _ w (c .before .before .before .before .before .before .before .before .before .before .before .before .before .before .before .before .pre .0 .1 .1 .0) (c .before .before .before .before .before .before .before .before .if1 .left) _ judged
+    let a = c .before .before .before .before .before .before .before .before .before .before .before .before .before .before .before .before .before .before .before .before .args in
+    let w = c .before .before .before .before .before .before .before .before .before .before .before .before .next-run .ensures in (
+      c .before .before .before .before .before .before .before .before .before .before .before .before .before .before .loop .inv .0
+          ∙ run-judged (now (a .table)) (a .glyphs) (a .kind) (a .at) (a .base) (c .before .before .before .before .before .before .before .before .before .before .before .before .before .before .loop .glyph) _ w (c .before .before .before .before .before .before .before .before .before .before .before .before .before .before .before .before .before .before .before .before .pre .0 .1 .1 .0) (c .before .before .before .before .before .before .before .before .before .before .if1 .left) _ (c .before .before .before .before .before .before .before .run-fault .ensures .0)
           ∙ then-go _ (c .before .enum-told2 .given .1),
       w .serves,
-      c .before .before .before .before .before .places-fault .ensures .1,
+      c .before .before .before .before .before .before .before .run-fault .ensures .1,
+      search needs,
       search needs,
     )
 
-same-length-3 : tie.Need-same-length-3 Inv-loop μ-loop
-same-length-3 c = search needs
+same-length-5 : tie.Need-same-length-5 Inv-loop μ-loop
+same-length-5 c = search needs
+
+same-length-6 : tie.Need-same-length-6 Inv-loop μ-loop
+same-length-6 c = search needs
 
 returns-3 : tie.Need-returns-3 Inv-loop μ-loop
 returns-3 c =
-    let a = c .before .before .before .before .before .before .args in
+    let a = c .before .before .before .before .before .before .before .args in
     sym (c .before .loop .inv .0 ∙ walk-none (λ p _. glyphFault (now (a .table)) (a .glyphs) (a .kind) (a .at) (a .base) p) (λ g. g + 1) (λ p. 0) _ _ _ (omega arith))
 
 pub glyphs-fault-spec : {M : Type 1} → statement M
@@ -102,14 +109,16 @@ glyphs-fault-spec =
     loop-holds
     next-run-requires
     same-length
-    returns
-    value-count-requires
-    places-fault-requires
-    enum-told
     same-length-2
+    returns
+    run-fault-requires
+    enum-told
+    same-length-3
+    same-length-4
     returns-2
     enum-told-2
     loop-less
     loop-again
-    same-length-3
+    same-length-5
+    same-length-6
     returns-3)

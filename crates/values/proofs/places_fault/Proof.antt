@@ -1,102 +1,105 @@
-use mathlib.Core.Path.{_≡_, refl, sym, _∙_}
-use Rattle.values.proofs.Laws.{place-of}
-use Rattle.values.specs.Values.{placeFault, Judged}
 use denote.Ref.{now}
-use Prim.Native.Nat.{_+_, _*_, _<_, _^_}
-use Rattle.fields.specs.Walk.{each, walk-stop, walk-next, walk-none}
-use native.Mathlib.Omega.{arith}
-use lib.ListN.{length}
+use mathlib.Core.Path.{_∙_, sym}
+use Rattle.fields.specs.Laws.{then-stop, then-go}
+use Rattle.values.proofs.Laws.{by-blocks}
 use borrow.Author.Needs.{needs}
 use Rattle.values.proofs.places_fault.Statement.{statement}
 use Rattle.values.proofs.places_fault.Tie as tie
 
-abbrev Inv-loop : tie.InvT-loop
-Inv-loop table glyphs kind base place count judged₀ p₀ left₀ judged p left =
-    (each (placeFault table glyphs kind base) (λ q. q + 2) count place ≡ each (placeFault table glyphs kind base) (λ q. q + 2) left p)
-    × Judged table glyphs kind judged
-    × (length judged ≡ length judged₀)
-    × (p + 2 * left < 2 ^ 42)
+stretch-fault-requires : tie.Need-stretch-fault-requires
+stretch-fault-requires c κs = search needs
 
-abbrev μ-loop : tie.MeasureT-loop
-μ-loop table glyphs kind base place count judged₀ p₀ left₀ judged p left = left
-
-loop-holds : tie.Need-loop-holds Inv-loop μ-loop
-loop-holds c = (refl, c .before .before .pre .1, refl, c .before .before .pre .0 .1)
-
-u16-at-requires : tie.Need-u16-at-requires Inv-loop μ-loop
-u16-at-requires c κs = search needs
-
-cast-value : tie.Need-cast-value Inv-loop μ-loop
-cast-value c = search needs
-
-spot-of-requires : tie.Need-spot-of-requires Inv-loop μ-loop
-spot-of-requires c κs = search needs
-
-judge-spot-requires : tie.Need-judge-spot-requires Inv-loop μ-loop
-judge-spot-requires c κs = search needs
-
-enum-told : tie.Need-enum-told Inv-loop μ-loop
-enum-told c = search needs
-
-same-length : tie.Need-same-length Inv-loop μ-loop
+same-length : tie.Need-same-length
 same-length c = search needs
 
-returns : tie.Need-returns Inv-loop μ-loop
-returns c =
-    let a = c .before .before .before .before .before .before .before .before .before .before .before .before .args in
-    let f = place-of (now (a .table)) (a .glyphs) (a .kind) (a .base) (c .before .before .before .before .before .before .before .before .before .loop .p) _ (c .before .before .before .before .judge-spot .ensures .0) (c .before .before .before .before .before .before .spot-of .ensures .0) (c .before .before .before .before .before .before .before .u16-at .ensures .0) in (
-      f ∙ sym (c .before .before .before .before .before .before .before .before .before .loop .inv .0 ∙ walk-stop (λ q _. placeFault (now (a .table)) (a .glyphs) (a .kind) (a .base) q) (λ q. q + 2) (λ q. 0) _ _ _ (c .before .before .before .before .before .before .before .before .loop-test .taken) (sym f ∙ c .enum-told .given .1)),
-      c .before .before .before .before .judge-spot .ensures .1,
-    )
+returns : tie.Need-returns
+returns c = search needs
 
-enum-told-2 : tie.Need-enum-told-2 Inv-loop μ-loop
-enum-told-2 c = search needs
+split-of-requires : tie.Need-split-of-requires
+split-of-requires c κs = search needs
 
-add-p : tie.Need-add-p Inv-loop μ-loop
-add-p c = search needs
+stretch-fault-requires-2 : tie.Need-stretch-fault-requires-2
+stretch-fault-requires-2 c κs = search needs
 
-sub-left : tie.Need-sub-left Inv-loop μ-loop
-sub-left c = search needs
+enum-told : tie.Need-enum-told
+enum-told c = search needs
 
-loop-less : tie.Need-loop-less Inv-loop μ-loop
-loop-less c = search needs
-
-loop-again : tie.Need-loop-again Inv-loop μ-loop
-loop-again c =
-    let a = c .before .before .before .before .before .before .before .before .before .before .before .before .args in
-    let f = place-of (now (a .table)) (a .glyphs) (a .kind) (a .base) (c .before .before .before .before .before .before .before .before .before .loop .p) _ (c .before .before .before .before .judge-spot .ensures .0) (c .before .before .before .before .before .before .spot-of .ensures .0) (c .before .before .before .before .before .before .before .u16-at .ensures .0) in (
-      c .before .before .before .before .before .before .before .before .before .loop .inv .0 ∙ walk-next (λ q _. placeFault (now (a .table)) (a .glyphs) (a .kind) (a .base) q) (λ q. q + 2) (λ q. 0) _ _ _ _ _ (c .before .before .before .before .before .before .before .before .loop-test .taken) (sym f ∙ c .enum-told2 .given .1) refl refl,
-      c .before .before .before .before .judge-spot .ensures .1,
-      search needs,
-      omega arith,
-    )
-
-same-length-2 : tie.Need-same-length-2 Inv-loop μ-loop
+same-length-2 : tie.Need-same-length-2
 same-length-2 c = search needs
 
-returns-2 : tie.Need-returns-2 Inv-loop μ-loop
+returns-2 : tie.Need-returns-2
 returns-2 c =
-    let a = c .before .before .before .before .args in
-    (sym (c .before .loop .inv .0 ∙ walk-none (λ q _. placeFault (now (a .table)) (a .glyphs) (a .kind) (a .base) q) (λ q. q + 2) (λ q. 0) _ _ _ (c .loop-test .left)), c .before .loop .inv .1)
+    let a = c .before .before .before .before .before .before .before .before .before .before .before .args in
+    let f = c .before .before .before .before .stretch-fault2 .ensures .0 in (
+      f ∙ sym (by-blocks (now (a .table)) (a .glyphs) (a .kind) (a .base) (a .place) (a .count) _ (c .before .before .before .before .before .before .split-of .ensures) ∙ then-stop _ (sym f ∙ c .enum-told .given .1)),
+      (c .before .before .before .before .stretch-fault2 .ensures .1, c .before .before .before .before .before .before .before .before .before .before .before .pre .1 .1),
+    )
+
+enum-told-2 : tie.Need-enum-told-2
+enum-told-2 c = search needs
+
+blocks-fault-requires : tie.Need-blocks-fault-requires
+blocks-fault-requires c κs = search needs
+
+enum-told-3 : tie.Need-enum-told-3
+enum-told-3 c = search needs
+
+same-length-3 : tie.Need-same-length-3
+same-length-3 c = search needs
+
+same-length-4 : tie.Need-same-length-4
+same-length-4 c = search needs
+
+returns-3 : tie.Need-returns-3
+returns-3 c =
+    let a = c .before .before .before .before .before .before .before .before .before .before .before .before .before .before .before .before .before .before .before .before .args in
+    let f = c .before .before .before .before .before .before .before .before .before .before .before .before .before .stretch-fault2 .ensures .0 in
+    let g = c .before .before .before .before .before .before .blocks-fault .ensures .0 in (
+      g ∙ sym (by-blocks (now (a .table)) (a .glyphs) (a .kind) (a .base) (a .place) (a .count) _ (c .before .before .before .before .before .before .before .before .before .before .before .before .before .before .before .split-of .ensures) ∙ then-go _ (sym f ∙ c .before .before .before .before .before .before .before .before .before .enum-told2 .given .1) ∙ then-stop _ (sym g ∙ c .enum-told3 .given .1)),
+      c .before .before .before .before .before .before .blocks-fault .ensures .1,
+    )
+
+enum-told-4 : tie.Need-enum-told-4
+enum-told-4 c = search needs
+
+stretch-fault-requires-3 : tie.Need-stretch-fault-requires-3
+stretch-fault-requires-3 c κs = search needs
+
+same-length-5 : tie.Need-same-length-5
+same-length-5 c = search needs
+
+same-length-6 : tie.Need-same-length-6
+same-length-6 c = search needs
+
+returns-4 : tie.Need-returns-4
+returns-4 c =
+    let a = c .before .before .before .before .before .before .before .before .before .before .before .before .before .before .before .before .before .before .before .before .before .before .before .before .args in
+    let f = c .before .before .before .before .before .before .before .before .before .before .before .before .before .before .before .before .before .stretch-fault2 .ensures .0 in
+    let g = c .before .before .before .before .before .before .before .before .before .before .blocks-fault .ensures .0 in (
+      c .before .before .stretch-fault3 .ensures .0 ∙ sym (by-blocks (now (a .table)) (a .glyphs) (a .kind) (a .base) (a .place) (a .count) _ (c .before .before .before .before .before .before .before .before .before .before .before .before .before .before .before .before .before .before .before .split-of .ensures) ∙ then-go _ (sym f ∙ c .before .before .before .before .before .before .before .before .before .before .before .before .before .enum-told2 .given .1) ∙ then-go _ (sym g ∙ c .before .before .before .before .enum-told4 .given .1)),
+      (c .before .before .stretch-fault3 .ensures .1, c .before .before .before .before .before .before .before .before .before .before .blocks-fault .ensures .1 .1),
+    )
 
 pub places-fault-spec : {M : Type 1} → statement M
 places-fault-spec =
     tie.close
     (tie.spec
-    Inv-loop
-    μ-loop
-    loop-holds
-    u16-at-requires
-    cast-value
-    spot-of-requires
-    judge-spot-requires
-    enum-told
+    stretch-fault-requires
     same-length
     returns
-    enum-told-2
-    add-p
-    sub-left
-    loop-less
-    loop-again
+    split-of-requires
+    stretch-fault-requires-2
+    enum-told
     same-length-2
-    returns-2)
+    returns-2
+    enum-told-2
+    blocks-fault-requires
+    enum-told-3
+    same-length-3
+    same-length-4
+    returns-3
+    enum-told-4
+    stretch-fault-requires-3
+    same-length-5
+    same-length-6
+    returns-4)
