@@ -25,8 +25,9 @@ pub fn ranges(units: u16, step: u16, distinct: u16) -> Vec<u8> {
     (0..distinct).fold(fields, |fields, number| cluster(fields, number.into())).done()
 }
 
-/// Units of format 4 that cover every glyph and share one array of `width` values, all for one cluster.
-pub fn shared_array(width: u16) -> Vec<u8> {
+/// Units of format 4 that cover every glyph and share one array of `width` values, which lead in turn to `places` places, all of
+/// which hold the same cluster.
+pub fn shared_array(width: u16, places: u16) -> Vec<u8> {
     let units = u16::MAX / width;
     let array = 12 + 6 * units;
     let clusters = 16 + array + 2 * width;
@@ -34,10 +35,10 @@ pub fn shared_array(width: u16) -> Vec<u8> {
     for unit in 0..units {
         fields = fields.ws(&[unit * width + (width - 1), unit * width, array]);
     }
-    for _ in 0..width {
-        fields = fields.w(0);
+    for value in 0..width {
+        fields = fields.w(28 * (value % places));
     }
-    cluster(fields, 7).done()
+    (0..places).fold(fields, |fields, _| cluster(fields, 7)).done()
 }
 
 /// Format 8 for glyphs 0, 1, .., whose values are these offsets from the clusters.
@@ -61,11 +62,29 @@ pub fn nested_rows() -> Vec<u8> {
     fields.done()
 }
 
-/// Clusters of one pair that begin at each eighth byte, all different, one to a glyph.
-pub fn overlapping_pairs(count: u16) -> Vec<u8> {
-    let values: Vec<u16> = (0..count).map(|number| 8 * number).collect();
-    let words = trimmed(&values);
-    (0..u32::from(count) + 4).fold(words, |fields, number| fields.ls(&[1, number << 7])).done()
+/// Clusters of one pair that begin at each eighth byte, one to a glyph: these words stand between their counts.
+fn overlapping(words: &[u32]) -> Vec<u8> {
+    let values: Vec<u16> = (0..words.len() as u16 - 4).map(|number| 8 * number).collect();
+    words.iter().fold(trimmed(&values), |fields, &word| fields.ls(&[1, word])).done()
+}
+
+/// Such clusters, all different.
+pub fn overlapping_pairs(count: u32) -> Vec<u8> {
+    let words: Vec<u32> = (0..count + 4).map(|number| number << 7).collect();
+    overlapping(&words)
+}
+
+/// Such clusters, all different, for which the library's writer looks in one place: their prints are one, modulo 1,021. A
+/// cluster's words are its class, its before shrink and its after shrink, which weigh 17, 3 and 15.
+pub fn one_print(count: u32) -> Vec<u8> {
+    let mut words = vec![0, 0];
+    for number in 2..count + 4 {
+        let [class, before] = [words[words.len() - 2] % 128, words[words.len() - 1]];
+        let rest = (17 * class + 3 * before) % 1_021;
+        // 953 is the inverse of 15.
+        words.push((1_021 - rest) * 953 % 1_021 + 1_021 * (number * 331 % 1_009));
+    }
+    overlapping(&words)
 }
 
 /// A direction without machine and clusters whose actions are at 22: a lookup of format 8, then the rest.

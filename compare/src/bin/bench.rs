@@ -136,7 +136,7 @@ fn sheet_by_reference(table: &[u8], n: u32) -> Vec<u8> {
 
 fn ordinary() -> Vec<Case> {
     let (apple, units, spread) = (complex(), cases::ranges(5_000, 13, 8), cases::ranges(1_500, 40, 500));
-    let (shared, rows) = (cases::shared_array(255), cases::nested_rows());
+    let (shared, rows) = (cases::shared_array(255, 1), cases::nested_rows());
     vec![
         check("Apple's simple example, N 280", &simple(), 280),
         check("Apple's complex example, N 280", &apple, 280),
@@ -167,8 +167,10 @@ fn hostile() -> Vec<Case> {
         check("2,800 lists at each eighth byte", &lists, 2_800),
         check("clusters inside each other", &cases::nested_rows(), 1_200),
         write("the empty table, N 65,535", &drafts::empty(), 65_535),
-        write("one cluster, N 65,535", &cases::shared_array(255), 65_535),
+        write("one cluster, N 65,535", &cases::shared_array(255, 1), 65_535),
+        write("one cluster at two places in turn, N 65,535", &cases::shared_array(255, 2), 65_535),
         write("3,200 clusters at each eighth byte, all different", &pairs, 3_200),
+        write("3,200 clusters at each eighth byte, all with one print", &cases::one_print(3_200), 3_200),
         write("2,800 lists at each eighth byte with long common beginnings", &lists, 2_800),
         sheet("lists with long common beginnings", &sheet_by_reference(&lists, 2_800)),
         line("64 actions a glyph, all fire", cases::many_actions(), 4, 1_024),
@@ -184,10 +186,10 @@ fn doubled() -> Vec<Case> {
         cases.push(check(&format!("{units} format 2 units, N 65,000"), &cases::ranges(units, 13, 8), 65_000));
     }
     for n in [8_192, 16_384, 32_768, 65_535] {
-        cases.push(check(&format!("format 4 units that share one array, N {n}"), &cases::shared_array(255), n));
+        cases.push(check(&format!("format 4 units that share one array, N {n}"), &cases::shared_array(255, 1), n));
     }
     for n in [8_192, 16_384, 32_768, 65_535] {
-        cases.push(write(&format!("format 4 units that share one array, N {n}"), &cases::shared_array(255), n));
+        cases.push(write(&format!("format 4 units that share one array, N {n}"), &cases::shared_array(255, 1), n));
     }
     for count in [128, 256, 512, 1_024] {
         cases.push(line("Apple's complex example", complex(), 280, count));
