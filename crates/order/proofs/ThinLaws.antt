@@ -1,5 +1,5 @@
 -- Numbers set aside: as many are left to compare as share a slot with an earlier one.
-use Prim.Native.Nat.{ℕ, zero, suc, _+_, _≤_, _<_}
+use Prim.Native.Nat.{ℕ, zero, suc, _+_, _^_, _≤_, _<_}
 use mathlib.Core.Path.{_≡_, refl, sym, ap, _∙_, subst}
 use mathlib.Core.Bool.{Bool, true, false}
 use mathlib.Core.Logic.{_⊎_, inl, inr, ⊎-elim}
@@ -7,13 +7,13 @@ use mathlib.Core.List.{List, [], _∷_, _++_}
 use native.Mathlib.Decide.{ℕ-discrete}
 use native.Mathlib.Omega.{arith}
 use native.Mathlib.Numerals.{add-one}
-use lib.ListN.{length, getD, take, set, replicate}
+use lib.ListN.{length, getD, take, set, replicate, length-replicate}
 use lib.Seq.{getD-set-same, getD-set-other}
 use Rattle.lists.specs.Codes.{All}
 use Rattle.lists.specs.Tests.{Says}
 use Rattle.lists.proofs.ListLaws.{all-append, all-map}
 use Rattle.order.specs.Order.{Apart, countFrom}
-use Rattle.order.specs.Slots.{Unused, Thinned}
+use Rattle.order.specs.Slots.{Unused, Rooms, Thinned}
 use Rattle.order.proofs.ScanLaws.{apart-at, apart-from, count-length, count-at}
 
 -- ---- one more element at the end
@@ -180,7 +180,7 @@ module _ (f : ℕ → List ℕ) where
     thinned n r firsts numbers h t =
         record { few = h; to = λ a. t .to (apart-below n a); back = λ a. below-apart n (t .back a) }
 
-pub unused : (n : ℕ) → Unused (replicate n 0)
+unused : (n : ℕ) → Unused (replicate n 0)
 unused zero i = refl
 unused (suc n) zero = refl
 unused (suc n) (suc i) = unused n i
@@ -188,6 +188,13 @@ unused (suc n) (suc i) = unused n i
 -- one is apart, and none
 pub apart-one : (f : ℕ → List ℕ) (n : ℕ) → n < 2 → Apart f (countFrom 0 n)
 apart-one f n h = below-apart f n (λ x y p q e. omega arith)
+
+-- zeros are rooms
+pub rooms : (n k l : ℕ) → n ≤ k → n ≤ l → 0 < l → l ≤ 2 ^ 17 → Rooms n (replicate k 0) (replicate l 0)
+rooms n k l a b c d =
+    let e = length-replicate {A = ℕ} k 0 in
+    let f = length-replicate {A = ℕ} l 0 in
+    (omega (arith, e), omega (arith, f), omega (arith, f), omega (arith, f), unused l)
 
 pub says-thinned : (f : ℕ → List ℕ) (n r : ℕ) (numbers : List ℕ) (b : Bool) → Thinned f n r numbers → Says b (Apart f (take r numbers)) → Says b (Apart f (countFrom 0 n))
 says-thinned f n r numbers true t h = t .back h

@@ -1,5 +1,5 @@
 -- A slot for each stretch, told by its bytes: stretches alike have the same, so only those that share one need be compared.
-use Prim.Native.Nat.{ℕ, zero, suc, _+_, _-_, _*_, _/_, _%_, _≤_, _<_, min}
+use Prim.Native.Nat.{ℕ, zero, suc, _+_, _-_, _*_, _/_, _%_, _^_, _≤_, _<_, min}
 use mathlib.Core.Path.{_≡_}
 use mathlib.Core.List.{List}
 use lib.ListN.{length, getD, take}
@@ -22,6 +22,10 @@ slotOf s marks slots k = mixed s ((edge s marks (k + 1) - edge s marks k) / 4) (
 -- no slot is taken
 abbrev pub Unused : List ℕ → Type 0
 Unused firsts = (i : ℕ) → getD firsts i 0 ≡ 0
+
+-- rooms to work in for n items
+abbrev pub Rooms : ℕ → List ℕ → List ℕ → Type 0
+Rooms n numbers firsts = (n ≤ length numbers) × (n ≤ length firsts) × (0 < length firsts) × (length firsts ≤ 2 ^ 17) × Unused firsts
 
 -- the first r of the numbers are among those below n, and no two of them are alike exactly where no two of all are
 pub record Thinned (f : ℕ → List ℕ) (n r : ℕ) (numbers : List ℕ) : Type 0 where

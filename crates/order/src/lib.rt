@@ -10,7 +10,7 @@ ghost use lib.Seq.{slice};
 ghost use Rattle.fields.specs.Field.{u32At};
 ghost use Rattle.lists.specs.Tests.{Says};
 ghost use Rattle.order.specs.Order.{Le, Shared, stretch, NoLater, Ordered, Sorted, left, Next, Apart, Adjacent, countFrom};
-ghost use Rattle.order.specs.Slots.{mixed, slotOf, Unused, Thinned};
+ghost use Rattle.order.specs.Slots.{mixed, slotOf, Rooms, Thinned};
 
 fn byte(x: u8) -> usize
     ensures { λ r. ⌜ (r ≡ x) × (r < 2 ^ 8) ⌝ }
@@ -265,7 +265,7 @@ fn thin(
     numbers: &mut [u16],
     firsts: &mut [u16],
 ) -> usize
-    requires { ⌜ (count < 2 ^ 16) × (count ≤ length (now numbers)) × (count ≤ length (now firsts)) × (0 < length (now firsts)) × (length (now firsts) ≤ 2 ^ 17) × Unused (now firsts) ⌝ }
+    requires { ⌜ (count < 2 ^ 16) × Rooms count (now numbers) (now firsts) ⌝ }
     ensures { λ r. ⌜ Thinned (stretch (now (bytes .entry)) (now (marks .entry))) count r (now (numbers .exit)) ⌝ }
 {
     let slots = firsts.len();
@@ -292,61 +292,20 @@ fn thin(
     left
 }
 
-fn distinct_in(
+// Whether no two of the first `count` stretches between marks are alike; `numbers` and `firsts` are rooms to work in.
+pub fn distinct(
     bytes: &[u8],
     marks: &[usize],
     count: usize,
     numbers: &mut [u16],
     firsts: &mut [u16],
 ) -> bool
-    requires { ⌜ (count < 2 ^ 16) × (count ≤ length (now numbers)) × (count ≤ length (now firsts)) × (0 < length (now firsts)) × (length (now firsts) ≤ 2 ^ 17) × Unused (now firsts) ⌝ }
-    ensures { λ r. ⌜ Says r (Apart (stretch (now (bytes .entry)) (now (marks .entry))) (countFrom 0 count)) ⌝ }
-{
-    let left = thin(bytes, marks, count, numbers, firsts);
-    apart(bytes, marks, &mut numbers[..left], &mut firsts[..left])
-}
-
-fn distinct_few(bytes: &[u8], marks: &[usize], count: usize) -> bool
-    requires { ⌜ count ≤ 64 ⌝ }
-    ensures { λ r. ⌜ Says r (Apart (stretch (now (bytes .entry)) (now (marks .entry))) (countFrom 0 count)) ⌝ }
-{
-    let mut numbers = [0u16; 64];
-    let mut firsts = [0u16; 512];
-    distinct_in(bytes, marks, count, &mut numbers, &mut firsts)
-}
-
-fn distinct_some(bytes: &[u8], marks: &[usize], count: usize) -> bool
-    requires { ⌜ count ≤ 2048 ⌝ }
-    ensures { λ r. ⌜ Says r (Apart (stretch (now (bytes .entry)) (now (marks .entry))) (countFrom 0 count)) ⌝ }
-{
-    let mut numbers = [0u16; 2048];
-    let mut firsts = [0u16; 16384];
-    distinct_in(bytes, marks, count, &mut numbers, &mut firsts)
-}
-
-fn distinct_many(bytes: &[u8], marks: &[usize], count: usize) -> bool
-    requires { ⌜ count < 2 ^ 16 ⌝ }
-    ensures { λ r. ⌜ Says r (Apart (stretch (now (bytes .entry)) (now (marks .entry))) (countFrom 0 count)) ⌝ }
-{
-    let mut numbers = [0u16; 65536];
-    let mut firsts = [0u16; 131072];
-    distinct_in(bytes, marks, count, &mut numbers, &mut firsts)
-}
-
-// Whether no two of the first `count` stretches between marks are alike. The arrays are as long as the count needs:
-// clearing them would be all the time that few items take.
-pub fn distinct(bytes: &[u8], marks: &[usize], count: usize) -> bool
-    requires { ⌜ count < 2 ^ 16 ⌝ }
+    requires { ⌜ (count < 2 ^ 16) × Rooms count (now numbers) (now firsts) ⌝ }
     ensures { λ r. ⌜ Says r (Apart (stretch (now (bytes .entry)) (now (marks .entry))) (countFrom 0 count)) ⌝ }
 {
     if count < 2 {
         return true;
     }
-    if count <= 64 {
-        return distinct_few(bytes, marks, count);
-    }
-    if count <= 2048 {
-        return distinct_some(bytes, marks, count);
-    }
-    distinct_many(bytes, marks, count)
+    let left = thin(bytes, marks, count, numbers, firsts);
+    apart(bytes, marks, &mut numbers[..left], &mut firsts[..left])
 }

@@ -12,6 +12,7 @@ ghost use Rattle.lists.specs.Tests.{Says};
 ghost use Rattle.section.specs.Section.{Parses};
 ghost use Rattle.pool.specs.Pool.{Items};
 ghost use Rattle.order.specs.Scan.{Scans};
+ghost use Rattle.order.specs.Slots.{Rooms};
 ghost use Rattle.sheet_clusters.specs.Clusters.{limitsAt, pairAt, GoodPair, GoodPairs, clusterCode, SomeCluster, OkClusters};
 
 // 16 em.
@@ -137,9 +138,17 @@ fn scan_clusters(bytes: &[u8], at: usize, count: usize, marks: &mut [usize]) -> 
     Read::Upto(place)
 }
 
-// Section 5, with room for the marks. Each cluster is some glyph's, so there are no more clusters than glyphs.
-fn read_marked(bytes: &[u8], at: usize, glyphs: usize, marks: &mut [usize]) -> Read
-    requires { ⌜ (glyphs < 2 ^ 16) × (min glyphs (u32At (now bytes) at) < length (now marks)) ⌝ }
+// Section 5, with rooms for the marks and to compare. Each cluster is some glyph's, so there are no more clusters than
+// glyphs.
+fn read_marked(
+    bytes: &[u8],
+    at: usize,
+    glyphs: usize,
+    marks: &mut [usize],
+    numbers: &mut [u16],
+    firsts: &mut [u16],
+) -> Read
+    requires { ⌜ (glyphs < 2 ^ 16) × (min glyphs (u32At (now bytes) at) < length (now marks)) × Rooms (min glyphs (u32At (now bytes) at)) (now numbers) (now firsts) ⌝ }
     ensures { λ r. ⌜ Parses (counted clusterCode) (Items cluster-discrete SomeCluster glyphs) (now (bytes .entry)) at r ⌝ }
 {
     // A count; what it counts is read cluster by cluster.
@@ -153,7 +162,7 @@ fn read_marked(bytes: &[u8], at: usize, glyphs: usize, marks: &mut [usize]) -> R
     let found = scan_clusters(bytes, at + 4, count, marks);
     match found {
         Read::Upto(end) => {
-            if order::distinct(bytes, marks, count) {
+            if order::distinct(bytes, marks, count, numbers, firsts) {
                 Read::Upto(end)
             } else {
                 Read::Absent
@@ -163,55 +172,87 @@ fn read_marked(bytes: &[u8], at: usize, glyphs: usize, marks: &mut [usize]) -> R
     }
 }
 
-fn read_none(bytes: &[u8], at: usize, glyphs: usize) -> Read
-    requires { ⌜ (glyphs < 2 ^ 16) × (u32At (now bytes) at < 1) ⌝ }
-    ensures { λ r. ⌜ Parses (counted clusterCode) (Items cluster-discrete SomeCluster glyphs) (now (bytes .entry)) at r ⌝ }
-{
-    let mut marks = [0usize; 1];
-    read_marked(bytes, at, glyphs, &mut marks)
-}
-
 fn read_few(bytes: &[u8], at: usize, glyphs: usize) -> Read
-    requires { ⌜ (glyphs < 2 ^ 16) × (u32At (now bytes) at < 64) ⌝ }
+    requires { ⌜ (glyphs < 2 ^ 16) × (u32At (now bytes) at ≤ 8) ⌝ }
     ensures { λ r. ⌜ Parses (counted clusterCode) (Items cluster-discrete SomeCluster glyphs) (now (bytes .entry)) at r ⌝ }
 {
-    let mut marks = [0usize; 64];
-    read_marked(bytes, at, glyphs, &mut marks)
+    let mut marks = [0usize; 9];
+    let mut numbers = [0u16; 8];
+    let mut firsts = [0u16; 64];
+    read_marked(bytes, at, glyphs, &mut marks, &mut numbers, &mut firsts)
 }
 
 fn read_some(bytes: &[u8], at: usize, glyphs: usize) -> Read
-    requires { ⌜ (glyphs < 2 ^ 16) × (u32At (now bytes) at < 2048) ⌝ }
+    requires { ⌜ (glyphs < 2 ^ 16) × (u32At (now bytes) at ≤ 64) ⌝ }
     ensures { λ r. ⌜ Parses (counted clusterCode) (Items cluster-discrete SomeCluster glyphs) (now (bytes .entry)) at r ⌝ }
 {
-    let mut marks = [0usize; 2048];
-    read_marked(bytes, at, glyphs, &mut marks)
+    let mut marks = [0usize; 65];
+    let mut numbers = [0u16; 64];
+    let mut firsts = [0u16; 512];
+    read_marked(bytes, at, glyphs, &mut marks, &mut numbers, &mut firsts)
 }
 
 fn read_many(bytes: &[u8], at: usize, glyphs: usize) -> Read
+    requires { ⌜ (glyphs < 2 ^ 16) × (u32At (now bytes) at ≤ 2048) ⌝ }
+    ensures { λ r. ⌜ Parses (counted clusterCode) (Items cluster-discrete SomeCluster glyphs) (now (bytes .entry)) at r ⌝ }
+{
+    let mut marks = [0usize; 2049];
+    let mut numbers = [0u16; 2048];
+    let mut firsts = [0u16; 16384];
+    read_marked(bytes, at, glyphs, &mut marks, &mut numbers, &mut firsts)
+}
+
+fn read_any(bytes: &[u8], at: usize, glyphs: usize) -> Read
     requires { ⌜ glyphs < 2 ^ 16 ⌝ }
     ensures { λ r. ⌜ Parses (counted clusterCode) (Items cluster-discrete SomeCluster glyphs) (now (bytes .entry)) at r ⌝ }
 {
     let mut marks = [0usize; 65536];
-    read_marked(bytes, at, glyphs, &mut marks)
+    let mut numbers = [0u16; 65536];
+    let mut firsts = [0u16; 131072];
+    read_marked(bytes, at, glyphs, &mut marks, &mut numbers, &mut firsts)
 }
 
-// Section 5: at most as many distinct clusters as there are glyphs. The room for marks is as long as the count needs:
-// clearing it would be all the time that few clusters take.
-fn read_distinct(bytes: &[u8], at: usize, glyphs: usize) -> Read
+// In rooms as long as the count needs: clearing longer ones would be most of the time that few clusters take. It has
+// two callers, so that the compiler leaves it a function of its own: where it is not called, its stack is not touched.
+fn read_more(bytes: &[u8], at: usize, glyphs: usize) -> Read
     requires { ⌜ glyphs < 2 ^ 16 ⌝ }
     ensures { λ r. ⌜ Parses (counted clusterCode) (Items cluster-discrete SomeCluster glyphs) (now (bytes .entry)) at r ⌝ }
 {
     let count = fields::u32_at(bytes, at);
-    if count == 0 {
-        return read_none(bytes, at, glyphs);
-    }
-    if count < 64 {
-        return read_few(bytes, at, glyphs);
-    }
-    if count < 2048 {
+    if count <= 64 {
         return read_some(bytes, at, glyphs);
     }
-    read_many(bytes, at, glyphs)
+    if count <= 2048 {
+        return read_many(bytes, at, glyphs);
+    }
+    read_any(bytes, at, glyphs)
+}
+
+// In small rooms if they are large enough.
+fn read_short(bytes: &[u8], at: usize, glyphs: usize) -> Read
+    requires { ⌜ glyphs < 2 ^ 16 ⌝ }
+    ensures { λ r. ⌜ Parses (counted clusterCode) (Items cluster-discrete SomeCluster glyphs) (now (bytes .entry)) at r ⌝ }
+{
+    let count = fields::u32_at(bytes, at);
+    if count <= 8 {
+        return read_few(bytes, at, glyphs);
+    }
+    if count <= 64 {
+        return read_some(bytes, at, glyphs);
+    }
+    read_more(bytes, at, glyphs)
+}
+
+// Section 5: at most as many distinct clusters as there are glyphs.
+fn read_distinct(bytes: &[u8], at: usize, glyphs: usize) -> Read
+    requires { ⌜ glyphs < 2 ^ 16 ⌝ }
+    ensures { λ r. ⌜ Parses (counted clusterCode) (Items cluster-discrete SomeCluster glyphs) (now (bytes .entry)) at r ⌝ }
+{
+    // In a long sheet the large rooms' stack costs little.
+    if 16384 < bytes.len() {
+        return read_more(bytes, at, glyphs);
+    }
+    read_short(bytes, at, glyphs)
 }
 
 // Sections 5 and 6: the clusters of `glyphs` glyphs.

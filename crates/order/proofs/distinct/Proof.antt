@@ -1,42 +1,61 @@
--- `order::distinct` meets its contract. Assumes nothing.
+-- `order::distinct` meets its contract. What is left to compare has the answer of all. Assumes nothing.
+use mathlib.Core.Path.{sym, _∙_}
 use native.Mathlib.Omega.{arith}
+use lib.Seq.{length-take-le}
 use borrow.Author.Needs.{needs}
+use Rattle.order.proofs.ThinLaws.{apart-one, says-thinned}
 use Rattle.order.specs.Order.{stretch}
-use Rattle.order.proofs.ThinLaws.{apart-one}
 use Rattle.order.proofs.distinct.Statement.{statement}
 use Rattle.order.proofs.distinct.Tie as tie
 
 returns : tie.Need-returns
 returns c =
-    let a = c .before .before .before .args in
+    let a = c .before .before .before .before .before .args in
     apart-one (stretch (a .bytes .now) (a .marks .now)) (a .count) (omega arith)
 
-distinct-few-requires : tie.Need-distinct-few-requires
-distinct-few-requires c κs = search needs
+thin-requires : tie.Need-thin-requires
+thin-requires c κs = search needs
+
+slice-relend-prefix-apart : tie.Need-slice-relend-prefix-apart
+slice-relend-prefix-apart c = search needs
+
+slice-aggregate-apart : tie.Need-slice-aggregate-apart
+slice-aggregate-apart c = sym (length-take-le _ _ (omega arith))
+
+slice-relend-prefix-apart-2 : tie.Need-slice-relend-prefix-apart-2
+slice-relend-prefix-apart-2 c = search needs
+
+slice-aggregate-apart-2 : tie.Need-slice-aggregate-apart-2
+slice-aggregate-apart-2 c = sym (length-take-le _ _ (omega arith))
+
+apart-requires : tie.Need-apart-requires
+apart-requires c κs =
+    let t = c .before .before .before .before .before .before .thin in
+    length-take-le (t .result) (t .last .1 .1 .1 .1 .0) (omega arith) ∙ sym (length-take-le (t .result) (t .last .1 .1 .1 .0) (omega arith))
+
+same-length : tie.Need-same-length
+same-length c = search needs
+
+same-length-2 : tie.Need-same-length-2
+same-length-2 c = search needs
 
 returns-2 : tie.Need-returns-2
-returns-2 c = search needs
-
-distinct-some-requires : tie.Need-distinct-some-requires
-distinct-some-requires c κs = search needs
-
-returns-3 : tie.Need-returns-3
-returns-3 c = search needs
-
-distinct-many-requires : tie.Need-distinct-many-requires
-distinct-many-requires c κs = search needs
-
-returns-4 : tie.Need-returns-4
-returns-4 c = search needs
+returns-2 c =
+    let a = c .before .before .before .before .before .before .before .before .before .before .before .before .before .before .before .before .before .before .before .args in
+    let t = c .before .before .before .before .before .before .before .before .before .before .before .thin in
+    says-thinned (stretch (a .bytes .now) (a .marks .now)) (a .count) (t .result) _ (c .before .before .before .before .apart .result) (t .ensures) (c .before .before .before .before .apart .ensures)
 
 pub distinct-spec : {M : Type 1} → statement M
 distinct-spec =
     tie.close
     (tie.spec
     returns
-    distinct-few-requires
-    returns-2
-    distinct-some-requires
-    returns-3
-    distinct-many-requires
-    returns-4)
+    thin-requires
+    slice-relend-prefix-apart
+    slice-aggregate-apart
+    slice-relend-prefix-apart-2
+    slice-aggregate-apart-2
+    apart-requires
+    same-length
+    same-length-2
+    returns-2)

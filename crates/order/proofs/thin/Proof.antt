@@ -29,7 +29,7 @@ abbrev μ-loop : tie.MeasureT-loop
 loop-holds : tie.Need-loop-holds Inv-loop μ-loop
 loop-holds c =
     let a = c .before .before .before .before .args in
-    (refl, refl, refl, omega arith, omega arith, kept-none (stretch (a .bytes .now) (a .marks .now)) (slotOf (a .bytes .now) (a .marks .now) (length (a .firsts .now))) (a .firsts .now) (c .before .before .before .before .pre .5))
+    (refl, refl, refl, omega arith, omega arith, kept-none (stretch (a .bytes .now) (a .marks .now)) (slotOf (a .bytes .now) (a .marks .now) (length (a .firsts .now))) (a .firsts .now) (c .before .before .before .before .pre .1 .4))
 
 slot-of-requires : tie.Need-slot-of-requires Inv-loop μ-loop
 slot-of-requires c κs = search needs

@@ -22,7 +22,7 @@ has-items-requires c κs = search needs
 
 returns : tie.Need-returns
 returns c =
-    let a = c .before .before .before .before .args in
+    let a = c .before .before .before .before .before .before .args in
     let s = a .bytes .now in
     let few : a .glyphs < 2 ^ 32 = omega arith in
     let no-room = failed (c .before .has-items .result) (Room 0 s (a .at)) (c .if1 .taken) (c .before .has-items .ensures) in
@@ -33,32 +33,30 @@ u32-at-requires c κs = search needs
 
 returns-2 : tie.Need-returns-2
 returns-2 c =
-    let a = c .before .before .before .before .before .before .args in
+    let a = c .before .before .before .before .before .before .before .before .args in
     let s = a .bytes .now in
-    let bytes : Bytes s = λ i. omega (arith, c .before .before .before .before .before .shared-slice-known .given i) in
+    let bytes : Bytes s = λ i. omega (arith, c .before .before .before .before .before .before .before .shared-slice-known .given i) in
     let few : a .glyphs < 2 ^ 32 = omega arith in
     let room = passed (c .before .before .before .has-items .result) (Room 0 s (a .at)) (c .before .before .if1 .left) (c .before .before .before .has-items .ensures) in
     items-many listCode (SomeList (a .glyphs)) (some-free (a .glyphs)) [] list-discrete (a .glyphs) few s (a .at) bytes (omega (arith, room)) (omega (arith, c .before .u32-at .ensures .0))
 
 add-scan-lists : tie.Need-add-scan-lists
 add-scan-lists c =
-    let a = c .before .before .before .before .before .before .args in
-    let s = a .bytes .now in
-    let room = passed (c .before .before .before .has-items .result) (Room 0 s (a .at)) (c .before .before .if1 .left) (c .before .before .before .has-items .ensures) in
+    let a = c .before .before .before .before .before .before .before .before .args in
+    let room = passed (c .before .before .before .has-items .result) (Room 0 (a .bytes .now) (a .at)) (c .before .before .if1 .left) (c .before .before .before .has-items .ensures) in
     omega (arith, room)
 
 scan-lists-requires : tie.Need-scan-lists-requires
 scan-lists-requires c κs =
-    let a = c .before .before .before .before .before .before .before .args in
-    let s = a .bytes .now in
-    let room = passed (c .before .before .before .before .has-items .result) (Room 0 s (a .at)) (c .before .before .before .if1 .left) (c .before .before .before .before .has-items .ensures) in
+    let a = c .before .before .before .before .before .before .before .before .before .args in
+    let room = passed (c .before .before .before .before .has-items .result) (Room 0 (a .bytes .now) (a .at)) (c .before .before .before .if1 .left) (c .before .before .before .before .has-items .ensures) in
     (omega (arith, room), omega arith)
 
 enum-known-found : tie.Need-enum-known-found
 enum-known-found c = search needs
 
 distinct-requires : tie.Need-distinct-requires
-distinct-requires c κs = search needs
+distinct-requires c κs = (omega arith, (omega arith, omega arith, omega arith, omega arith, c .before .before .before .before .before .before .before .before .before .before .before .before .before .before .before .before .before .before .pre .2 .4))
 
 enum-told : tie.Need-enum-told
 enum-told c = search needs
@@ -66,45 +64,59 @@ enum-told c = search needs
 same-length : tie.Need-same-length
 same-length c = search needs
 
-returns-3 : tie.Need-returns-3
-returns-3 c =
-    let a = c .before .before .before .before .before .before .before .before .before .before .before .before .before .before .before .before .args in
-    let s = a .bytes .now in
-    let bytes : Bytes s = λ i. omega (arith, c .before .before .before .before .before .before .before .before .before .before .before .before .before .before .before .shared-slice-known .given i) in
-    let few : a .glyphs < 2 ^ 32 = omega arith in
-    let room = passed (c .before .before .before .before .before .before .before .before .before .before .before .before .before .has-items .result) (Room 0 s (a .at)) (c .before .before .before .before .before .before .before .before .before .before .before .before .if1 .left) (c .before .before .before .before .before .before .before .before .before .before .before .before .before .has-items .ensures) in
-    let m = c .before .before .before .before .before .before .before .before .before .before .before .u32-at .result in
-    let marks = c .before .before .before .before .before .before .before .before .scan-lists .last .1 .1 .1 .1 .0 in
-    let q = c .before .before .before .before .found .given .0 .0 in
-    let d : Scanned listCode (SomeList (a .glyphs)) s (a .at + 4) m q marks = subst (λ (r : Read). Scans listCode (SomeList (a .glyphs)) s (a .at + 4) m r marks) (c .before .before .before .before .found .given .1) (c .before .before .before .before .before .before .before .before .scan-lists .ensures) in
-    items-found listCode (SomeList (a .glyphs)) (some-free (a .glyphs)) [] list-discrete (a .glyphs) few s (a .at) bytes (omega (arith, room)) m (c .before .before .before .before .before .before .before .before .before .before .before .u32-at .ensures .0) q marks d (omega arith)
-    (says-yes (Apart (stretch s marks) (countFrom 0 m)) (c .if3 .taken) (c .before .distinct .ensures))
-
 same-length-2 : tie.Need-same-length-2
 same-length-2 c = search needs
-
-returns-4 : tie.Need-returns-4
-returns-4 c =
-    let a = c .before .before .before .before .before .before .before .before .before .before .before .before .before .before .before .before .args in
-    let s = a .bytes .now in
-    let bytes : Bytes s = λ i. omega (arith, c .before .before .before .before .before .before .before .before .before .before .before .before .before .before .before .shared-slice-known .given i) in
-    let few : a .glyphs < 2 ^ 32 = omega arith in
-    let room = passed (c .before .before .before .before .before .before .before .before .before .before .before .before .before .has-items .result) (Room 0 s (a .at)) (c .before .before .before .before .before .before .before .before .before .before .before .before .if1 .left) (c .before .before .before .before .before .before .before .before .before .before .before .before .before .has-items .ensures) in
-    let m = c .before .before .before .before .before .before .before .before .before .before .before .u32-at .result in
-    let marks = c .before .before .before .before .before .before .before .before .scan-lists .last .1 .1 .1 .1 .0 in
-    let q = c .before .before .before .before .found .given .0 .0 in
-    let d : Scanned listCode (SomeList (a .glyphs)) s (a .at + 4) m q marks = subst (λ (r : Read). Scans listCode (SomeList (a .glyphs)) s (a .at + 4) m r marks) (c .before .before .before .before .found .given .1) (c .before .before .before .before .before .before .before .before .scan-lists .ensures) in
-    items-twice listCode (SomeList (a .glyphs)) (some-free (a .glyphs)) [] list-discrete (a .glyphs) few s (a .at) bytes (omega (arith, room)) m (c .before .before .before .before .before .before .before .before .before .before .before .u32-at .ensures .0) q marks d
-    (says-no (Apart (stretch s marks) (countFrom 0 m)) (c .if3 .left) (c .before .distinct .ensures))
 
 same-length-3 : tie.Need-same-length-3
 same-length-3 c = search needs
 
+returns-3 : tie.Need-returns-3
+returns-3 c =
+    let a = c .before .before .before .before .before .before .before .before .before .before .before .before .before .before .before .before .before .before .before .before .before .before .before .before .args in
+    let s = a .bytes .now in
+    let bytes : Bytes s = λ i. omega (arith, c .before .before .before .before .before .before .before .before .before .before .before .before .before .before .before .before .before .before .before .before .before .before .before .shared-slice-known .given i) in
+    let few : a .glyphs < 2 ^ 32 = omega arith in
+    let room = passed (c .before .before .before .before .before .before .before .before .before .before .before .before .before .before .before .before .before .before .before .has-items .result) (Room 0 s (a .at)) (c .before .before .before .before .before .before .before .before .before .before .before .before .before .before .before .before .before .before .if1 .left) (c .before .before .before .before .before .before .before .before .before .before .before .before .before .before .before .before .before .before .before .has-items .ensures) in
+    let m = c .before .before .before .before .before .before .before .before .before .before .before .before .before .before .before .before .before .u32-at .result in
+    let marks = c .before .before .before .before .before .before .before .before .before .before .before .before .before .before .scan-lists .last .1 .1 .1 .1 .0 in
+    let q = c .before .before .before .before .before .before .before .before .before .before .found .given .0 .0 in
+    let d : Scanned listCode (SomeList (a .glyphs)) s (a .at + 4) m q marks =
+    subst (λ (r : Read). Scans listCode (SomeList (a .glyphs)) s (a .at + 4) m r marks) (c .before .before .before .before .before .before .before .before .before .before .found .given .1) (c .before .before .before .before .before .before .before .before .before .before .before .before .before .before .scan-lists .ensures) in
+    items-found listCode (SomeList (a .glyphs)) (some-free (a .glyphs)) [] list-discrete (a .glyphs) few s (a .at) bytes (omega (arith, room)) m (c .before .before .before .before .before .before .before .before .before .before .before .before .before .before .before .before .before .u32-at .ensures .0) q marks d (omega arith)
+    (says-yes (Apart (stretch s marks) (countFrom 0 m)) (c .if3 .taken) (c .before .before .before .before .before .distinct .ensures))
+
+same-length-4 : tie.Need-same-length-4
+same-length-4 c = search needs
+
+same-length-5 : tie.Need-same-length-5
+same-length-5 c = search needs
+
+same-length-6 : tie.Need-same-length-6
+same-length-6 c = search needs
+
+returns-4 : tie.Need-returns-4
+returns-4 c =
+    let a = c .before .before .before .before .before .before .before .before .before .before .before .before .before .before .before .before .before .before .before .before .before .before .before .before .args in
+    let s = a .bytes .now in
+    let bytes : Bytes s = λ i. omega (arith, c .before .before .before .before .before .before .before .before .before .before .before .before .before .before .before .before .before .before .before .before .before .before .before .shared-slice-known .given i) in
+    let few : a .glyphs < 2 ^ 32 = omega arith in
+    let room = passed (c .before .before .before .before .before .before .before .before .before .before .before .before .before .before .before .before .before .before .before .has-items .result) (Room 0 s (a .at)) (c .before .before .before .before .before .before .before .before .before .before .before .before .before .before .before .before .before .before .if1 .left) (c .before .before .before .before .before .before .before .before .before .before .before .before .before .before .before .before .before .before .before .has-items .ensures) in
+    let m = c .before .before .before .before .before .before .before .before .before .before .before .before .before .before .before .before .before .u32-at .result in
+    let marks = c .before .before .before .before .before .before .before .before .before .before .before .before .before .before .scan-lists .last .1 .1 .1 .1 .0 in
+    let q = c .before .before .before .before .before .before .before .before .before .before .found .given .0 .0 in
+    let d : Scanned listCode (SomeList (a .glyphs)) s (a .at + 4) m q marks =
+    subst (λ (r : Read). Scans listCode (SomeList (a .glyphs)) s (a .at + 4) m r marks) (c .before .before .before .before .before .before .before .before .before .before .found .given .1) (c .before .before .before .before .before .before .before .before .before .before .before .before .before .before .scan-lists .ensures) in
+    items-twice listCode (SomeList (a .glyphs)) (some-free (a .glyphs)) [] list-discrete (a .glyphs) few s (a .at) bytes (omega (arith, room)) m (c .before .before .before .before .before .before .before .before .before .before .before .before .before .before .before .before .before .u32-at .ensures .0) q marks d
+    (says-no (Apart (stretch s marks) (countFrom 0 m)) (c .if3 .left) (c .before .before .before .before .before .distinct .ensures))
+
+same-length-7 : tie.Need-same-length-7
+same-length-7 c = search needs
+
 returns-5 : tie.Need-returns-5
 returns-5 c =
-    let a = c .before .before .before .before .before .before .before .before .before .before .before .before .args in
+    let a = c .before .before .before .before .before .before .before .before .before .before .before .before .before .before .args in
     let s = a .bytes .now in
-    let bytes : Bytes s = λ i. omega (arith, c .before .before .before .before .before .before .before .before .before .before .before .shared-slice-known .given i) in
+    let bytes : Bytes s = λ i. omega (arith, c .before .before .before .before .before .before .before .before .before .before .before .before .before .shared-slice-known .given i) in
     let few : a .glyphs < 2 ^ 32 = omega arith in
     let room = passed (c .before .before .before .before .before .before .before .before .before .has-items .result) (Room 0 s (a .at)) (c .before .before .before .before .before .before .before .before .if1 .left) (c .before .before .before .before .before .before .before .before .before .has-items .ensures) in
     let m = c .before .before .before .before .before .before .before .u32-at .result in
@@ -126,8 +138,12 @@ read-marked-spec =
     distinct-requires
     enum-told
     same-length
-    returns-3
     same-length-2
-    returns-4
     same-length-3
+    returns-3
+    same-length-4
+    same-length-5
+    same-length-6
+    returns-4
+    same-length-7
     returns-5)
