@@ -1,10 +1,10 @@
 -- Pairs one after the other, and the bytes of a cluster.
-use Prim.Native.Nat.{ℕ, zero, suc, _+_, _-_, _*_, _%_, _≤_, _<_}
+use Prim.Native.Nat.{ℕ, zero, suc, _+_, _-_, _*_, _%_, _≤_, _<_, min}
 use mathlib.Core.Path.{_≡_, refl, sym, ap, ap₂, _∙_, subst}
 use mathlib.Core.Bool.{Bool, true, false}
 use mathlib.Core.List.{List, [], _∷_, _++_, head-eq-of-cons-eq, tail-eq-of-cons-eq}
 use native.Mathlib.Omega.{arith}
-use lib.ListN.{length}
+use lib.ListN.{length, take}
 use Rattle.fields.specs.Field.{u16At, u32At, be32}
 use Rattle.units.specs.Fixed.{fixedSize}
 use Rattle.units.specs.Flags.{keptFlags}
@@ -16,7 +16,7 @@ use Rattle.lists.specs.Tests.{Says}
 use Rattle.cluster.specs.Pairs.{pairAt, pairsAt, clusterAt}
 use Rattle.cluster.proofs.Laws.{pairs-length, cluster-length}
 use Rattle.cluster.specs.Faults.{classAt}
-use Rattle.cluster_code.specs.Print.{limitsAt, flagsAt, pairPrint, pairsPrint}
+use Rattle.cluster_code.specs.Print.{limitsAt, flagsAt, pairPrint, pairsPrint, clusterPrint}
 
 module _ (t : List ℕ) where
   -- a pair by its parts
@@ -87,6 +87,17 @@ module _ (t : List ℕ) where
   unfolding pairsPrint
   print-none n at print h = ap (pairsPrint print) (pairs-none t n at h)
 
-  pub print-all : (at n : ℕ) → n ≡ u32At t at → pairsPrint 0 (pairsAt t n (at + 4)) ≡ pairsPrint 0 (clusterAt t at)
+  take-pairs : (k n at : ℕ) → take k (pairsAt t n at) ≡ pairsAt t (min n k) at
+  unfolding pairsAt
+  take-pairs zero n at = let e : 0 ≡ min n 0 = omega arith in ap (λ (m : ℕ). pairsAt t m at) e
+  take-pairs (suc k) zero at = let e : 0 ≡ min 0 (suc k) = omega arith in ap (λ (m : ℕ). pairsAt t m at) e
+  take-pairs (suc k) (suc n) at =
+      let e : suc (min n k) ≡ min (suc n) (suc k) = omega arith in
+      ap (λ (l : List Pair). pairAt t at ∷ l) (take-pairs k n (at + 24)) ∙ ap (λ (m : ℕ). pairsAt t m at) e
+
+  pub print-all : (at n left : ℕ) → n ≡ u32At t at → left ≡ min n 4 → pairsPrint n (pairsAt t left (at + 4)) ≡ clusterPrint (clusterAt t at)
   unfolding clusterAt
-  print-all at n e = ap (λ (k : ℕ). pairsPrint 0 (pairsAt t k (at + 4))) e
+  print-all at n left e f =
+      ap (λ (m : ℕ). pairsPrint n (pairsAt t m (at + 4))) f
+      ∙ ap₂ pairsPrint (sym (pairs-length t n (at + 4))) (sym (take-pairs 4 n (at + 4)))
+      ∙ ap (λ (m : ℕ). clusterPrint (pairsAt t m (at + 4))) e

@@ -1,6 +1,7 @@
 -- A number below 1,021 for a cluster, the same for clusters that are the same: it tells where to look for one.
 use Prim.Native.Nat.{ℕ, _+_, _*_, _%_}
 use mathlib.Core.List.{List, [], _∷_}
+use lib.ListN.{length, take}
 use Rattle.fields.specs.Field.{u16At, u32At}
 use Rattle.units.specs.Fixed.{fixedSize}
 use Rattle.units.specs.Flags.{keptFlags}
@@ -21,7 +22,11 @@ limitsPrint l = l .grow + 3 * l .shrink
 abbrev pub pairPrint : Pair → ℕ
 pairPrint p = 17 * p .class + (limitsPrint (p .before) + 5 * limitsPrint (p .after)) + (11 * p .flags .grow + 13 * p .flags .shrink)
 
--- that of pairs, after others whose number is given
+-- that of pairs, after others or a count whose number is given
 unfoldable pub pairsPrint : ℕ → List Pair → ℕ
 pairsPrint print [] = print % 1021
 pairsPrint print (p ∷ ps) = pairsPrint ((31 * print + pairPrint p) % 4294967296) ps
+
+-- that of a cluster: by its count and its first four pairs
+abbrev pub clusterPrint : List Pair → ℕ
+clusterPrint ps = pairsPrint (length ps) (take 4 ps)

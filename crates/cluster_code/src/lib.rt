@@ -4,7 +4,7 @@
 // written alike, whatever their ignored bits and the signs of their shrink limits.
 ghost use mathlib.Core.Path.{_≡_};
 ghost use mathlib.Core.List.{_++_};
-ghost use Prim.Native.Nat.{_+_, _*_, _<_, _^_};
+ghost use Prim.Native.Nat.{_+_, _*_, _<_, _^_, min};
 ghost use lib.ListN.{length};
 ghost use lib.Seq.{sets};
 ghost use Rattle.fields.specs.Field.{be16, be32};
@@ -12,7 +12,7 @@ ghost use Rattle.lists.specs.Codes.{many, counted};
 ghost use Rattle.meaning.specs.Sheet.{pairCode};
 ghost use Rattle.lists.specs.Tests.{Says};
 ghost use Rattle.cluster.specs.Pairs.{pairAt, pairsAt, clusterAt};
-ghost use Rattle.cluster_code.specs.Print.{limitsAt, flagsAt, limitsPrint, pairPrint, pairsPrint};
+ghost use Rattle.cluster_code.specs.Print.{limitsAt, flagsAt, limitsPrint, pairPrint, clusterPrint};
 use parts::Flags;
 use parts::Limits;
 
@@ -133,13 +133,22 @@ fn pair_print(table: &[u8], at: usize) -> usize
     17 * (cluster::class_at(table, at) as usize) + sides + marks
 }
 
-// A number below 1,021 for the cluster at a position, the same for the same clusters.
-pub fn cluster_print(table: &[u8], at: u16) -> usize
-    ensures { λ r. ⌜ (r ≡ pairsPrint 0 (clusterAt (now (table .entry)) at)) × (r < 1021) ⌝ }
+// How many of a cluster's pairs count for its print.
+fn printed_pairs(count: usize) -> usize
+    ensures { λ r. ⌜ r ≡ min count 4 ⌝ }
 {
-    let mut left = fields::u32_at(table, at as usize);
+    if count < 4 { count } else { 4 }
+}
+
+// A number below 1,021 for the cluster at a position, the same for the same clusters: by its count and its first four pairs,
+// since clusters that begin alike share few bytes of a table, their classes rising.
+pub fn cluster_print(table: &[u8], at: u16) -> usize
+    ensures { λ r. ⌜ (r ≡ clusterPrint (clusterAt (now (table .entry)) at)) × (r < 1021) ⌝ }
+{
+    let count = fields::u32_at(table, at as usize);
+    let mut left = printed_pairs(count);
     let mut first = at as usize + 4;
-    let mut print: usize = 0;
+    let mut print = count;
     while 0 < left {
         print = (31 * print + pair_print(table, first)) % 4294967296;
         first += 24;

@@ -9,7 +9,7 @@ use Rattle.meaning.specs.Discrete.{cluster-discrete, list-discrete}
 use Rattle.meaning.specs.Sheet.{pairCode, actionCode}
 use Rattle.cluster.specs.Pairs.{clusterAt}
 use Rattle.actions.specs.Actions.{listAt}
-use Rattle.cluster_code.specs.Print.{pairsPrint}
+use Rattle.cluster_code.specs.Print.{clusterPrint}
 use Rattle.list_code.specs.Print.{actionsPrint}
 use Rattle.values.specs.declared.Kind.{Kind}
 use Rattle.values.specs.declared.Kind.the-variants.{Clusters, Lists}
@@ -41,5 +41,5 @@ itemCode Lists = counted actionCode
 
 -- a number below 1,021, the same for items that are the same: it tells where to look for one
 unfoldable pub itemPrint : (kind : Kind) → Item kind → ℕ
-itemPrint Clusters = pairsPrint 0
+itemPrint Clusters = clusterPrint
 itemPrint Lists = actionsPrint 0

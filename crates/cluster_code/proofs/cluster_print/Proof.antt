@@ -1,6 +1,6 @@
 use borrow.Author.Needs.{needs}
 use Rattle.cluster_code.proofs.Laws.{print-more, print-none, print-all}
-use Rattle.cluster_code.specs.Print.{pairsPrint}
+use Rattle.cluster_code.specs.Print.{pairsPrint, clusterPrint}
 use Rattle.cluster.specs.Pairs.{pairsAt, clusterAt}
 use native.Mathlib.Omega.{arith}
 use mathlib.Core.Path.{_≡_, sym, _∙_}
@@ -10,62 +10,70 @@ use Rattle.cluster_code.proofs.cluster_print.Tie as tie
 use Rattle.cluster_code.proofs.cluster_print.Reads as reads
 use Rattle.cluster_code.proofs.cluster_print.Lts as lts
 use Rattle.cluster_code.proofs.pair_print.Reads as pair-print-reads
+use Rattle.cluster_code.proofs.printed_pairs.Reads as printed-pairs-reads
 use Rattle.fields.proofs.u32_at.Reads as u32-at-reads
 
 abbrev Inv-loop : tie.InvT-loop
-Inv-loop table at left₀ first₀ print₀ left first print =
-    (first + 24 * left < 2 ^ 60) × (print < 4294967296) × (pairsPrint print (pairsAt table left first) ≡ pairsPrint 0 (clusterAt table at))
+Inv-loop table at count left₀ first₀ print₀ left first print =
+    (first + 24 * left < 2 ^ 60) × (print < 4294967296) × (pairsPrint print (pairsAt table left first) ≡ clusterPrint (clusterAt table at))
 
 abbrev μ-loop : tie.MeasureT-loop
-μ-loop table at left₀ first₀ print₀ left first print = left
+μ-loop table at count left₀ first₀ print₀ left first print = left
 
--- src/lib.rt:140:9
+-- src/lib.rt:148:9
 u32-at-requires : tie.Need-u32-at-requires Inv-loop μ-loop
 u32-at-requires c κs = search needs
 
--- src/lib.rt:141:21
+-- src/lib.rt:149:9
+printed-pairs-requires : tie.Need-printed-pairs-requires Inv-loop μ-loop
+printed-pairs-requires c κs = search needs
+
+-- src/lib.rt:150:21
 add-first : tie.Need-add-first Inv-loop μ-loop
 add-first c = search needs
 
--- src/lib.rt:143:5
+-- src/lib.rt:152:5
 loop-holds : tie.Need-loop-holds Inv-loop μ-loop
-loop-holds c = (omega (arith, (c .u32-at) .ensures .1), omega arith, print-all (c .before .before .args .table .now) (c .before .before .args .at) ((c .u32-at) .result) ((c .u32-at) .ensures .0))
+loop-holds c =
+    let a = c .before .before .before .args in
+    let n = c .before .u32-at in
+    (omega (arith, c .printed-pairs .ensures), omega (arith, n .ensures .1), print-all (a .table .now) (a .at) (n .result) (c .printed-pairs .result) (n .ensures .0) (c .printed-pairs .ensures))
 
--- src/lib.rt:144:18
+-- src/lib.rt:153:18
 mul-print : tie.Need-mul-print Inv-loop μ-loop
 mul-print c = search needs
 
--- src/lib.rt:144:31
+-- src/lib.rt:153:31
 pair-print-requires : tie.Need-pair-print-requires Inv-loop μ-loop
 pair-print-requires c κs = search needs
 
--- src/lib.rt:144:18
+-- src/lib.rt:153:18
 add-print : tie.Need-add-print Inv-loop μ-loop
 add-print c = search needs
 
--- src/lib.rt:145:9
+-- src/lib.rt:154:9
 add-first-2 : tie.Need-add-first-2 Inv-loop μ-loop
 add-first-2 c = search needs
 
--- src/lib.rt:146:9
+-- src/lib.rt:155:9
 sub-left : tie.Need-sub-left Inv-loop μ-loop
 sub-left c = search needs
 
--- src/lib.rt:143:5
+-- src/lib.rt:152:5
 loop-less : tie.Need-loop-less Inv-loop μ-loop
 loop-less c = search needs
 
--- src/lib.rt:143:5
+-- src/lib.rt:152:5
 loop-again : tie.Need-loop-again Inv-loop μ-loop
 loop-again c =
     let l = c .before .before .loop in
-    (omega arith, omega arith, print-more (c .before .before .before .before .before .args .table .now) (l .left) (l .first) (l .print) (c .pair-print .result) (omega arith) (c .pair-print .ensures .0) ∙ l .inv .2)
+    (omega arith, omega arith, print-more (c .before .before .before .before .before .before .args .table .now) (l .left) (l .first) (l .print) (c .pair-print .result) (omega arith) (c .pair-print .ensures .0) ∙ l .inv .2)
 
--- src/lib.rt:137:1
+-- src/lib.rt:145:1
 returns : tie.Need-returns Inv-loop μ-loop
 returns c =
     let l = c .before .loop in
-    (sym (print-none (c .before .before .before .before .args .table .now) (l .left) (l .first) (l .print) (omega arith)) ∙ l .inv .2, omega arith)
+    (sym (print-none (c .before .before .before .before .before .args .table .now) (l .left) (l .first) (l .print) (omega arith)) ∙ l .inv .2, omega arith)
 
 pub cluster-print-spec : {M : Type 1} → statement M
 cluster-print-spec =
@@ -74,6 +82,7 @@ cluster-print-spec =
     Inv-loop
     μ-loop
     u32-at-requires
+    printed-pairs-requires
     add-first
     loop-holds
     mul-print
