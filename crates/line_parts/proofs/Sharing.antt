@@ -29,9 +29,6 @@ module _ {ps : List Glyph} {ks us bs cs : List ℕ} (w : Laid ps ks us bs cs) wh
   pub laid-marks : length ks ≡ length ps
   laid-marks = count (λ (g : Glyph). g .stage) (w .marks)
 
-  pub laid-extras : length us ≡ length ks
-  laid-extras = count (λ (g : Glyph). g .extra) (w .extras) ∙ sym laid-marks
-
   pub laid-parts : Parts (length ks) ks bs cs
   laid-parts =
       record {
@@ -49,8 +46,8 @@ module _ {ps : List Glyph} {ks us bs cs : List ℕ} (w : Laid ps ks us bs cs) wh
       ∙ glyphsOf-parts ps
 
   -- refusal 15's test
-  pub laid-fits : {r : Bool} → ((us : List ℕ) → length us ≡ length ks → r ≡ lineFits (glyphsOf ks us bs cs)) → lineFits ps ≡ r
-  laid-fits e = sym (e us laid-extras ∙ ap lineFits laid-glyphs)
+  pub laid-fits : {r : Bool} → r ≡ lineFits (glyphsOf ks us bs cs) → lineFits ps ≡ r
+  laid-fits e = sym (e ∙ ap lineFits laid-glyphs)
 
 -- no more is left than the gap
 pub left-small : (ps : List Glyph) (gap : ℕ) → lineLeft ps gap ≤ gap

@@ -218,8 +218,19 @@ fn share_parts(
         first,
         second,
     );
-    if share::totals_fit(marks, first, second) {
-        let left = share::share_line(shrink, gap, marks, extras, first, second, before, after);
+    let totals = share::line_totals(marks, first, second);
+    if share::totals_fit(totals) {
+        let left = share::share_line(
+            shrink,
+            gap,
+            totals,
+            marks,
+            extras,
+            first,
+            second,
+            before,
+            after,
+        );
         return Shared::Left(share::signed(shrink, left));
     }
     Shared::Over

@@ -9,4 +9,5 @@ pub mod Stages
 pub mod Signs
 pub mod Fill
 pub mod Lines
+pub mod Sums
 pub mod Samples

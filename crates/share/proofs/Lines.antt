@@ -12,7 +12,7 @@ use lib.ListN.{length, drop, take, getD, replicate}
 use borrow.Author.Tests.{le-leb, lt-leb, leb-true}
 use Rattle.share.specs.Share.{total, still, plus, stages, goesBack, noPart, movements, remainder, most, within}
 use Rattle.share.specs.Line.{Glyph, apart, sideStages, sideFactors, sideExtras, evens, odds, lineMoves, beforeMoves, afterMoves, lineLeft, lineFits, signedOf, glyphsOf, Parts, Lent, nothingMoves, sumℤ}
-use Rattle.share.specs.Inner.{weave, factorsAt, lineOf, Moved, stageCount, Fit}
+use Rattle.share.specs.Inner.{weave, factorsAt, lineOf, Moved, stageCount}
 use Rattle.share.proofs.Lists.{length-still}
 use Rattle.share.proofs.Theory.{sum-is-gap, length-movesBy, no-part-still, both, remainder-is}
 use Rattle.share.proofs.Halves.{total-halves, length-halves, getD-evens, getD-odds, length-weave}
@@ -96,8 +96,8 @@ module _ (ks bs cs : List ℕ) where
   tails zero h e = e
   tails (suc s) h e = rw (add-one) at (split s h (tails s (omega arith) e) .1)
 
-  pub fit : within (weave ks ks) (weave bs cs) stages ≡ true → Fit ks bs cs
-  fit e = record { at = λ s h. leb-true (total (factorsAt s ks bs cs)) most (split s h (tails s (omega arith) e) .0) }
+  pub fit-low : within (weave ks ks) (weave bs cs) stages ≡ true → (s : ℕ) → s < stageCount → total (factorsAt s ks bs cs) ≤ most
+  fit-low e s h = leb-true (total (factorsAt s ks bs cs)) most (split s h (tails s (omega arith) e) .0)
 
 -- ---- from nothing
 

@@ -2,12 +2,12 @@
 use mathlib.Core.Path.{_≡_, refl, sym, ap, _∙_}
 use mathlib.Core.List.{List, [], _∷_}
 use mathlib.Core.Bool.{Bool, true, false, cond}
-use Prim.Native.Nat.{ℕ, zero, suc, _+_, _-_, _≤_, _<_, min}
+use Prim.Native.Nat.{ℕ, zero, suc, _+_, _-_, _≤_, _<_}
 use native.Mathlib.Omega.{arith}
 use lib.Dec.{leb, ltb, eqb}
 use lib.ListN.{length}
 use borrow.Author.Tests.{lt-ltb, le-ltb, le-leb, lt-leb}
-use Rattle.share.specs.Share.{total, plus, shareAt, sharesFrom, shares, stageMoves, stageLeft, most}
+use Rattle.share.specs.Share.{total, plus, shareAt, sharesFrom, shares, stageMoves, stageLeft}
 use Rattle.share.specs.Line.{evens, odds, Lent, Parts}
 use Rattle.share.specs.Inner.{factorsAt, extrasAt, Moved, Sides}
 use Rattle.share.proofs.Lists.{plus-nothing, length-shares, no-shares, share-none}
@@ -87,7 +87,3 @@ unfolding stageMoves stageLeft
 stage-within r {t} f u e h m =
     let b : leb r (total f) ≡ true = le-leb r (total f) (omega arith) in
     (rw b refl, rw b m)
-
--- the stage's own total, where it is within the limit
-pub exact : {t : ℕ} (f : List ℕ) → t ≡ min (total f) (most + 1) → total f ≤ most → t ≡ total f
-exact f e h = omega arith

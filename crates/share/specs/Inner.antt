@@ -1,6 +1,6 @@
 -- Names for the contracts of the functions inside the crate: the sides of glyphs whose parts stand in lists, the running state of step 1's formula, and
 -- what is added to the movements.
-use Prim.Native.Nat.{ℕ, _+_, _*_, _/_, _≤_, _<_, _^_}
+use Prim.Native.Nat.{ℕ, zero, suc, _+_, _*_, _/_, _≤_, _<_, _^_}
 use mathlib.Core.Path.{_≡_}
 use mathlib.Core.List.{List, [], _∷_}
 use lib.ListN.{length}
@@ -8,6 +8,7 @@ use Rattle.share.specs.Share.{total, still, plus, ofStage, shareAt, most
 use Rattle.share.specs.Line.{evens, odds}
 use Rattle.share.specs.declared.Running.{Running}
 use Rattle.share.specs.declared.Step.{Step}
+use Rattle.share.specs.declared.Totals.{Totals}
 
 -- ---- sides
 
@@ -64,12 +65,28 @@ pub record Sides (n : ℕ) (bs cs : List ℕ) : Type 0 where
   pub before : length bs ≡ n
   pub after : length cs ≡ n
 
--- no stage's total is above the most that it may be
+-- ---- the totals of the stages
+
 abbrev pub stageCount : ℕ
 stageCount = 3
 
-pub record Fit (ks bs cs : List ℕ) : Type 0 where
-  pub at : (s : ℕ) → s < stageCount → total (factorsAt s ks bs cs) ≤ most
+abbrev pub totalAt : Totals → ℕ → ℕ
+totalAt ts zero = ts .zero
+totalAt ts (suc zero) = ts .one
+totalAt ts (suc (suc s)) = ts .two
+
+-- what is found of a total: itself where it is no more than it may be, else some number above that
+pub record Told (found sum : ℕ) : Type 0 where
+  pub exact : sum ≤ most → found ≡ sum
+  pub over : most < sum → most < found
+
+pub record TotalsOf (ts : Totals) (ks bs cs : List ℕ) : Type 0 where
+  pub at : (s : ℕ) → s < stageCount → Told (totalAt ts s) (total (factorsAt s ks bs cs))
+
+-- these are the totals, and none is above the most that it may be
+pub record Fit (ts : Totals) (ks bs cs : List ℕ) : Type 0 where
+  pub exact : (s : ℕ) → s < stageCount → totalAt ts s ≡ total (factorsAt s ks bs cs)
+  pub low : (s : ℕ) → s < stageCount → totalAt ts s ≤ most
 
 -- the whole rule on lists of glyphs
 abbrev pub lineOf : {A : Type 0} → (List ℕ → List ℕ → List ℕ → A) → List ℕ → List ℕ → List ℕ → List ℕ → A

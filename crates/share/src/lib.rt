@@ -4,12 +4,12 @@
 ghost use mathlib.Core.Path.{_≡_};
 ghost use Prim.Native.Nat.{ℕ, _+_, _≤_, _<_, _^_, min};
 ghost use lib.ListN.{length, replicate};
-ghost use lib.Dec.{ltb};
+ghost use lib.Dec.{eqb, ltb};
 ghost use mathlib.Core.Bool.{true, cond};
 ghost use mathlib.Core.List.{List, map};
 ghost use Rattle.share.specs.Share.{total, most, plus, shares, stages, stageMoves, stageLeft, stagesMoves, stagesLeft, backMoves, backLeft, movements, remainder};
 ghost use Rattle.share.specs.Line.{evens, odds, glyphsOf, lineLeft, lineFits, beforeMoves, afterMoves, signedOf, Parts, Lent};
-ghost use Rattle.share.specs.Inner.{weave, factorsAt, extrasAt, lineOf, Runs, Ready, Stepped, Moved, Holds, Sides, Fit};
+ghost use Rattle.share.specs.Inner.{weave, factorsAt, extrasAt, lineOf, Runs, Ready, Stepped, Moved, Holds, Sides, stageCount, totalAt, TotalsOf, Fit};
 
 // The most that a stage's total may be.
 const MOST: u64 = 8589934592;
@@ -68,76 +68,103 @@ fn next_share(run: Running, weight: u64) -> Step
     }
 }
 
-// `sum + more`, or one more than the most that a stage's total may be where it is above that.
-fn capped(sum: u64, more: u64) -> u64
-    requires { ⌜ sum ≤ most + 1 ⌝ }
-    ensures { λ r. ⌜ r ≡ min (sum + more) (most + 1) ⌝ }
-{
-    if MOST + 1 - sum < more {
-        return MOST + 1;
-    }
-    sum + more
+// The totals of a line's stages 0, 1 and 2. In the place of one above the most that it may be stands some number above that.
+pub struct Totals {
+    pub zero: u64,
+    pub one: u64,
+    pub two: u64,
 }
 
-// A stage's total, or one more than the most that it may be where it is above that.
-fn stage_total(stage: u8, marks: &[u8], first: &[u64], second: &[u64]) -> u64
-    requires { ⌜ Parts (length (now marks)) (now marks) (now first) (now second) ⌝ }
-    ensures { λ r. ⌜ r ≡ min (total (factorsAt stage (now (marks .entry)) (now (first .entry)) (now (second .entry)))) (most + 1) ⌝ }
+// A stage's total.
+fn total_of(totals: Totals, stage: u8) -> u64
+    requires { ⌜ stage < stageCount ⌝ }
+    ensures { λ r. ⌜ r ≡ totalAt totals stage ⌝ }
 {
-    let mut sum: u64 = 0;
+    if stage == 0 {
+        return totals.zero;
+    }
+    if stage == 1 {
+        return totals.one;
+    }
+    totals.two
+}
+
+// A factor, or one more than the most that a stage's total may be where it is above that: enough for refusal 15, and the sums
+// of a line's factors stay small.
+fn cut(factor: u64) -> u64
+    ensures { λ r. ⌜ r ≡ min factor (most + 1) ⌝ }
+{
+    if MOST < factor { MOST + 1 } else { factor }
+}
+
+// What a glyph of this mark adds to a stage's total.
+fn added(mark: u8, stage: u8, more: u64) -> u64
+    ensures { λ r. ⌜ (r ≡ cond (eqb mark stage) more 0) × (r ≤ more) ⌝ }
+{
+    if mark == stage { more } else { 0 }
+}
+
+// The totals of a line's stages.
+pub fn line_totals(marks: &[u8], first: &[u64], second: &[u64]) -> Totals
+    requires { ⌜ Parts (length (now marks)) (now marks) (now first) (now second) × (length (now marks) ≤ 1024) ⌝ }
+    ensures { λ r. ⌜ TotalsOf r (now (marks .entry)) (now (first .entry)) (now (second .entry)) ⌝ }
+{
+    let mut zero: u64 = 0;
+    let mut one: u64 = 0;
+    let mut two: u64 = 0;
     let mut i = 0;
     while i < marks.len() {
-        if marks[i] == stage {
-            sum = capped(capped(sum, first[i]), second[i]);
-            i += 1;
-        } else {
-            i += 1;
-        }
+        let mark = marks[i];
+        let more = cut(first[i]) + cut(second[i]);
+        zero += added(mark, 0, more);
+        one += added(mark, 1, more);
+        two += added(mark, 2, more);
+        i += 1;
     }
-    sum
+    Totals { zero, one, two }
 }
 
-// How much extra weight the glyphs of a stage have: the number of unlimited ones.
-fn stage_extras(stage: u8, marks: &[u8], extras: &[u8]) -> u64
-    requires { ⌜ (length (now extras) ≡ length (now marks)) × (length (now marks) ≤ 1024) ⌝ }
-    ensures { λ r. ⌜ (r ≡ total (extrasAt stage (now (marks .entry)) (now (extras .entry)))) × (r ≤ most) ⌝ }
+// Refusal 15's test: whether no stage's total is above the most that it may be.
+pub fn totals_fit(totals: Totals) -> bool
+    ensures { λ r. ⌜ ((ks us bs cs : List ℕ) → Lent (length ks) ks us bs cs → TotalsOf totals ks bs cs → r ≡ lineFits (glyphsOf ks us bs cs)) ⌝ }
 {
-    let mut sum: u64 = 0;
-    let mut i = 0;
-    while i < marks.len() {
-        if marks[i] == stage {
-            sum += extras[i] as u64;
-            i += 1;
-        } else {
-            i += 1;
-        }
+    if MOST < totals.zero {
+        return false;
     }
-    sum
+    if MOST < totals.one {
+        return false;
+    }
+    totals.two <= MOST
 }
 
-// Adds to the sides of a stage their factors.
+// Adds to the sides of a stage their factors; answers how much extra weight its glyphs have: the number of unlimited ones.
 fn give_all(
     stage: u8,
     marks: &[u8],
+    extras: &[u8],
     first: &[u64],
     second: &[u64],
     before: &mut [u64],
     after: &mut [u64],
-)
-    requires { ⌜ Parts (length (now marks)) (now marks) (now first) (now second) × Sides (length (now marks)) (now before) (now after) ⌝ }
+) -> u64
+    requires { ⌜ Lent (length (now marks)) (now marks) (now extras) (now first) (now second) × Sides (length (now marks)) (now before) (now after) ⌝ }
     requires { ⌜ Holds (total (factorsAt stage (now marks) (now first) (now second))) (now before) (now after) ⌝ }
+    ensures { λ r. ⌜ (r ≡ total (extrasAt stage (now (marks .entry)) (now (extras .entry)))) × (r ≤ most) ⌝ }
     ensures { λ r. ⌜ Moved (factorsAt stage (now (marks .entry)) (now (first .entry)) (now (second .entry))) (now (before .entry)) (now (after .entry)) (now (before .exit)) (now (after .exit)) ⌝ }
 {
+    let mut unlimited: u64 = 0;
     let mut i = 0;
     while i < marks.len() {
         if marks[i] == stage {
             before[i] += first[i];
             after[i] += second[i];
+            unlimited += extras[i] as u64;
             i += 1;
         } else {
             i += 1;
         }
     }
+    unlimited
 }
 
 // Adds to the sides of a stage their shares of the amount, by their factors, whose total is `over`.
@@ -195,14 +222,20 @@ fn give_extra(amount: u64, over: u64, stage: u8, marks: &[u8], extras: &[u8], af
     }
 }
 
-// Shares what is left past a stage's factors over its unlimited glyphs; answers what is left then.
-fn share_extra(left: u64, stage: u8, marks: &[u8], extras: &[u8], after: &mut [u64]) -> u64
-    requires { ⌜ (length (now extras) ≡ length (now marks)) × (length (now marks) ≤ 1024) × (length (now after) ≡ length (now marks)) ⌝ }
-    requires { ⌜ (left ≤ 1073741823) × (total (now after) + left < 2 ^ 63) ⌝ }
+// Shares what is left past a stage's factors over its unlimited glyphs, `over` in number; answers what is left then.
+fn share_extra(
+    left: u64,
+    over: u64,
+    stage: u8,
+    marks: &[u8],
+    extras: &[u8],
+    after: &mut [u64],
+) -> u64
+    requires { ⌜ (length (now extras) ≡ length (now marks)) × (length (now after) ≡ length (now marks)) ⌝ }
+    requires { ⌜ (left ≤ 1073741823) × (total (now after) + left < 2 ^ 63) × (over ≡ total (extrasAt stage (now marks) (now extras))) × (over ≤ most) ⌝ }
     ensures { λ r. ⌜ r ≡ cond (ltb 0 (total (extrasAt stage (now (marks .entry)) (now (extras .entry))))) 0 left ⌝ }
     ensures { λ r. ⌜ now (after .exit) ≡ plus (now (after .entry)) (odds (shares left (extrasAt stage (now (marks .entry)) (now (extras .entry))))) ⌝ }
 {
-    let over = stage_extras(stage, marks, extras);
     if over == 0 {
         return left;
     }
@@ -210,9 +243,10 @@ fn share_extra(left: u64, stage: u8, marks: &[u8], extras: &[u8], after: &mut [u
     0
 }
 
-// Steps 1 and 2 for one stage: adds its movements; answers what is left.
+// Steps 1 and 2 for one stage, whose total is `over`: adds its movements; answers what is left.
 fn share_stage(
     left: u64,
+    over: u64,
     stage: u8,
     marks: &[u8],
     extras: &[u8],
@@ -222,25 +256,25 @@ fn share_stage(
     after: &mut [u64],
 ) -> u64
     requires { ⌜ Lent (length (now marks)) (now marks) (now extras) (now first) (now second) × Sides (length (now marks)) (now before) (now after) ⌝ }
-    requires { ⌜ Holds left (now before) (now after) × (total (factorsAt stage (now marks) (now first) (now second)) ≤ most) ⌝ }
+    requires { ⌜ Holds left (now before) (now after) × (over ≡ total (factorsAt stage (now marks) (now first) (now second))) × (over ≤ most) ⌝ }
     ensures { λ r. ⌜ r ≡ stageLeft left (factorsAt stage (now (marks .entry)) (now (first .entry)) (now (second .entry))) (extrasAt stage (now (marks .entry)) (now (extras .entry))) ⌝ }
     ensures { λ r. ⌜ Moved (stageMoves left (factorsAt stage (now (marks .entry)) (now (first .entry)) (now (second .entry))) (extrasAt stage (now (marks .entry)) (now (extras .entry)))) (now (before .entry)) (now (after .entry)) (now (before .exit)) (now (after .exit)) ⌝ }
 {
     if left == 0 {
         return 0;
     }
-    let over = stage_total(stage, marks, first, second);
     if left <= over {
         give(left, over, stage, marks, first, second, before, after);
         return 0;
     }
-    give_all(stage, marks, first, second, before, after);
-    share_extra(left - over, stage, marks, extras, after)
+    let unlimited = give_all(stage, marks, extras, first, second, before, after);
+    share_extra(left - over, unlimited, stage, marks, extras, after)
 }
 
 // The stages in turn: adds their movements; answers what the last one leaves.
 fn share_stages(
     gap: u64,
+    totals: Totals,
     marks: &[u8],
     extras: &[u8],
     first: &[u64],
@@ -249,14 +283,25 @@ fn share_stages(
     after: &mut [u64],
 ) -> u64
     requires { ⌜ Lent (length (now marks)) (now marks) (now extras) (now first) (now second) × Sides (length (now marks)) (now before) (now after) ⌝ }
-    requires { ⌜ Holds gap (now before) (now after) × Fit (now marks) (now first) (now second) ⌝ }
+    requires { ⌜ Holds gap (now before) (now after) × Fit totals (now marks) (now first) (now second) ⌝ }
     ensures { λ r. ⌜ r ≡ lineOf stagesLeft (now (marks .entry)) (now (extras .entry)) (now (first .entry)) (now (second .entry)) stages gap ⌝ }
     ensures { λ r. ⌜ Moved (lineOf stagesMoves (now (marks .entry)) (now (extras .entry)) (now (first .entry)) (now (second .entry)) stages gap) (now (before .entry)) (now (after .entry)) (now (before .exit)) (now (after .exit)) ⌝ }
 {
     let mut left = gap;
     let mut stage: u8 = 0;
     while stage < STAGES {
-        left = share_stage(left, stage, marks, extras, first, second, before, after);
+        let over = total_of(totals, stage);
+        left = share_stage(
+            left,
+            over,
+            stage,
+            marks,
+            extras,
+            first,
+            second,
+            before,
+            after,
+        );
         stage += 1;
     }
     left
@@ -265,6 +310,7 @@ fn share_stages(
 // Step 3: adds what is left to the first stage with a total above 0; answers the remainder.
 fn go_back(
     left: u64,
+    totals: Totals,
     marks: &[u8],
     first: &[u64],
     second: &[u64],
@@ -272,7 +318,7 @@ fn go_back(
     after: &mut [u64],
 ) -> u64
     requires { ⌜ Parts (length (now marks)) (now marks) (now first) (now second) × Sides (length (now marks)) (now before) (now after) ⌝ }
-    requires { ⌜ Holds left (now before) (now after) × Fit (now marks) (now first) (now second) ⌝ }
+    requires { ⌜ Holds left (now before) (now after) × Fit totals (now marks) (now first) (now second) ⌝ }
     ensures { λ r. ⌜ r ≡ backLeft (weave (now (marks .entry)) (now (marks .entry))) (weave (now (first .entry)) (now (second .entry))) stages left ⌝ }
     ensures { λ r. ⌜ Moved (backMoves (weave (now (marks .entry)) (now (marks .entry))) (weave (now (first .entry)) (now (second .entry))) stages left) (now (before .entry)) (now (after .entry)) (now (before .exit)) (now (after .exit)) ⌝ }
 {
@@ -281,7 +327,7 @@ fn go_back(
     }
     let mut stage: u8 = 0;
     while stage < STAGES {
-        let over = stage_total(stage, marks, first, second);
+        let over = total_of(totals, stage);
         if 0 < over {
             give(left, over, stage, marks, first, second, before, after);
             return 0;
@@ -294,6 +340,7 @@ fn go_back(
 // The whole rule on sizes: adds the movements; answers the remainder.
 fn share_sizes(
     gap: u64,
+    totals: Totals,
     marks: &[u8],
     extras: &[u8],
     first: &[u64],
@@ -302,12 +349,12 @@ fn share_sizes(
     after: &mut [u64],
 ) -> u64
     requires { ⌜ Lent (length (now marks)) (now marks) (now extras) (now first) (now second) × Sides (length (now marks)) (now before) (now after) ⌝ }
-    requires { ⌜ Holds gap (now before) (now after) × Fit (now marks) (now first) (now second) ⌝ }
+    requires { ⌜ Holds gap (now before) (now after) × Fit totals (now marks) (now first) (now second) ⌝ }
     ensures { λ r. ⌜ r ≡ lineOf remainder (now (marks .entry)) (now (extras .entry)) (now (first .entry)) (now (second .entry)) gap ⌝ }
     ensures { λ r. ⌜ Moved (lineOf movements (now (marks .entry)) (now (extras .entry)) (now (first .entry)) (now (second .entry)) gap) (now (before .entry)) (now (after .entry)) (now (before .exit)) (now (after .exit)) ⌝ }
 {
-    let left = share_stages(gap, marks, extras, first, second, before, after);
-    go_back(left, marks, first, second, before, after)
+    let left = share_stages(gap, totals, marks, extras, first, second, before, after);
+    go_back(left, totals, marks, first, second, before, after)
 }
 
 // A size with the gap's sign.
@@ -335,6 +382,7 @@ fn copy_signed(shrink: bool, from: &[u64], to: &mut [i32])
 fn share_in(
     shrink: bool,
     gap: u64,
+    totals: Totals,
     marks: &[u8],
     extras: &[u8],
     first: &[u64],
@@ -344,24 +392,26 @@ fn share_in(
     before: &mut [i32],
     after: &mut [i32],
 ) -> u64
-    requires { ⌜ Lent (length (now marks)) (now marks) (now extras) (now first) (now second) × (gap ≤ 1073741823) × Fit (now marks) (now first) (now second) ⌝ }
+    requires { ⌜ Lent (length (now marks)) (now marks) (now extras) (now first) (now second) × (gap ≤ 1073741823) × Fit totals (now marks) (now first) (now second) ⌝ }
     requires { ⌜ (now befores ≡ replicate (length (now marks)) 0) × (now afters ≡ replicate (length (now marks)) 0) ⌝ }
     requires { ⌜ (length (now before) ≡ length (now marks)) × (length (now after) ≡ length (now marks)) ⌝ }
     ensures { λ r. ⌜ r ≡ lineOf remainder (now (marks .entry)) (now (extras .entry)) (now (first .entry)) (now (second .entry)) gap ⌝ }
     ensures { λ r. ⌜ now (before .exit) ≡ map (signedOf shrink) (evens (lineOf movements (now (marks .entry)) (now (extras .entry)) (now (first .entry)) (now (second .entry)) gap)) ⌝ }
     ensures { λ r. ⌜ now (after .exit) ≡ map (signedOf shrink) (odds (lineOf movements (now (marks .entry)) (now (extras .entry)) (now (first .entry)) (now (second .entry)) gap)) ⌝ }
 {
-    let left = share_sizes(gap, marks, extras, first, second, befores, afters);
+    let left = share_sizes(gap, totals, marks, extras, first, second, befores, afters);
     copy_signed(shrink, befores, before);
     copy_signed(shrink, afters, after);
     left
 }
 
 // A line's gap, given as its size, shared over the sides of its glyphs: the signed movements of each glyph into `before` and
-// `after`; answers the size of the remainder. No stage's total is above the most that it may be: see `totals_fit`.
+// `after`; answers the size of the remainder. The totals are the line's, see `line_totals`, and none is above the most that it
+// may be: see `totals_fit`.
 pub fn share_line(
     shrink: bool,
     gap: u64,
+    totals: Totals,
     marks: &[u8],
     extras: &[u8],
     first: &[u64],
@@ -371,7 +421,7 @@ pub fn share_line(
 ) -> u64
     requires { ⌜ Lent (length (now marks)) (now marks) (now extras) (now first) (now second) ⌝ }
     requires { ⌜ (length (now before) ≡ length (now marks)) × (length (now after) ≡ length (now marks)) ⌝ }
-    requires { ⌜ (gap ≤ 1073741823) × (lineFits (glyphsOf (now marks) (now extras) (now first) (now second)) ≡ true) ⌝ }
+    requires { ⌜ (gap ≤ 1073741823) × TotalsOf totals (now marks) (now first) (now second) × (lineFits (glyphsOf (now marks) (now extras) (now first) (now second)) ≡ true) ⌝ }
     ensures { λ r. ⌜ r ≡ lineLeft (glyphsOf (now (marks .entry)) (now (extras .entry)) (now (first .entry)) (now (second .entry))) gap ⌝ }
     ensures { λ r. ⌜ now (before .exit) ≡ map (signedOf shrink) (beforeMoves (glyphsOf (now (marks .entry)) (now (extras .entry)) (now (first .entry)) (now (second .entry))) gap) ⌝ }
     ensures { λ r. ⌜ now (after .exit) ≡ map (signedOf shrink) (afterMoves (glyphsOf (now (marks .entry)) (now (extras .entry)) (now (first .entry)) (now (second .entry))) gap) ⌝ }
@@ -384,6 +434,7 @@ pub fn share_line(
         return share_in(
             shrink,
             gap,
+            totals,
             marks,
             extras,
             first,
@@ -399,6 +450,7 @@ pub fn share_line(
     share_in(
         shrink,
         gap,
+        totals,
         marks,
         extras,
         first,
@@ -408,19 +460,4 @@ pub fn share_line(
         before,
         after,
     )
-}
-
-// Refusal 15's test: whether no stage's total is above the most that it may be, whichever glyphs are unlimited.
-pub fn totals_fit(marks: &[u8], first: &[u64], second: &[u64]) -> bool
-    requires { ⌜ Parts (length (now marks)) (now marks) (now first) (now second) ⌝ }
-    ensures { λ r. ⌜ ((us : List ℕ) → length us ≡ length (now (marks .entry)) → r ≡ lineFits (glyphsOf (now (marks .entry)) us (now (first .entry)) (now (second .entry)))) ⌝ }
-{
-    let mut stage: u8 = 0;
-    while stage < STAGES {
-        if MOST < stage_total(stage, marks, first, second) {
-            return false;
-        }
-        stage += 1;
-    }
-    true
 }

@@ -3,8 +3,8 @@ use native.Mathlib.Omega.{arith}
 use mir.Syntax.{w32}
 use mir.ValLaws.{toZ-ofZ}
 use mathlib.Core.List.{List}
-use mathlib.Core.Path.{ap, _∙_}
-use Rattle.share.specs.Line.{Glyph, lineFits, lineLeft, signedOf}
+use mathlib.Core.Path.{sym, ap, _∙_}
+use Rattle.share.specs.Line.{Glyph, lineLeft, signedOf}
 use Rattle.table.specs.Means.{meaningOf}
 use Rattle.meaning.specs.Ask.{sideOf}
 use Rattle.lines.specs.Line.{partsOf}
@@ -17,25 +17,32 @@ use Rattle.line_parts.proofs.share_parts.Tie as tie
 lay-parts-requires : tie.Need-lay-parts-requires
 lay-parts-requires c κs = search needs
 
+line-totals-requires : tie.Need-line-totals-requires
+line-totals-requires c κs = let w = c .before .before .before .before .before .before .before .before .before .before .before .lay-parts .ensures in
+    let a = c .before .before .before .before .before .before .before .before .before .before .before .before .before .before .before .before .before .before .before .before .before .before .before .args in
+    let q = parts-length (sideOf (a .direction) (meaningOf (a .table .now) (a .count))) (a .shrink) (a .size) (a .glyphs .now) (a .classes .now) (c .before .before .before .before .before .before .before .before .before .before .before .before .before .before .before .before .before .before .before .before .before .before .before .pre .0 .1) in
+    let m = laid-marks w in
+    (laid-parts w, omega (arith, c .before .before .before .before .before .before .before .before .before .before .before .before .before .before .before .before .before .before .before .before .before .before .before .pre .1 .1 .2))
+
 totals-fit-requires : tie.Need-totals-fit-requires
-totals-fit-requires c κs = laid-parts (c .before .before .before .before .before .before .before .before .before .before .before .lay-parts .ensures)
+totals-fit-requires c κs = search needs
 
 share-line-requires : tie.Need-share-line-requires
 share-line-requires c κs =
-    let a = c .before .before .before .before .before .before .before .before .before .before .before .before .before .before .before .before .before .before .before .before .before .before .before .before .before .before .before .before .before .before .before .args in
-    let p = c .before .before .before .before .before .before .before .before .before .before .before .before .before .before .before .before .before .before .before .before .before .before .before .before .before .before .before .before .before .before .before .pre in
-    let w = c .before .before .before .before .before .before .before .before .before .before .before .before .before .before .before .before .before .before .before .lay-parts .ensures in
+    let a = c .before .before .before .before .before .before .before .before .before .before .before .before .before .before .before .before .before .before .before .before .before .before .before .before .before .before .before .before .before .before .before .before .args in
+    let p = c .before .before .before .before .before .before .before .before .before .before .before .before .before .before .before .before .before .before .before .before .before .before .before .before .before .before .before .before .before .before .before .before .pre in
+    let w = c .before .before .before .before .before .before .before .before .before .before .before .before .before .before .before .before .before .before .before .before .lay-parts .ensures in
     let q = parts-length (sideOf (a .direction) (meaningOf (a .table .now) (a .count))) (a .shrink) (a .size) (a .glyphs .now) (a .classes .now) (p .0 .1) in
     let m = laid-marks w in
-    (laid-lent w (omega (arith, p .1 .1 .2)), ((omega (arith, p .1 .1 .0), omega (arith, p .1 .1 .1)), (p .1 .1 .3, ap lineFits (laid-glyphs w) ∙ laid-fits w (c .before .before .before .before .before .before .before .totals-fit .ensures) ∙ c .before .before .before .before .before .before .if1 .taken)))
+    let l = laid-lent w (omega (arith, p .1 .1 .2)) in
+    (l, ((omega (arith, p .1 .1 .0), omega (arith, p .1 .1 .1)), (p .1 .1 .3, c .before .before .before .before .before .before .before .before .line-totals .ensures, sym (c .before .before .before .before .before .before .before .totals-fit .ensures _ _ _ _ l (c .before .before .before .before .before .before .before .before .line-totals .ensures)) ∙ c .before .before .before .before .before .before .if1 .taken)))
 
 signed-requires : tie.Need-signed-requires
 signed-requires c κs =
-    let a = c .before .before .before .before .before .before .before .before .before .before .before .before .before .before .before .before .before .before .before .before .before .before .before .before .before .before .before .before .before .before .before .before .before .before .args in
-    let p = c .before .before .before .before .before .before .before .before .before .before .before .before .before .before .before .before .before .before .before .before .before .before .before .before .before .before .before .before .before .before .before .before .before .before .pre in
-    let w = c .before .before .before .before .before .before .before .before .before .before .before .before .before .before .before .before .before .before .before .before .before .before .lay-parts .ensures in
+    let a = c .before .before .before .before .before .before .before .before .before .before .before .before .before .before .before .before .before .before .before .before .before .before .before .before .before .before .before .before .before .before .before .before .before .before .before .args in
+    let w = c .before .before .before .before .before .before .before .before .before .before .before .before .before .before .before .before .before .before .before .before .before .before .before .lay-parts .ensures in
     let e = c .before .before .share-line .ensures .0 ∙ ap (λ (x : List Glyph). lineLeft x (a .gap)) (laid-glyphs w) in
-    omega (arith, p .1 .1 .3, left-small (partsOf (sideOf (a .direction) (meaningOf (a .table .now) (a .count))) (a .shrink) (a .size) (a .glyphs .now) (a .classes .now)) (a .gap))
+    omega (arith, c .before .before .before .before .before .before .before .before .before .before .before .before .before .before .before .before .before .before .before .before .before .before .before .before .before .before .before .before .before .before .before .before .before .before .before .pre .1 .1 .3, left-small (partsOf (sideOf (a .direction) (meaningOf (a .table .now) (a .count))) (a .shrink) (a .size) (a .glyphs .now) (a .classes .now)) (a .gap))
 
 same-length : tie.Need-same-length
 same-length c = search needs
@@ -57,10 +64,11 @@ same-length-6 c = search needs
 
 returns : tie.Need-returns
 returns c =
-    let a = c .before .before .before .before .before .before .before .before .before .before .before .before .before .before .before .before .before .before .before .before .before .before .before .before .before .before .before .before .before .before .before .before .before .before .before .args in
-    let w = c .before .before .before .before .before .before .before .before .before .before .before .before .before .before .before .before .before .before .before .before .before .before .before .lay-parts .ensures in
+    let a = c .before .before .before .before .before .before .before .before .before .before .before .before .before .before .before .before .before .before .before .before .before .before .before .before .before .before .before .before .before .before .before .before .before .before .before .before .args in
+    let w = c .before .before .before .before .before .before .before .before .before .before .before .before .before .before .before .before .before .before .before .before .before .before .before .before .lay-parts .ensures in
+    let q = parts-length (sideOf (a .direction) (meaningOf (a .table .now) (a .count))) (a .shrink) (a .size) (a .glyphs .now) (a .classes .now) (c .before .before .before .before .before .before .before .before .before .before .before .before .before .before .before .before .before .before .before .before .before .before .before .before .before .before .before .before .before .before .before .before .before .before .before .before .pre .0 .1) in
     let e = c .before .before .before .share-line .ensures in
-    shared-left (a .shrink) (a .gap) _ _ (laid-glyphs w) (a .before .now) (a .after .now) (laid-fits w (c .before .before .before .before .before .before .before .before .before .before .before .totals-fit .ensures) ∙ c .before .before .before .before .before .before .before .before .before .before .if1 .taken) (toZ-ofZ w32 (c .signed .result) (record { sfits = c .signed .ok }) ∙ c .signed .ensures ∙ ap (signedOf (a .shrink)) (e .0)) (e .1 .0) (e .1 .1)
+    shared-left (a .shrink) (a .gap) _ _ (laid-glyphs w) (a .before .now) (a .after .now) (laid-fits w (c .before .before .before .before .before .before .before .before .before .before .before .totals-fit .ensures _ _ _ _ (laid-lent w (omega (arith, c .before .before .before .before .before .before .before .before .before .before .before .before .before .before .before .before .before .before .before .before .before .before .before .before .before .before .before .before .before .before .before .before .before .before .before .before .pre .1 .1 .2))) (c .before .before .before .before .before .before .before .before .before .before .before .before .line-totals .ensures)) ∙ c .before .before .before .before .before .before .before .before .before .before .if1 .taken) (toZ-ofZ w32 (c .signed .result) (record { sfits = c .signed .ok }) ∙ c .signed .ensures ∙ ap (signedOf (a .shrink)) (e .0)) (e .1 .0) (e .1 .1)
 
 same-length-7 : tie.Need-same-length-7
 same-length-7 c = search needs
@@ -76,15 +84,17 @@ same-length-10 c = search needs
 
 returns-2 : tie.Need-returns-2
 returns-2 c =
-    let a = c .before .before .before .before .before .before .before .before .before .before .before .before .before .before .before .before .before .before .before .before .before .before .before .before .before .args in
-    let w = c .before .before .before .before .before .before .before .before .before .before .before .before .before .lay-parts .ensures in
-    shared-over (a .shrink) (a .gap) _ (a .before .now) (a .after .now) (laid-fits w (c .before .totals-fit .ensures) ∙ c .if1 .left)
+    let a = c .before .before .before .before .before .before .before .before .before .before .before .before .before .before .before .before .before .before .before .before .before .before .before .before .before .before .args in
+    let w = c .before .before .before .before .before .before .before .before .before .before .before .before .before .before .lay-parts .ensures in
+    let q = parts-length (sideOf (a .direction) (meaningOf (a .table .now) (a .count))) (a .shrink) (a .size) (a .glyphs .now) (a .classes .now) (c .before .before .before .before .before .before .before .before .before .before .before .before .before .before .before .before .before .before .before .before .before .before .before .before .before .before .pre .0 .1) in
+    shared-over (a .shrink) (a .gap) _ (a .before .now) (a .after .now) (laid-fits w (c .before .totals-fit .ensures _ _ _ _ (laid-lent w (omega (arith, c .before .before .before .before .before .before .before .before .before .before .before .before .before .before .before .before .before .before .before .before .before .before .before .before .before .before .pre .1 .1 .2))) (c .before .before .line-totals .ensures)) ∙ c .if1 .left)
 
 pub share-parts-spec : {M : Type 1} → statement M
 share-parts-spec =
     tie.close
     (tie.spec
     lay-parts-requires
+    line-totals-requires
     totals-fit-requires
     share-line-requires
     signed-requires

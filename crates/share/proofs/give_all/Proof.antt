@@ -1,20 +1,23 @@
 use lib.ListN.{length}
-use Prim.Native.Nat.{_-_, _≤_}
+use Prim.Native.Nat.{_+_, _-_, _*_, _≤_}
+use mathlib.Core.Path.{_≡_, ap}
 use native.Mathlib.Omega.{arith}
+use Rattle.share.specs.Share.{total}
+use Rattle.share.specs.Inner.{extrasAt}
 use Rattle.share.proofs.Giving.{Filling, filling-start, filling-on, filling-none, filling-end, first-full, second-full}
-use Rattle.share.proofs.Sides.{rest-hit, rest-miss, rest-end}
+use Rattle.share.proofs.Sides.{rest-hit, rest-miss, rest-end, extras, extras-hit, extras-miss, extras-end}
 use Rattle.share.proofs.give_all.Statement.{statement}
 use Rattle.share.proofs.give_all.Tie as tie
 
 abbrev Inv-loop : tie.InvT-loop
-Inv-loop stage marks first second before₀ after₀ i₀ before after i = (i ≤ length marks) × Filling stage marks first second before₀ after₀ before after i
+Inv-loop stage marks weights first second before₀ after₀ unlimited₀ i₀ before after unlimited i = (i ≤ length marks) × Filling stage marks first second before₀ after₀ before after i × (unlimited ≤ 255 * i) × (total (extrasAt stage marks weights) ≡ unlimited + total (extras stage marks weights i))
 
 abbrev μ-loop : tie.MeasureT-loop
-μ-loop stage marks first second before₀ after₀ i₀ before after i = length marks - i
+μ-loop stage marks weights first second before₀ after₀ unlimited₀ i₀ before after unlimited i = length marks - i
 
 loop-holds : tie.Need-loop-holds Inv-loop μ-loop
 loop-holds c = let a = c .args in
-    (omega arith, filling-start (a .stage) (a .marks .now) (a .first .now) (a .second .now) (a .before .now) (a .after .now))
+    (omega arith, filling-start (a .stage) (a .marks .now) (a .first .now) (a .second .now) (a .before .now) (a .after .now), omega arith, omega arith)
 
 shared-slice-read-if1 : tie.Need-shared-slice-read-if1 Inv-loop μ-loop
 shared-slice-read-if1 c = omega arith
@@ -61,6 +64,15 @@ add-after c = let a = c .before .before .before .before .before .before .before 
 slice-write-after : tie.Need-slice-write-after Inv-loop μ-loop
 slice-write-after c = let s = c .before .before .before .before .before .before .before .loop .inv .1 .after .same in omega arith
 
+shared-slice-read-unlimited : tie.Need-shared-slice-read-unlimited Inv-loop μ-loop
+shared-slice-read-unlimited c = omega arith
+
+cast-unlimited : tie.Need-cast-unlimited Inv-loop μ-loop
+cast-unlimited c = omega (arith, c .shared-slice-known4 .given (c .before .before .before .before .before .before .before .before .loop .i))
+
+add-unlimited : tie.Need-add-unlimited Inv-loop μ-loop
+add-unlimited c = omega (arith, c .shared-slice-known4 .given (c .before .before .before .before .before .before .before .before .loop .i))
+
 add-i : tie.Need-add-i Inv-loop μ-loop
 add-i c = omega arith
 
@@ -68,11 +80,13 @@ loop-less : tie.Need-loop-less Inv-loop μ-loop
 loop-less c = omega arith
 
 loop-again : tie.Need-loop-again Inv-loop μ-loop
-loop-again c = let a = c .before .before .before .before .before .before .before .before .args in
-    let l = c .before .before .before .before .before .before .before .loop in
+loop-again c = let a = c .before .before .before .before .before .before .before .before .before .args in
+    let l = c .before .before .before .before .before .before .before .before .loop in
     let s = l .inv .1 .before .same in
     let u = l .inv .1 .after .same in
-    (omega arith, filling-on (l .inv .1) (rest-hit (a .stage) (a .marks .now) (a .first .now) (a .second .now) (l .i) (omega arith) (omega arith) (omega arith) (c .before .before .before .before .if1 .taken)) (omega arith) (omega arith))
+    let e = ap total (extras-hit (a .stage) (a .marks .now) (a .extras .now) (l .i) (omega arith) (omega arith) (c .before .before .before .before .before .if1 .taken)) in
+    let k = c .shared-slice-known4 .given (l .i) in
+    (omega arith, filling-on (l .inv .1) (rest-hit (a .stage) (a .marks .now) (a .first .now) (a .second .now) (l .i) (omega arith) (omega arith) (omega arith) (c .before .before .before .before .before .if1 .taken)) (omega arith) (omega arith), omega arith, omega arith)
 
 add-i-2 : tie.Need-add-i-2 Inv-loop μ-loop
 add-i-2 c = omega arith
@@ -85,7 +99,8 @@ loop-again-2 c = let a = c .before .before .before .before .args in
     let l = c .before .before .before .loop in
     let s = l .inv .1 .before .same in
     let u = l .inv .1 .after .same in
-    (omega arith, filling-none (l .inv .1) (rest-miss (a .stage) (a .marks .now) (a .first .now) (a .second .now) (l .i) (omega arith) (omega arith) (omega arith) (c .if1 .left)) (omega arith) (omega arith))
+    let e = ap total (extras-miss (a .stage) (a .marks .now) (a .extras .now) (l .i) (omega arith) (omega arith) (c .if1 .left)) in
+    (omega arith, filling-none (l .inv .1) (rest-miss (a .stage) (a .marks .now) (a .first .now) (a .second .now) (l .i) (omega arith) (omega arith) (omega arith) (c .if1 .left)) (omega arith) (omega arith), omega arith, omega arith)
 
 same-length : tie.Need-same-length Inv-loop μ-loop
 same-length c = let s = c .before .loop .inv .1 .before .same in omega arith
@@ -98,7 +113,8 @@ returns c = let a = c .before .before .args in
     let l = c .before .loop in
     let s = l .inv .1 .before .same in
     let u = l .inv .1 .after .same in
-    filling-end (l .inv .1) (omega arith) (omega arith) (rest-end (a .stage) (a .marks .now) (a .first .now) (a .second .now) (l .i) (omega arith))
+    let e = ap total (extras-end (a .stage) (a .marks .now) (a .extras .now) (l .i) (omega arith)) in
+    ((omega arith, omega arith), filling-end (l .inv .1) (omega arith) (omega arith) (rest-end (a .stage) (a .marks .now) (a .first .now) (a .second .now) (l .i) (omega arith)))
 
 pub give-all-spec : {M : Type 1} → statement M
 give-all-spec =
@@ -120,6 +136,9 @@ give-all-spec =
     slice-read-after
     add-after
     slice-write-after
+    shared-slice-read-unlimited
+    cast-unlimited
+    add-unlimited
     add-i
     loop-less
     loop-again

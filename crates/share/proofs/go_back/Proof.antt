@@ -1,20 +1,18 @@
 use lib.ListN.{length}
 use Prim.Native.Nat.{_-_, _≤_}
-use mathlib.Core.Path.{refl, ap}
+use mathlib.Core.Path.{refl, ap, _∙_}
 use borrow.Author.Needs.{needs}
 use native.Mathlib.Omega.{arith}
-use Rattle.share.proofs.Steps.{exact}
-use Rattle.share.specs.Inner.{factorsAt}
 use Rattle.share.specs.Share.{total}
 use Rattle.share.proofs.Stages.{Backing, backing-start, backing-on, backing-found, backing-end, back-none}
 use Rattle.share.proofs.go_back.Statement.{statement}
 use Rattle.share.proofs.go_back.Tie as tie
 
 abbrev Inv-loop : tie.InvT-loop
-Inv-loop left marks first second before₀ after₀ stage₀ before after stage = (stage ≤ 3) × Backing marks first second left before₀ after₀ stage before after
+Inv-loop left totals marks first second before₀ after₀ stage₀ before after stage = (stage ≤ 3) × Backing marks first second left before₀ after₀ stage before after
 
 abbrev μ-loop : tie.MeasureT-loop
-μ-loop left marks first second before₀ after₀ stage₀ before after stage = 3 - stage
+μ-loop left totals marks first second before₀ after₀ stage₀ before after stage = 3 - stage
 
 returns : tie.Need-returns Inv-loop μ-loop
 returns c = let a = c .before .before .before .before .before .before .args in
@@ -25,22 +23,20 @@ loop-holds : tie.Need-loop-holds Inv-loop μ-loop
 loop-holds c = let a = c .before .before .before .before .before .before .args in
     (omega arith, backing-start (a .marks .now) (a .first .now) (a .second .now) (a .left) (a .before .now) (a .after .now))
 
-stage-total-requires : tie.Need-stage-total-requires Inv-loop μ-loop
-stage-total-requires c κs = c .before .before .before .before .before .before .before .before .pre .0 .0
+total-of-requires : tie.Need-total-of-requires Inv-loop μ-loop
+total-of-requires c κs = omega arith
 
 give-requires : tie.Need-give-requires Inv-loop μ-loop
-give-requires c κs = let a = c .before .before .before .before .before .before .before .before .before .before .before .before .args in
-    let p = c .before .before .before .before .before .before .before .before .before .before .before .before .pre in
+give-requires c κs = let p = c .before .before .before .before .before .before .before .before .before .before .before .before .pre in
     let l = c .before .before .before .before .before .loop in
     let g = l .inv .1 in
-    let f = factorsAt (l .stage) (a .marks .now) (a .first .now) (a .second .now) in
-    let m = p .1 .1 .at (l .stage) (omega (arith, c .before .before .before .before .loop-test .taken)) in
-    let e = exact f (c .before .before .before .stage-total .ensures) m in
+    let h = c .before .before .before .before .loop-test .taken in
+    let e = c .before .before .before .total-of .ensures in
     let xl = ap length (g .before) in
     let yl = ap length (g .after) in
     let xt = ap total (g .before) in
     let yt = ap total (g .after) in
-    ((p .0 .0, record { before = omega arith; after = omega arith }), (record { small = p .1 .0 .small; before = omega arith; after = omega arith }, e, omega arith))
+    ((p .0 .0, record { before = omega arith; after = omega arith }), (record { small = p .1 .0 .small; before = omega arith; after = omega arith }, e ∙ p .1 .1 .exact (l .stage) (omega (arith, h)), omega (arith, e, p .1 .1 .low (l .stage) (omega (arith, h)))))
 
 same-length : tie.Need-same-length Inv-loop μ-loop
 same-length c = let e = ap length (c .before .before .before .before .before .before .before .before .before .before .loop .inv .1 .before) in search needs
@@ -49,10 +45,9 @@ same-length-2 : tie.Need-same-length-2 Inv-loop μ-loop
 same-length-2 c = let e = ap length (c .before .before .before .before .before .before .before .before .before .before .loop .inv .1 .after) in search needs
 
 returns-2 : tie.Need-returns-2 Inv-loop μ-loop
-returns-2 c = let a = c .before .before .before .before .before .before .before .before .before .before .before .before .before .before .before .before .before .args in
-    let l = c .before .before .before .before .before .before .before .before .before .before .loop in
-    let f = factorsAt (l .stage) (a .marks .now) (a .first .now) (a .second .now) in
-    backing-found (l .inv .1) (omega (arith, c .before .before .before .before .before .before .before .before .before .loop-test .taken)) (exact f (c .before .before .before .before .before .before .before .before .stage-total .ensures) (c .before .before .before .before .before .before .before .before .before .before .before .before .before .before .before .before .before .pre .1 .1 .at (l .stage) (omega (arith, c .before .before .before .before .before .before .before .before .before .loop-test .taken)))) (c .before .before .before .before .before .before .before .if2 .taken) (c .before .before .before .before .give .ensures)
+returns-2 c = let l = c .before .before .before .before .before .before .before .before .before .before .loop in
+    let h = c .before .before .before .before .before .before .before .before .before .loop-test .taken in
+    backing-found (l .inv .1) (omega (arith, h)) (c .before .before .before .before .before .before .before .before .total-of .ensures ∙ c .before .before .before .before .before .before .before .before .before .before .before .before .before .before .before .before .before .pre .1 .1 .exact (l .stage) (omega (arith, h))) (c .before .before .before .before .before .before .before .if2 .taken) (c .before .before .before .before .give .ensures)
 
 add-stage : tie.Need-add-stage Inv-loop μ-loop
 add-stage c = omega arith
@@ -61,10 +56,9 @@ loop-less : tie.Need-loop-less Inv-loop μ-loop
 loop-less c = omega arith
 
 loop-again : tie.Need-loop-again Inv-loop μ-loop
-loop-again c = let a = c .before .before .before .before .before .before .before .before .before .before .args in
-    let l = c .before .before .before .loop in
-    let f = factorsAt (l .stage) (a .marks .now) (a .first .now) (a .second .now) in
-    (omega arith, backing-on (l .inv .1) (omega (arith, c .before .before .loop-test .taken)) (exact f (c .before .stage-total .ensures) (c .before .before .before .before .before .before .before .before .before .before .pre .1 .1 .at (l .stage) (omega (arith, c .before .before .loop-test .taken)))) (c .if2 .left))
+loop-again c = let l = c .before .before .before .loop in
+    let h = c .before .before .loop-test .taken in
+    (omega arith, backing-on (l .inv .1) (omega (arith, h)) (c .before .total-of .ensures ∙ c .before .before .before .before .before .before .before .before .before .before .pre .1 .1 .exact (l .stage) (omega (arith, h))) (c .if2 .left))
 
 same-length-3 : tie.Need-same-length-3 Inv-loop μ-loop
 same-length-3 c = let e = ap length (c .before .loop .inv .1 .before) in omega arith
@@ -73,8 +67,8 @@ same-length-4 : tie.Need-same-length-4 Inv-loop μ-loop
 same-length-4 c = let e = ap length (c .before .loop .inv .1 .after) in omega arith
 
 returns-3 : tie.Need-returns-3 Inv-loop μ-loop
-returns-3 c = let p = c .before .before .before .before .before .before .before .before .pre in
-    let g = c .before .loop .inv .1 in
+returns-3 c = let g = c .before .loop .inv .1 in
+    let p = c .before .before .before .before .before .before .before .before .pre in
     let xl = ap length (g .before) in
     let yl = ap length (g .after) in
     backing-end g refl (record { before = omega arith; after = omega arith }) (omega arith)
@@ -87,7 +81,7 @@ go-back-spec =
     μ-loop
     returns
     loop-holds
-    stage-total-requires
+    total-of-requires
     give-requires
     same-length
     same-length-2

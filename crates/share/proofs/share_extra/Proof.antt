@@ -1,17 +1,13 @@
 use lib.ListN.{length}
 use native.Mathlib.Omega.{arith}
-use borrow.Author.Needs.{needs}
 use Rattle.share.specs.Inner.{extrasAt}
 use Rattle.share.proofs.Steps.{extra-free, extra-some}
+use borrow.Author.Needs.{needs}
 use Rattle.share.proofs.share_extra.Statement.{statement}
 use Rattle.share.proofs.share_extra.Tie as tie
 
-stage-extras-requires : tie.Need-stage-extras-requires
-stage-extras-requires c κs = search needs
-
 returns : tie.Need-returns
-returns c = let a = c .before .before .before .before .before .args in
-    let p = c .before .before .before .before .before .pre in
+returns c = let a = c .before .before .before .before .args in
     extra-free (length (a .marks .now)) (a .left) (a .stage) (a .marks .now) (a .extras .now) (a .after .now) (omega arith) (omega arith) (omega arith) (omega arith)
 
 give-extra-requires : tie.Need-give-extra-requires
@@ -21,9 +17,8 @@ same-length : tie.Need-same-length
 same-length c = search needs
 
 returns-2 : tie.Need-returns-2
-returns-2 c = let a = c .before .before .before .before .before .before .before .before .before .args in
-    (extra-some (a .left) (extrasAt (a .stage) (a .marks .now) (a .extras .now)) (c .before .before .before .before .before .stage-extras .ensures .0) (c .before .before .before .before .if1 .left), c .before .before .give-extra .ensures)
+returns-2 c = let a = c .before .before .before .before .before .before .before .before .args in
+    (extra-some (a .left) (extrasAt (a .stage) (a .marks .now) (a .extras .now)) (c .before .before .before .before .before .before .before .before .pre .1 .2) (c .before .before .before .before .if1 .left), c .before .before .give-extra .ensures)
 
 pub share-extra-spec : {M : Type 1} → statement M
-share-extra-spec =
-    tie.close (tie.spec stage-extras-requires returns give-extra-requires same-length returns-2)
+share-extra-spec = tie.close (tie.spec returns give-extra-requires same-length returns-2)

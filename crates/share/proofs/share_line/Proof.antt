@@ -3,8 +3,9 @@ use mathlib.Core.List.{List, map}
 use mathlib.Core.Path.{sym, ap, _∙_}
 use Prim.Native.Nat.{ℕ}
 use borrow.Author.Needs.{needs}
-use Rattle.share.proofs.Lines.{zeros-length, zeros-take, fits-is, fit, line-left, line-moves}
+use Rattle.share.proofs.Lines.{zeros-length, zeros-take, fits-is, line-left, line-moves}
 use Rattle.share.proofs.Steps.{lent-parts}
+use Rattle.share.proofs.Sums.{fit}
 use Rattle.share.specs.Line.{evens, odds, signedOf}
 use Rattle.share.proofs.share_line.Statement.{statement}
 use Rattle.share.proofs.share_line.Tie as tie
@@ -26,7 +27,7 @@ share-in-requires c κs =
     let a = c .before .before .before .before .before .before .before .before .before .args in
     let p = c .before .before .before .before .before .before .before .before .before .pre in
     let z = zeros-take 128 (length (a .marks .now)) (c .before .before .before .before .if1 .taken) in (
-      (p .0, p .1 .1 .0, fit (a .marks .now) (a .first .now) (a .second .now) (sym (fits-is (lent-parts (p .0)) (a .extras .now) (p .0 .extras)) ∙ p .1 .1 .1)),
+      (p .0, p .1 .1 .0, fit (p .1 .1 .1) (sym (fits-is (lent-parts (p .0)) (a .extras .now) (p .0 .extras)) ∙ p .1 .1 .2)),
       ((z, z), p .1 .0),
     )
 
@@ -61,7 +62,7 @@ share-in-requires-2 c κs =
     let a = c .before .before .before .before .before .before .before .before .before .args in
     let p = c .before .before .before .before .before .before .before .before .before .pre in
     let z = zeros-take 1024 (length (a .marks .now)) (c .before .before .before .before .before .before .before .before .before .pre .0 .short) in (
-      (p .0, p .1 .1 .0, fit (a .marks .now) (a .first .now) (a .second .now) (sym (fits-is (lent-parts (p .0)) (a .extras .now) (p .0 .extras)) ∙ p .1 .1 .1)),
+      (p .0, p .1 .1 .0, fit (p .1 .1 .1) (sym (fits-is (lent-parts (p .0)) (a .extras .now) (p .0 .extras)) ∙ p .1 .1 .2)),
       ((z, z), p .1 .0),
     )
 

@@ -1,8 +1,8 @@
 use native.Mathlib.Omega.{arith}
-use borrow.Author.Needs.{needs}
-use Rattle.share.proofs.Steps.{stage-none, stage-past, stage-within, exact}
+use Rattle.share.proofs.Steps.{stage-none, stage-past, stage-within, lent-parts}
 use Rattle.share.proofs.Halves.{moved-total}
 use Rattle.share.specs.Inner.{factorsAt, extrasAt}
+use borrow.Author.Needs.{needs}
 use Rattle.share.proofs.share_stage.Statement.{statement}
 use Rattle.share.proofs.share_stage.Tie as tie
 
@@ -11,11 +11,8 @@ returns c = let a = c .before .before .before .before .before .before .before .a
     let p = c .before .before .before .before .before .before .before .pre in
     stage-none (p .0 .0) (a .stage) (a .before .now) (a .after .now) (p .0 .1) (c .if1 .taken)
 
-stage-total-requires : tie.Need-stage-total-requires
-stage-total-requires c κs = search needs
-
 give-requires : tie.Need-give-requires
-give-requires c κs = search needs
+give-requires c κs = let p = c .before .before .before .before .before .before .before .before .before .before .pre in ((lent-parts (p .0 .0), p .0 .1), p .1)
 
 same-length : tie.Need-same-length
 same-length c = search needs
@@ -24,10 +21,8 @@ same-length-2 : tie.Need-same-length-2
 same-length-2 c = search needs
 
 returns-2 : tie.Need-returns-2
-returns-2 c = let a = c .before .before .before .before .before .before .before .before .before .before .before .before .before .before .before .before .args in
-    let f = factorsAt (a .stage) (a .marks .now) (a .first .now) (a .second .now) in
-    let u = extrasAt (a .stage) (a .marks .now) (a .extras .now) in
-    stage-within (a .left) f u (exact f (c .before .before .before .before .before .before .before .before .stage-total .ensures) (c .before .before .before .before .before .before .before .before .before .before .before .before .before .before .before .before .pre .1 .1)) (c .before .before .before .before .before .before .before .if2 .taken) (c .before .before .before .before .give .ensures)
+returns-2 c = let a = c .before .before .before .before .before .before .before .before .before .before .before .before .before .before .before .args in
+    stage-within (a .left) (factorsAt (a .stage) (a .marks .now) (a .first .now) (a .second .now)) (extrasAt (a .stage) (a .marks .now) (a .extras .now)) (c .before .before .before .before .before .before .before .before .before .before .before .before .before .before .before .pre .1 .1) (c .before .before .before .before .before .before .before .if2 .taken) (c .before .before .before .before .give .ensures)
 
 give-all-requires : tie.Need-give-all-requires
 give-all-requires c κs = search needs
@@ -36,10 +31,8 @@ sub-share-extra : tie.Need-sub-share-extra
 sub-share-extra c = search needs
 
 share-extra-requires : tie.Need-share-extra-requires
-share-extra-requires c κs = let a = c .before .before .before .before .before .before .before .before .before .before .before .before .before .before .before .before .before .args in
-    let f = factorsAt (a .stage) (a .marks .now) (a .first .now) (a .second .now) in
-    let e = exact f (c .before .before .before .before .before .before .before .before .before .stage-total .ensures) (c .before .before .before .before .before .before .before .before .before .before .before .before .before .before .before .before .before .pre .1 .1) in
-    let m = moved-total {m = f} (c .before .before .before .before .before .give-all .ensures) in
+share-extra-requires c κs = let a = c .before .before .before .before .before .before .before .before .before .before .before .before .before .before .before .before .args in
+    let m = moved-total {m = factorsAt (a .stage) (a .marks .now) (a .first .now) (a .second .now)} (c .before .before .before .before .before .give-all .ensures .1) in
     search needs
 
 same-length-3 : tie.Need-same-length-3
@@ -49,19 +42,17 @@ same-length-4 : tie.Need-same-length-4
 same-length-4 c = search needs
 
 returns-3 : tie.Need-returns-3
-returns-3 c = let p = c .before .before .before .before .before .before .before .before .before .before .before .before .before .before .before .before .before .before .before .before .pre in
-    let a = c .before .before .before .before .before .before .before .before .before .before .before .before .before .before .before .before .before .before .before .before .args in
-    let f = factorsAt (a .stage) (a .marks .now) (a .first .now) (a .second .now) in
+returns-3 c = let a = c .before .before .before .before .before .before .before .before .before .before .before .before .before .before .before .before .before .before .before .args in
+    let p = c .before .before .before .before .before .before .before .before .before .before .before .before .before .before .before .before .before .before .before .pre in
     let k = c .before .before .before .before .before .before .before .before .give-all .kept in
-    stage-past (p .0 .0) (a .stage) (a .left) (a .before .now) (a .after .now) (exact f (c .before .before .before .before .before .before .before .before .before .before .before .before .stage-total .ensures) (p .1 .1)) (c .before .before .before .before .before .before .before .before .before .before .before .if2 .left)
-    (record { before = omega arith; after = omega arith }) (c .before .before .before .before .before .before .before .before .give-all .ensures) (c .before .before .share-extra .ensures .0) (c .before .before .share-extra .ensures .1)
+    stage-past (p .0 .0) (a .stage) (a .left) (a .before .now) (a .after .now) (p .1 .1) (c .before .before .before .before .before .before .before .before .before .before .before .if2 .left)
+    (record { before = omega arith; after = omega arith }) (c .before .before .before .before .before .before .before .before .give-all .ensures .1) (c .before .before .share-extra .ensures .0) (c .before .before .share-extra .ensures .1)
 
 pub share-stage-spec : {M : Type 1} → statement M
 share-stage-spec =
     tie.close
     (tie.spec
     returns
-    stage-total-requires
     give-requires
     same-length
     same-length-2
