@@ -8,6 +8,7 @@ ghost use Prim.Native.Nat.{ℕ, _+_, _-_, _<_, _^_, max, min};
 ghost use Rattle.fields.specs.Field.{u16At};
 ghost use Rattle.machine.specs.declared.Scan.the-variants.{Count};
 ghost use Rattle.machine.specs.Cells.{classCount, entryTable, classAt, entryAt, cellAt};
+ghost use Rattle.machine.specs.Classes.{Near, ClassesAt};
 ghost use Rattle.machine.specs.Rows.{cellPlace, entryPlace, entryFault, cellFault, rowFault, raisedBy, unless, faultOf, countOf, rowsOf, rowCount};
 ghost use Rattle.machine.specs.Machine.{headFault, classFault, classesFault, covered, classTableFault, machineFault};
 use fields::Fault;
@@ -18,6 +19,13 @@ use parts::Entry;
 pub enum Scan {
     Broken(Fault),
     Count(usize),
+}
+
+// A class table: where it stands, its first glyph and its count of glyphs.
+pub struct ClassTable {
+    pub at: usize,
+    pub first: usize,
+    pub count: usize,
 }
 
 // `a` less `b`, 0 where `b` is larger.
@@ -79,22 +87,41 @@ pub fn cell(table: &[u8], here: usize, row: usize, class: usize) -> Entry
     entry_at(table, here, fields::u8_at(table, at))
 }
 
-// A glyph's class by the class table; that a deleted glyph is class 2 is the walk's to say.
-pub fn class_of(table: &[u8], here: usize, glyph: u16) -> u8
+// Where a machine's class table stands, its first glyph and its count of glyphs.
+pub fn class_table(table: &[u8], here: usize) -> ClassTable
     requires { ⌜ here < 2 ^ 32 ⌝ }
-    ensures { λ r. ⌜ r ≡ classAt (now (table .entry)) here glyph ⌝ }
+    ensures { λ r. ⌜ ClassesAt (now (table .entry)) here r ⌝ }
 {
     let at = here + fields::u16_at(table, here + 2);
-    let first = fields::u16_at(table, at);
-    let count = fields::u16_at(table, at + 2);
+    ClassTable {
+        at,
+        first: fields::u16_at(table, at),
+        count: fields::u16_at(table, at + 2),
+    }
+}
+
+// A glyph's class by a class table; that a deleted glyph is class 2 is the walk's to say.
+pub fn class_by(table: &[u8], classes: ClassTable, glyph: u16) -> u8
+    requires { ⌜ Near classes ⌝ }
+    ensures { λ r. ⌜ ((here : ℕ) → ClassesAt (now (table .entry)) here classes → r ≡ classAt (now (table .entry)) here glyph) ⌝ }
+{
+    let first = classes.first;
     let asked = glyph as usize;
     if asked < first {
         return 1;
     }
-    if first + count <= asked {
+    if first + classes.count <= asked {
         return 1;
     }
-    fields::u8_at(table, at + 4 + (asked - first)) as u8
+    fields::u8_at(table, classes.at + 4 + (asked - first)) as u8
+}
+
+// A glyph's class by the machine's class table.
+pub fn class_of(table: &[u8], here: usize, glyph: u16) -> u8
+    requires { ⌜ here < 2 ^ 32 ⌝ }
+    ensures { λ r. ⌜ r ≡ classAt (now (table .entry)) here glyph ⌝ }
+{
+    class_by(table, class_table(table, here), glyph)
 }
 
 // The class count and the three offsets.

@@ -1,5 +1,5 @@
 -- What the loop of the walk keeps, and what a turn makes of it: its locals are where the walk stands. Assumes nothing.
-use Prim.Native.Nat.{ℕ, _+_, _*_, _≤_, _<_}
+use Prim.Native.Nat.{ℕ, _+_, _*_, _/_, _%_, _≤_, _<_}
 use mathlib.Core.Path.{_≡_, refl, ap, ap₂, sym, _∙_, subst}
 use mathlib.Core.Bool.{Bool, true, false, cond, not, _&&_, false≢true}
 use mathlib.Core.Option.{Option, orElse}
@@ -7,7 +7,8 @@ use mathlib.Core.List.{List}
 use native.Mathlib.Omega.{arith}
 use lib.Dec.{leb}
 use lib.ListN.{length, getD, replicate}
-use Rattle.fields.specs.Field.{u16At}
+use Rattle.fields.specs.Field.{u16At, u32At, Bytes}
+use Rattle.fields.specs.Laws.{u16At-fits}
 use Rattle.machine.specs.Cells.{entryAt, cellAt, classCount}
 use Rattle.machine.specs.Rows.{rowCount}
 use borrow.Author.Tests.{leb-true, leb-false}
@@ -49,6 +50,11 @@ entered m l row place mark out kind glyph marked e flags out′ ek ee ef eg em e
       mark-is = em ∙ ap₂ (λ (f : ℕ) (g : Option ℕ). cond (setsMark f) (orElse g (glyphOf mark)) (glyphOf mark)) ef eg;
       out-is = eo ∙ ap₂ (λ (f : ℕ) (g : Option ℕ). give g (currentClass f) (give (glyphOf mark) (markClass f) out)) ef eg;
     }
+
+-- the two fields of an entry, in one number
+pub entry-fields : (t : List ℕ) (at : ℕ) → Bytes t → (u32At t at / 65536 ≡ u16At t at) × (u32At t at % 65536 ≡ u16At t (at + 2))
+unfolding u32At
+entry-fields t at b = let h = u16At-fits t (at + 2) b in (omega arith, omega arith)
 
 -- the entry of a row that is known by where it stands, `k` being the entry table's offset
 module _ (t : List ℕ) (here row kind k : ℕ) (ek : k ≡ u16At t (here + 6)) (base : ℕ) (eb : base ≡ rowPlace t here row) where

@@ -6,9 +6,11 @@ ghost use Prim.Native.Nat.{ℕ, _+_, _*_, _≤_, _<_, _^_};
 ghost use lib.Dec.{leb};
 ghost use lib.ListN.{length, getD};
 ghost use Rattle.fields.specs.Field.{u16At};
+ghost use Rattle.machine.specs.Classes.{Near, ClassesAt};
 ghost use Rattle.units.specs.Flags.{setsMark, stays, markClass, currentClass};
 ghost use Rattle.walk.specs.Walk.{give, kindAt, current, walked};
 ghost use Rattle.walk.specs.Line.{machineAt, lineOf, lineKind, lineKinds, padded, handedOut, glyphOf, rowPlace, Sound, Kinds};
+use machine::ClassTable;
 
 // A walk that ended, with its count of entries and a class for each glyph of the line; zeros follow.
 // Of a walk that never ends the count is 0 and so is every class.
@@ -31,14 +33,14 @@ const ROWS: usize = 256;
 const NONE: usize = 1024;
 
 // The machine's class of a glyph: 2 for a deleted one.
-fn line_kind(table: &[u8], here: usize, glyph: u16) -> u8
-    requires { ⌜ here < 2 ^ 32 ⌝ }
-    ensures { λ r. ⌜ r ≡ lineKind (now (table .entry)) here glyph ⌝ }
+fn line_kind(table: &[u8], classes: ClassTable, glyph: u16) -> u8
+    requires { ⌜ Near classes ⌝ }
+    ensures { λ r. ⌜ ((here : ℕ) → ClassesAt (now (table .entry)) here classes → r ≡ lineKind (now (table .entry)) here glyph) ⌝ }
 {
     if glyph == 0xFFFF {
         return 2;
     }
-    machine::class_of(table, here, glyph)
+    machine::class_by(table, classes, glyph)
 }
 
 // The machine's classes of a line's glyphs; zeros past the line.
@@ -46,10 +48,11 @@ pub fn line_kinds(table: &[u8], here: usize, glyphs: &[u16]) -> [u8; 1024]
     requires { ⌜ (here < 2 ^ 32) × (length (now glyphs) ≤ 1024) ⌝ }
     ensures { λ r. ⌜ r ≡ padded (lineKinds (now (table .entry)) here (now (glyphs .entry))) ⌝ }
 {
+    let classes = machine::class_table(table, here);
     let mut kinds = [0u8; 1024];
     let mut i: usize = 0;
     while i < glyphs.len() {
-        kinds[i] = line_kind(table, here, glyphs[i]);
+        kinds[i] = line_kind(table, classes, glyphs[i]);
         i += 1;
     }
     kinds
@@ -73,10 +76,10 @@ fn entry_by(table: &[u8], here: usize, entries: usize, at: usize) -> Met
     ensures { λ r. ⌜ (r .base ≡ here + u16At (now (table .entry)) (entries + 4 * getD (now (table .entry)) at 0)) × (r .base < 2 ^ 34) ⌝ }
     ensures { λ r. ⌜ r .flags ≡ u16At (now (table .entry)) (entries + 4 * getD (now (table .entry)) at 0 + 2) ⌝ }
 {
-    let entry = entries + 4 * fields::u8_at(table, at);
+    let entry = fields::u32_at(table, entries + 4 * fields::u8_at(table, at));
     Met {
-        base: here + fields::u16_at(table, entry),
-        flags: fields::u16_at(table, entry + 2) as u16,
+        base: here + entry / 65536,
+        flags: (entry % 65536) as u16,
     }
 }
 
@@ -150,11 +153,12 @@ pub fn walk_line(table: &[u8], here: usize, kinds: &[u8], starts: bool, ends: bo
     let entries = here + fields::u16_at(table, here + 6);
     let mut base = first_base(table, here, starts);
     let mut place: usize = 0;
+    let mut kind = kind_at(kinds, 0, ends);
     let mut mark: usize = NONE;
     let mut spent: usize = 0;
     let mut count: u32 = 0;
     while spent < ROWS {
-        let met = entry_by(table, here, entries, base + kind_at(kinds, place, ends));
+        let met = entry_by(table, here, entries, base + kind);
         let flags = met.flags;
         let glyph = glyph_at(place, kinds.len());
         let marked = mark_after(flags, glyph, mark);
@@ -174,6 +178,7 @@ pub fn walk_line(table: &[u8], here: usize, kinds: &[u8], starts: bool, ends: bo
             spent += 1;
         } else {
             place += 1;
+            kind = kind_at(kinds, place, ends);
             spent = 0;
         }
     }

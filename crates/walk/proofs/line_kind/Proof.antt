@@ -5,13 +5,13 @@ use Rattle.walk.proofs.line_kind.Statement.{statement}
 use Rattle.walk.proofs.line_kind.Tie as tie
 
 returns : tie.Need-returns
-returns c = simp (eq-eqb _ _ (c .if1 .taken))
+returns c = λ here w. simp (eq-eqb _ _ (c .if1 .taken))
 
-class-of-requires : tie.Need-class-of-requires
-class-of-requires c κs = search needs
+class-by-requires : tie.Need-class-by-requires
+class-by-requires c κs = search needs
 
 returns-2 : tie.Need-returns-2
-returns-2 c = rw (ne-eqb _ _ (c .before .if1 .left)) (c .class-of .ensures)
+returns-2 c = λ here w. rw (ne-eqb _ _ (c .before .if1 .left)) (c .class-by .ensures here w)
 
 pub line-kind-spec : {M : Type 1} → statement M
-line-kind-spec = tie.close (tie.spec returns class-of-requires returns-2)
+line-kind-spec = tie.close (tie.spec returns class-by-requires returns-2)

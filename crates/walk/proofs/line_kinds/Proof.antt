@@ -12,10 +12,13 @@ use Rattle.walk.proofs.line_kinds.Statement.{statement}
 use Rattle.walk.proofs.line_kinds.Tie as tie
 
 abbrev Inv-loop : tie.InvT-loop
-Inv-loop table here glyphs kinds₀ i₀ kinds i = (kinds ≡ padded (map (lineKind table here) (take i glyphs))) × (i ≤ length glyphs) × (length kinds ≡ 1024)
+Inv-loop table here glyphs classes kinds₀ i₀ kinds i = (kinds ≡ padded (map (lineKind table here) (take i glyphs))) × (i ≤ length glyphs) × (length kinds ≡ 1024)
 
 abbrev μ-loop : tie.MeasureT-loop
-μ-loop table here glyphs kinds₀ i₀ kinds i = length glyphs - i
+μ-loop table here glyphs classes kinds₀ i₀ kinds i = length glyphs - i
+
+class-table-requires : tie.Need-class-table-requires Inv-loop μ-loop
+class-table-requires c κs = c .before .before .pre .0
 
 loop-holds : tie.Need-loop-holds Inv-loop μ-loop
 loop-holds c = (first-zeros 1024 refl, omega arith, refl)
@@ -27,7 +30,7 @@ shared-slice-read-line-kind : tie.Need-shared-slice-read-line-kind Inv-loop μ-l
 shared-slice-read-line-kind c = omega arith
 
 line-kind-requires : tie.Need-line-kind-requires Inv-loop μ-loop
-line-kind-requires c κs = search needs
+line-kind-requires c κs = c .before .before .before .class-table .ensures .near
 
 array-write-kinds : tie.Need-array-write-kinds Inv-loop μ-loop
 array-write-kinds c = omega arith
@@ -40,16 +43,16 @@ loop-less c = omega arith
 
 loop-again : tie.Need-loop-again Inv-loop μ-loop
 loop-again c =
-    let a = c .before .before .before .before .before .before .args in
+    let a = c .before .before .before .before .before .before .before .args in
     let l = c .before .before .before .loop in (
-      padded-more (lineKind (a .table .now) (a .here)) (a .glyphs .now) (l .i) (c .line-kind .result) (l .kinds) (omega arith) (c .before .before .before .before .before .before .pre .1) (l .inv .0) (c .line-kind .ensures),
+      padded-more (lineKind (a .table .now) (a .here)) (a .glyphs .now) (l .i) (c .line-kind .result) (l .kinds) (omega arith) (c .before .before .before .before .before .before .before .pre .1) (l .inv .0) (c .line-kind .ensures (a .here) (c .before .before .before .before .class-table .ensures)),
       omega arith,
       simp length-set (l .inv .2),
     )
 
 returns : tie.Need-returns Inv-loop μ-loop
 returns c =
-    let a = c .before .before .before .before .args in
+    let a = c .before .before .before .before .before .args in
     let l = c .before .loop in
     let e : l .i ≡ length (a .glyphs .now) = omega arith in
     l .inv .0 ∙ ap (λ (x : ℕ). padded (map (lineKind (a .table .now) (a .here)) (take x (a .glyphs .now)))) e ∙ ap (λ x. padded (map (lineKind (a .table .now) (a .here)) x)) (take-length (a .glyphs .now))
@@ -60,6 +63,7 @@ line-kinds-spec =
     (tie.spec
     Inv-loop
     μ-loop
+    class-table-requires
     loop-holds
     mul-line-kind
     shared-slice-read-line-kind

@@ -11,36 +11,36 @@ use Rattle.walk.proofs.Theory.{kind-low}
 use Rattle.parts.specs.declared.Entry.{Entry}
 use Rattle.machine.specs.Cells.{cellAt, classCount}
 use Rattle.walk.specs.Line.{machineAt, lineOf, rowPlace, Sound, Kinds}
-use Rattle.walk.specs.Walk.{Machine, Line, Fits}
+use Rattle.walk.specs.Walk.{Machine, Line, Fits, kindAt}
 use Rattle.units.specs.Flags.{stays}
 use Rattle.walk.proofs.walk_line.Statement.{statement}
 use Rattle.walk.proofs.walk_line.Tie as tie
 
--- the row at hand is known by where it stands
+-- the row at hand is known by where it stands, and the class at the place is at hand
 abbrev Inv-loop : tie.InvT-loop
-Inv-loop table here kinds starts ends classes₀ entries base₀ place₀ mark₀ spent₀ count₀ classes base place mark spent count =
-    (row : ℕ) × ((base ≡ rowPlace table here row) × (base < 2 ^ 34)) × Keeps (machineAt table here) (lineOf kinds starts ends) row place mark spent count classes
+Inv-loop table here kinds starts ends classes₀ entries base₀ place₀ kind₀ mark₀ spent₀ count₀ classes base place kind mark spent count =
+    (row : ℕ) × ((base ≡ rowPlace table here row) × (base < 2 ^ 34)) × Keeps (machineAt table here) (lineOf kinds starts ends) row place mark spent count classes × (kind ≡ kindAt kinds ends place)
 
 abbrev μ-loop : tie.MeasureT-loop
-μ-loop table here kinds starts ends classes₀ entries base₀ place₀ mark₀ spent₀ count₀ classes base place mark spent count =
+μ-loop table here kinds starts ends classes₀ entries base₀ place₀ kind₀ mark₀ spent₀ count₀ classes base place kind mark spent count =
     (length kinds + 1 - place) * 257 + (256 - spent)
 
 -- ---- a turn of the loop: what it knows of its arguments
 
 abbrev machineOf : tie.In-loop Inv-loop μ-loop → Machine
-machineOf i = let a = i .before .before .before .before .before .before .args in machineAt (a .table .now) (a .here)
+machineOf i = let a = i .before .before .before .before .before .before .before .args in machineAt (a .table .now) (a .here)
 
 abbrev lineIn : tie.In-loop Inv-loop μ-loop → Line
-lineIn i = let a = i .before .before .before .before .before .before .args in lineOf (a .kinds .now) (a .starts) (a .ends)
+lineIn i = let a = i .before .before .before .before .before .before .before .args in lineOf (a .kinds .now) (a .starts) (a .ends)
 
-sound : (i : tie.In-loop Inv-loop μ-loop) → let a = i .before .before .before .before .before .before .args in Sound (a .table .now) (a .here)
-sound i = i .before .before .before .before .before .before .pre .0
+sound : (i : tie.In-loop Inv-loop μ-loop) → let a = i .before .before .before .before .before .before .before .args in Sound (a .table .now) (a .here)
+sound i = i .before .before .before .before .before .before .before .pre .0
 
-fit : (i : tie.In-loop Inv-loop μ-loop) → let a = i .before .before .before .before .before .before .args in Kinds (a .table .now) (a .here) (a .kinds .now)
-fit i = i .before .before .before .before .before .before .pre .1
+fit : (i : tie.In-loop Inv-loop μ-loop) → let a = i .before .before .before .before .before .before .before .args in Kinds (a .table .now) (a .here) (a .kinds .now)
+fit i = i .before .before .before .before .before .before .before .pre .1
 
 fitting : (i : tie.In-loop Inv-loop μ-loop) → Fits (machineOf i) (lineIn i)
-fitting i = let a = i .before .before .before .before .before .before .args in fits-of (a .starts) (a .ends) (sound i) (fit i)
+fitting i = let a = i .before .before .before .before .before .before .before .args in fits-of (a .starts) (a .ends) (sound i) (fit i)
 
 -- the row at hand
 abbrev row : tie.In-loop Inv-loop μ-loop → ℕ
@@ -57,27 +57,27 @@ few-entries i =
 -- ---- the entry that a turn meets
 
 abbrev in1 : tie.After-entry-by Inv-loop μ-loop → tie.In-loop Inv-loop μ-loop
-in1 c = c .before .before
+in1 c = c .before
 
 abbrev entryOf : tie.After-entry-by Inv-loop μ-loop → Entry
-entryOf c = let a = in1 c .before .before .before .before .before .before .args in cellAt (a .table .now) (a .here) (row (in1 c)) (c .before .kind-at .result)
+entryOf c = let a = in1 c .before .before .before .before .before .before .before .args in cellAt (a .table .now) (a .here) (row (in1 c)) (in1 c .before .loop .kind)
 
-kind-fits : (c : tie.After-kind-at Inv-loop μ-loop) → c .kind-at .result < classCount (c .before .before .before .before .before .before .before .args .table .now) (c .before .before .before .before .before .before .before .args .here)
-kind-fits c = rw (c .kind-at .ensures) (kind-low (fitting (c .before)) (c .before .before .loop .place))
+kind-fits : (i : tie.In-loop Inv-loop μ-loop) → let a = i .before .before .before .before .before .before .before .args in i .before .loop .kind < classCount (a .table .now) (a .here)
+kind-fits i = rw (i .before .loop .inv .3) (kind-low (fitting i) (i .before .loop .place))
 
 flags-are : (c : tie.After-entry-by Inv-loop μ-loop) → c .entry-by .result .flags ≡ entryOf c .flags
 flags-are c =
     let i = in1 c in
-    let a = i .before .before .before .before .before .before .args in
-    met-flags (a .table .now) (a .here) (row i) (c .before .kind-at .result) (i .before .before .before .u16-at .result) (i .before .before .before .u16-at .ensures .0) (i .before .loop .base) (i .before .loop .inv .1 .0)
+    let a = i .before .before .before .before .before .before .before .args in
+    met-flags (a .table .now) (a .here) (row i) (i .before .loop .kind) (i .before .before .before .before .u16-at .result) (i .before .before .before .before .u16-at .ensures .0) (i .before .loop .base) (i .before .loop .inv .1 .0)
     (c .entry-by .result .flags) (c .entry-by .ensures .1)
 
-base-is : (c : tie.After-entry-by Inv-loop μ-loop) → let a = in1 c .before .before .before .before .before .before .args in c .entry-by .result .base ≡ rowPlace (a .table .now) (a .here) (entryOf c .row)
+base-is : (c : tie.After-entry-by Inv-loop μ-loop) → let a = in1 c .before .before .before .before .before .before .before .args in c .entry-by .result .base ≡ rowPlace (a .table .now) (a .here) (entryOf c .row)
 base-is c =
     let i = in1 c in
-    let a = i .before .before .before .before .before .before .args in
-    met-base (a .table .now) (a .here) (row i) (c .before .kind-at .result) (i .before .before .before .u16-at .result) (i .before .before .before .u16-at .ensures .0) (i .before .loop .base) (i .before .loop .inv .1 .0)
-    (sound i) (c .entry-by .result .base) (c .entry-by .ensures .0 .0) (kept i .stands .row-low) (kind-fits (c .before))
+    let a = i .before .before .before .before .before .before .before .args in
+    met-base (a .table .now) (a .here) (row i) (i .before .loop .kind) (i .before .before .before .before .u16-at .result) (i .before .before .before .before .u16-at .ensures .0) (i .before .loop .base) (i .before .loop .inv .1 .0)
+    (sound i) (c .entry-by .result .base) (c .entry-by .ensures .0 .0) (kept i .stands .row-low) (kind-fits i)
 
 -- the turn's entry, seen from its last call
 abbrev met : tie.After-stops Inv-loop μ-loop → tie.After-entry-by Inv-loop μ-loop
@@ -93,9 +93,9 @@ after-calls c =
     let i = in1 (met c) in
     let l = i .before .loop in
     entered (machineOf i) (lineIn i) (row i) (l .place) (l .mark) (l .classes)
-    (met c .before .kind-at .result) (c .before .before .before .before .glyph-at .result) (c .before .before .before .mark-after .result)
+    (l .kind) (c .before .before .before .before .glyph-at .result) (c .before .before .before .mark-after .result)
     (entryOf (met c)) (met c .entry-by .result .flags) (c .before .give-classes .last .0)
-    (met c .before .kind-at .ensures) refl (flags-are (met c))
+    (l .inv .3) refl (flags-are (met c))
     (c .before .before .before .before .glyph-at .ensures) (c .before .before .before .mark-after .ensures) (c .before .give-classes .ensures)
 
 -- ---- what is asked
@@ -112,28 +112,25 @@ add-entries c = omega (arith, c .before .before .before .pre .0 .near, c .u16-at
 first-base-requires : tie.Need-first-base-requires Inv-loop μ-loop
 first-base-requires c κs = c .before .before .before .pre .0 .near
 
-loop-holds : tie.Need-loop-holds Inv-loop μ-loop
-loop-holds c =
-    let a = c .before .before .before .before .args in
-    let p = c .before .before .before .before .pre in (
-      cond (a .starts) 0 1,
-      c .first-base .ensures,
-      keeps-first (machineAt (a .table .now) (a .here)) (lineOf (a .kinds .now) (a .starts) (a .ends)) (fits-of (a .starts) (a .ends) (p .0) (p .1)) 1024 (cond (a .starts) 0 1) refl (p .1 .short)
-          refl,
-    )
-
 kind-at-requires : tie.Need-kind-at-requires Inv-loop μ-loop
 kind-at-requires c κs = search needs
 
+loop-holds : tie.Need-loop-holds Inv-loop μ-loop
+loop-holds c =
+    let a = c .before .before .before .before .before .args in
+    let p = c .before .before .before .before .before .pre in (
+      cond (a .starts) 0 1,
+      c .before .first-base .ensures,
+      keeps-first (machineAt (a .table .now) (a .here)) (lineOf (a .kinds .now) (a .starts) (a .ends)) (fits-of (a .starts) (a .ends) (p .0) (p .1)) 1024 (cond (a .starts) 0 1) refl (p .1 .short)
+          refl,
+      c .kind-at .ensures,
+    )
+
 add-entry-by : tie.Need-add-entry-by Inv-loop μ-loop
-add-entry-by c =
-    let i = c .before in
-    omega (arith, i .before .loop .inv .1 .1, kind-fits c, sound i .classes-high)
+add-entry-by c = omega (arith, c .before .loop .inv .1 .1, kind-fits c, sound c .classes-high)
 
 entry-by-requires : tie.Need-entry-by-requires Inv-loop μ-loop
-entry-by-requires c κs =
-    let i = c .before in
-    (sound i .near, omega (arith, sound i .near, i .before .before .before .u16-at .ensures .1))
+entry-by-requires c κs = (sound c .near, omega (arith, sound c .near, c .before .before .before .before .u16-at .ensures .1))
 
 glyph-at-requires : tie.Need-glyph-at-requires Inv-loop μ-loop
 glyph-at-requires c κs = fit (in1 c) .short
@@ -145,7 +142,7 @@ give-classes-requires : tie.Need-give-classes-requires Inv-loop μ-loop
 give-classes-requires c κs = search needs
 
 add-taken : tie.Need-add-taken Inv-loop μ-loop
-add-taken c = omega (arith, few-entries (c .before .before .before .before .before .before))
+add-taken c = omega (arith, few-entries (c .before .before .before .before .before))
 
 stops-requires : tie.Need-stops-requires Inv-loop μ-loop
 stops-requires c κs = search needs
@@ -155,7 +152,7 @@ returns c =
     let d = c .before in
     let i = in1 (met d) in
     let l = i .before .loop in
-    let w = stops-true (stays (met d .entry-by .result .flags)) (length (i .before .before .before .before .before .before .args .kinds .now)) (l .place) (sym (d .stops .ensures) ∙ c .if1 .taken) in
+    let w = stops-true (stays (met d .entry-by .result .flags)) (length (i .before .before .before .before .before .before .before .args .kinds .now)) (l .place) (sym (d .stops .ensures) ∙ c .if1 .taken) in
     keeps-stops (machineOf i) (lineIn i) (fitting i) (row i) (l .place) (l .mark) (l .spent) (l .count) (l .classes)
     (entryOf (met d)) (d .before .before .before .mark-after .result) (d .before .give-classes .last .0) (kept i) (omega (arith, i .loop-test .taken)) (after-calls d) (rw (flags-are (met d)) at (w .0)) (w .1)
 
@@ -178,31 +175,36 @@ loop-again c =
       (base-is (met d), met d .entry-by .ensures .0 .1),
       keeps-stays (machineOf i) (lineIn i) (fitting i) (row i) (l .place) (l .mark) (l .spent) (l .count) (l .classes)
           (entryOf (met d)) (d .before .before .before .mark-after .result) (d .before .give-classes .last .0) (kept i) (omega (arith, i .loop-test .taken)) (after-calls d) (rw (flags-are (met d)) at s),
+      l .inv .3,
     )
 
 add-place : tie.Need-add-place Inv-loop μ-loop
 add-place c = omega arith
+
+kind-at-requires-2 : tie.Need-kind-at-requires-2 Inv-loop μ-loop
+kind-at-requires-2 c κs = search needs
 
 loop-less-2 : tie.Need-loop-less-2 Inv-loop μ-loop
 loop-less-2 c = omega arith
 
 loop-again-2 : tie.Need-loop-again-2 Inv-loop μ-loop
 loop-again-2 c =
-    let d = c .before .before .before in
+    let d = c .before .before .before .before in
     let i = in1 (met d) in
     let l = i .before .loop in
-    let s = sym (c .before .stays-put .ensures) ∙ c .if2 .left in (
+    let s = sym (c .before .before .stays-put .ensures) ∙ c .before .if2 .left in (
       entryOf (met d) .row,
       (base-is (met d), met d .entry-by .ensures .0 .1),
       keeps-moves (machineOf i) (lineIn i) (fitting i) (row i) (l .place) (l .mark) (l .spent) (l .count) (l .classes)
           (entryOf (met d)) (d .before .before .before .mark-after .result) (d .before .give-classes .last .0) (kept i) (omega (arith, i .loop-test .taken)) (after-calls d) (rw (flags-are (met d)) at s)
-          (stops-false (stays (met d .entry-by .result .flags)) (length (i .before .before .before .before .before .before .args .kinds .now)) (l .place) (sym (d .stops .ensures) ∙ c .before .before .if1 .left) s),
+          (stops-false (stays (met d .entry-by .result .flags)) (length (i .before .before .before .before .before .before .before .args .kinds .now)) (l .place) (sym (d .stops .ensures) ∙ c .before .before .before .if1 .left) s),
+      c .kind-at2 .ensures,
     )
 
 returns-2 : tie.Need-returns-2 Inv-loop μ-loop
 returns-2 c =
-    let a = c .before .before .before .before .before .before .args in
-    let p = c .before .before .before .before .before .before .pre in
+    let a = c .before .before .before .before .before .before .before .args in
+    let p = c .before .before .before .before .before .before .before .pre in
     let l = c .before .loop in
     keeps-never (machineAt (a .table .now) (a .here)) (lineOf (a .kinds .now) (a .starts) (a .ends)) (fits-of (a .starts) (a .ends) (p .0) (p .1))
     (l .inv .0) (l .place) (l .mark) (l .spent) (l .count) (l .classes) 1024 (l .inv .2) (p .0 .rows-high) (omega (arith, c .loop-test .left)) refl
@@ -217,8 +219,8 @@ walk-line-spec =
     u16-at-requires
     add-entries
     first-base-requires
-    loop-holds
     kind-at-requires
+    loop-holds
     add-entry-by
     entry-by-requires
     glyph-at-requires
@@ -232,6 +234,7 @@ walk-line-spec =
     loop-less
     loop-again
     add-place
+    kind-at-requires-2
     loop-less-2
     loop-again-2
     returns-2)
