@@ -21,7 +21,7 @@ module _ (s : ℕ) (ks bs cs : List ℕ) (i : ℕ) where
   rest = factorsAt s (drop i ks) (drop i bs) (drop i cs)
 
 module _ (s : ℕ) (ks bs cs : List ℕ) (i : ℕ) (k : i < length ks) (b : i < length bs) (c : i < length cs) where
-  pub rest-at : rest s ks bs cs i
+  rest-at : rest s ks bs cs i
       ≡ cond (eqb (getD ks i 0) s) (getD bs i 0) 0 ∷ cond (eqb (getD ks i 0) s) (getD cs i 0) 0 ∷ rest s ks bs cs (i + 1)
   rest-at = rw (add-one, drop-cons ks i 0, drop-cons bs i 0, drop-cons cs i 0)
 

@@ -1,17 +1,18 @@
 -- The totals of the stages: what the loop over the glyphs keeps of each, and what the totals that it finds say of a line.
-use mathlib.Core.Path.{_≡_, refl, ap, _∙_}
-use mathlib.Core.List.{List}
-use mathlib.Core.Bool.{Bool, true, false, cond}
+use mathlib.Core.Path.{_≡_, refl, sym, ap, _∙_, subst}
+use mathlib.Core.List.{List, [], _∷_}
+use mathlib.Core.Bool.{Bool, true, false}
 use Prim.Native.Nat.{ℕ, zero, suc, _+_, _*_, _≤_, _<_, min}
 use native.Mathlib.Omega.{arith}
-use native.Mathlib.Decide.{decLt}
-use lib.Dec.{leb, eqb}
-use lib.ListN.{length, drop, getD}
+use native.Mathlib.Decide.{ℕ-discrete, decLt}
+use lib.Dec.{leb}
+use lib.ListN.{length, drop, getD, set, length-set}
+use lib.Seq.{getD-set-same, getD-set-other}
 use borrow.Author.Tests.{le-leb, lt-leb}
 use Rattle.share.specs.Share.{total, most, stages, within}
 use Rattle.share.specs.Inner.{weave, factorsAt, stageCount, totalAt, Told, TotalsOf, Fit}
 use Rattle.share.specs.declared.Totals.{Totals}
-use Rattle.share.proofs.Sides.{rest, rest-at, rest-end}
+use Rattle.share.proofs.Sides.{rest, rest-hit, rest-miss, rest-end}
 use Rattle.share.proofs.Lines.{within-on, within-over, within-end, fit-low}
 
 -- a stage past the first two is the last one
@@ -29,41 +30,74 @@ pub record Summing (s : ℕ) (ks bs cs : List ℕ) (i x : ℕ) : Type 0 where
   pub over : most < total (factorsAt s ks bs cs) → most < x + total (rest s ks bs cs i)
 
 module _ (s : ℕ) (ks bs cs : List ℕ) where
-  pub summing-start : Summing s ks bs cs 0 0
+  summing-start : Summing s ks bs cs 0 0
   summing-start = record { low = omega arith; exact = λ h. omega arith; over = λ h. omega arith }
 
-  pub summing-on : {i x b c v : ℕ} → Summing s ks bs cs i x → i < length ks → i < length bs → i < length cs → b ≡ min (getD bs i 0) (most + 1)
-      → c ≡ min (getD cs i 0) (most + 1) → v ≡ cond (eqb (getD ks i 0) s) (b + c) 0 → Summing s ks bs cs (i + 1) (x + v)
-  summing-on {i} {x} {b} {c} {v} g hk hb hc eb ec ev =
-      go (eqb (getD ks i 0) s) (ap total (rest-at s ks bs cs i hk hb hc)) ev
-    where
-      go : (t : Bool) → total (rest s ks bs cs i) ≡ cond t (getD bs i 0) 0 + (cond t (getD cs i 0) 0 + total (rest s ks bs cs (i + 1))) → v ≡ cond t (b + c) 0
-          → Summing s ks bs cs (i + 1) (x + v)
-      go true e f = record {
-        low = omega (arith, g .low);
-        exact = λ h. omega (arith, g .exact h);
-        over = λ h. omega (arith, g .over h);
-      }
-      go false e f = record {
-        low = omega (arith, g .low);
-        exact = λ h. omega (arith, g .exact h);
-        over = λ h. omega (arith, g .over h);
-      }
+  -- a glyph of the stage, of factors that are cut to b and c; and another one
+  module _ {i x : ℕ} (g : Summing s ks bs cs i x) (hk : i < length ks) (hb : i < length bs) (hc : i < length cs) where
+    summing-hit : {b c : ℕ} → getD ks i 0 ≡ s → b ≡ min (getD bs i 0) (most + 1) → c ≡ min (getD cs i 0) (most + 1) → Summing s ks bs cs (i + 1) (x + (b + c))
+    summing-hit e eb ec =
+        let r = ap total (rest-hit s ks bs cs i hk hb hc e) in
+        record { low = omega (arith, g .low); exact = λ h. omega (arith, g .exact h); over = λ h. omega (arith, g .over h) }
 
-  pub summing-end : {i x : ℕ} → Summing s ks bs cs i x → length ks ≤ i → Told x (total (factorsAt s ks bs cs))
+    summing-miss : (getD ks i 0 ≡ s → ⊥) → Summing s ks bs cs (i + 1) x
+    summing-miss e =
+        let r = ap total (rest-miss s ks bs cs i hk hb hc e) in
+        record { low = omega (arith, g .low); exact = λ h. omega (arith, g .exact h); over = λ h. omega (arith, g .over h) }
+
+  summing-end : {i x : ℕ} → Summing s ks bs cs i x → length ks ≤ i → Told x (total (factorsAt s ks bs cs))
   summing-end {i} {x} g h =
       let e = ap total (rest-end s ks bs cs i h) in
       record { exact = λ l. omega (arith, g .exact l); over = λ l. omega (arith, g .over l) }
 
-pub totals-of : (ks bs cs : List ℕ) {x y z : ℕ} → Told x (total (factorsAt 0 ks bs cs)) → Told y (total (factorsAt 1 ks bs cs))
-    → Told z (total (factorsAt 2 ks bs cs)) → TotalsOf (record { zero = x; one = y; two = z }) ks bs cs
-totals-of ks bs cs {x} {y} {z} a b c = record { at = go }
-  where
-    go : (s : ℕ) → s < stageCount → Told (totalAt (record { zero = x; one = y; two = z }) s) (total (factorsAt s ks bs cs))
-    go zero h = a
-    go (suc zero) h = b
-    go (suc (suc zero)) h = c
-    go (suc (suc (suc s))) h = absurd (omega arith)
+-- the sums of the stages stand in xs, and glyph i is next
+pub record Sums (ks bs cs : List ℕ) (i : ℕ) (xs : List ℕ) : Type 0 where
+  pub each : length xs ≡ stageCount
+  pub at : (s : ℕ) → s < stageCount → Summing s ks bs cs i (getD xs s 0)
+
+module _ (ks bs cs : List ℕ) where
+  pub sums-start : Sums ks bs cs 0 (0 ∷ 0 ∷ 0 ∷ [])
+  sums-start = record { each = refl; at = go }
+    where
+      go : (s : ℕ) → s < stageCount → Summing s ks bs cs 0 (getD (0 ∷ 0 ∷ 0 ∷ []) s 0)
+      go zero h = summing-start 0 ks bs cs
+      go (suc zero) h = summing-start 1 ks bs cs
+      go (suc (suc zero)) h = summing-start 2 ks bs cs
+      go (suc (suc (suc s))) h = absurd (omega arith)
+
+  module _ {i : ℕ} {xs : List ℕ} (g : Sums ks bs cs i xs) (hk : i < length ks) (hb : i < length bs) (hc : i < length cs) where
+    pub sums-on : {b c : ℕ} → getD ks i 0 < stageCount → b ≡ min (getD bs i 0) (most + 1) → c ≡ min (getD cs i 0) (most + 1)
+        → Sums ks bs cs (i + 1) (set xs (getD ks i 0) (getD xs (getD ks i 0) 0 + (b + c)))
+    sums-on {b} {c} hm eb ec = record { each = simp length-set (g .each); at = λ s h. go s h (ℕ-discrete (getD ks i 0) s) }
+      where
+        m : ℕ
+        m = getD ks i 0
+
+        v : ℕ
+        v = getD xs m 0 + (b + c)
+
+        stands : m < length xs
+        stands = omega (arith, g .each)
+
+        go : (s : ℕ) → s < stageCount → Dec (m ≡ s) → Summing s ks bs cs (i + 1) (getD (set xs m v) s 0)
+        go s h (yes e) =
+            subst (Summing s ks bs cs (i + 1))
+            (ap (λ (n : ℕ). getD xs n 0 + (b + c)) (sym e) ∙ sym (getD-set-same xs m v 0 stands) ∙ ap (λ (n : ℕ). getD (set xs m v) n 0) e)
+            (summing-hit s ks bs cs (g .at s h) hk hb hc e eb ec)
+        go s h (no e) = subst (Summing s ks bs cs (i + 1)) (sym (getD-set-other xs m s v 0 (λ q. e (sym q)))) (summing-miss s ks bs cs (g .at s h) hk hb hc e)
+
+    pub sums-past : stageCount ≤ getD ks i 0 → Sums ks bs cs (i + 1) xs
+    sums-past hm = record { each = g .each; at = λ s h. summing-miss s ks bs cs (g .at s h) hk hb hc (λ e. omega arith) }
+
+  pub sums-end : {i : ℕ} {xs : List ℕ} → Sums ks bs cs i xs → length ks ≤ i
+      → TotalsOf (record { zero = getD xs 0 0; one = getD xs 1 0; two = getD xs 2 0 }) ks bs cs
+  sums-end {i} {xs} g l = record { at = go }
+    where
+      go : (s : ℕ) → s < stageCount → Told (totalAt (record { zero = getD xs 0 0; one = getD xs 1 0; two = getD xs 2 0 }) s) (total (factorsAt s ks bs cs))
+      go zero h = summing-end 0 ks bs cs (g .at 0 h) l
+      go (suc zero) h = summing-end 1 ks bs cs (g .at 1 h) l
+      go (suc (suc zero)) h = summing-end 2 ks bs cs (g .at 2 h) l
+      go (suc (suc (suc s))) h = absurd (omega arith)
 
 -- ---- what they say
 

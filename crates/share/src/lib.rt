@@ -4,7 +4,7 @@
 ghost use mathlib.Core.Path.{_≡_};
 ghost use Prim.Native.Nat.{ℕ, _+_, _≤_, _<_, _^_, min};
 ghost use lib.ListN.{length, replicate};
-ghost use lib.Dec.{eqb, ltb};
+ghost use lib.Dec.{ltb};
 ghost use mathlib.Core.Bool.{true, cond};
 ghost use mathlib.Core.List.{List, map};
 ghost use Rattle.share.specs.Share.{total, most, plus, shares, stages, stageMoves, stageLeft, stagesMoves, stagesLeft, backMoves, backLeft, movements, remainder};
@@ -97,31 +97,27 @@ fn cut(factor: u64) -> u64
     if MOST < factor { MOST + 1 } else { factor }
 }
 
-// What a glyph of this mark adds to a stage's total.
-fn added(mark: u8, stage: u8, more: u64) -> u64
-    ensures { λ r. ⌜ (r ≡ cond (eqb mark stage) more 0) × (r ≤ more) ⌝ }
-{
-    if mark == stage { more } else { 0 }
-}
-
 // The totals of a line's stages.
 pub fn line_totals(marks: &[u8], first: &[u64], second: &[u64]) -> Totals
     requires { ⌜ Parts (length (now marks)) (now marks) (now first) (now second) × (length (now marks) ≤ 1024) ⌝ }
     ensures { λ r. ⌜ TotalsOf r (now (marks .entry)) (now (first .entry)) (now (second .entry)) ⌝ }
 {
-    let mut zero: u64 = 0;
-    let mut one: u64 = 0;
-    let mut two: u64 = 0;
+    let mut sums = [0u64; 3];
     let mut i = 0;
     while i < marks.len() {
-        let mark = marks[i];
-        let more = cut(first[i]) + cut(second[i]);
-        zero += added(mark, 0, more);
-        one += added(mark, 1, more);
-        two += added(mark, 2, more);
-        i += 1;
+        let stage = marks[i];
+        if stage < STAGES {
+            sums[stage as usize] += cut(first[i]) + cut(second[i]);
+            i += 1;
+        } else {
+            i += 1;
+        }
     }
-    Totals { zero, one, two }
+    Totals {
+        zero: sums[0],
+        one: sums[1],
+        two: sums[2],
+    }
 }
 
 // Refusal 15's test: whether no stage's total is above the most that it may be.

@@ -2,22 +2,21 @@ use lib.ListN.{length}
 use Prim.Native.Nat.{_-_, _≤_}
 use native.Mathlib.Omega.{arith}
 use borrow.Author.Needs.{needs}
-use Rattle.share.proofs.Sums.{Summing, summing-start, summing-on, summing-end, totals-of}
+use Rattle.share.proofs.Sums.{Sums, sums-start, sums-on, sums-past, sums-end}
 use Rattle.share.proofs.line_totals.Statement.{statement}
 use Rattle.share.proofs.line_totals.Tie as tie
 
 abbrev Inv-loop : tie.InvT-loop
-Inv-loop marks first second zero₀ one₀ two₀ i₀ zero one two i = (i ≤ length marks) × Summing 0 marks first second i zero × Summing 1 marks first second i one × Summing 2 marks first second i two
+Inv-loop marks first second sums₀ i₀ sums i = (i ≤ length marks) × Sums marks first second i sums
 
 abbrev μ-loop : tie.MeasureT-loop
-μ-loop marks first second zero₀ one₀ two₀ i₀ zero one two i = length marks - i
+μ-loop marks first second sums₀ i₀ sums i = length marks - i
 
 loop-holds : tie.Need-loop-holds Inv-loop μ-loop
-loop-holds c = let a = c .before .before .before .args in
-    (omega arith, summing-start 0 (a .marks .now) (a .first .now) (a .second .now), summing-start 1 (a .marks .now) (a .first .now) (a .second .now), summing-start 2 (a .marks .now) (a .first .now) (a .second .now))
+loop-holds c = let a = c .before .before .before .args in (omega arith, sums-start (a .marks .now) (a .first .now) (a .second .now))
 
-shared-slice-read-mark : tie.Need-shared-slice-read-mark Inv-loop μ-loop
-shared-slice-read-mark c = omega arith
+shared-slice-read-stage : tie.Need-shared-slice-read-stage Inv-loop μ-loop
+shared-slice-read-stage c = omega arith
 
 mul-cut : tie.Need-mul-cut Inv-loop μ-loop
 mul-cut c = omega arith
@@ -37,26 +36,23 @@ shared-slice-read-cut-2 c = omega arith
 cut-requires-2 : tie.Need-cut-requires-2 Inv-loop μ-loop
 cut-requires-2 c κs = search needs
 
-add-more : tie.Need-add-more Inv-loop μ-loop
-add-more c = omega (arith, c .before .before .cut .ensures, c .cut2 .ensures)
+add-sums : tie.Need-add-sums Inv-loop μ-loop
+add-sums c = omega (arith, c .before .before .cut .ensures, c .cut2 .ensures)
 
-added-requires : tie.Need-added-requires Inv-loop μ-loop
-added-requires c κs = search needs
+cast-sums : tie.Need-cast-sums Inv-loop μ-loop
+cast-sums c = omega arith
 
-add-zero : tie.Need-add-zero Inv-loop μ-loop
-add-zero c = omega (arith, c .before .before .before .before .before .before .before .loop .inv .1 .low, c .before .before .before .cut .ensures, c .before .cut2 .ensures, c .added .ensures .1)
+mul-sums : tie.Need-mul-sums Inv-loop μ-loop
+mul-sums c = omega arith
 
-added-requires-2 : tie.Need-added-requires-2 Inv-loop μ-loop
-added-requires-2 c κs = search needs
+array-read-sums : tie.Need-array-read-sums Inv-loop μ-loop
+array-read-sums c = omega (arith, c .before .before .before .before .before .before .before .loop .inv .1 .each, c .before .before .before .before .if1 .taken)
 
-add-one : tie.Need-add-one Inv-loop μ-loop
-add-one c = omega (arith, c .before .before .before .before .before .before .before .before .loop .inv .2 .low, c .before .before .before .before .cut .ensures, c .before .before .cut2 .ensures, c .added2 .ensures .1)
+add-sums-2 : tie.Need-add-sums-2 Inv-loop μ-loop
+add-sums-2 c = omega (arith, c .before .before .cut .ensures, c .cut2 .ensures, c .before .before .before .before .before .before .before .loop .inv .1 .at _ (c .before .before .before .before .if1 .taken) .low)
 
-added-requires-3 : tie.Need-added-requires-3 Inv-loop μ-loop
-added-requires-3 c κs = search needs
-
-add-two : tie.Need-add-two Inv-loop μ-loop
-add-two c = omega (arith, c .before .before .before .before .before .before .before .before .before .loop .inv .3 .low, c .before .before .before .before .before .cut .ensures, c .before .before .before .cut2 .ensures, c .added3 .ensures .1)
+array-write-sums : tie.Need-array-write-sums Inv-loop μ-loop
+array-write-sums c = omega (arith, c .before .before .before .before .before .before .before .loop .inv .1 .each, c .before .before .before .before .if1 .taken)
 
 add-i : tie.Need-add-i Inv-loop μ-loop
 add-i c = omega arith
@@ -65,19 +61,33 @@ loop-less : tie.Need-loop-less Inv-loop μ-loop
 loop-less c = omega arith
 
 loop-again : tie.Need-loop-again Inv-loop μ-loop
-loop-again c = let a = c .before .before .before .before .before .before .before .before .before .before .before .before .before .args in
-    let l = c .before .before .before .before .before .before .before .before .before .loop in (
-      omega arith,
-      summing-on 0 (a .marks .now) (a .first .now) (a .second .now) (l .inv .1) (omega arith) (omega arith) (omega arith) (c .before .before .before .before .before .cut .ensures) (c .before .before .before .cut2 .ensures) (c .before .before .added .ensures .0),
-      summing-on 1 (a .marks .now) (a .first .now) (a .second .now) (l .inv .2) (omega arith) (omega arith) (omega arith) (c .before .before .before .before .before .cut .ensures) (c .before .before .before .cut2 .ensures) (c .before .added2 .ensures .0),
-      summing-on 2 (a .marks .now) (a .first .now) (a .second .now) (l .inv .3) (omega arith) (omega arith) (omega arith) (c .before .before .before .before .before .cut .ensures) (c .before .before .before .cut2 .ensures) (c .added3 .ensures .0),
-    )
+loop-again c = let a = c .before .before .before .before .before .before .before .before .before .before .before .args in
+    let l = c .before .before .before .before .before .before .before .loop in
+    (omega arith, sums-on (a .marks .now) (a .first .now) (a .second .now) (l .inv .1) (omega arith) (omega arith) (omega arith) (c .before .before .before .before .if1 .taken) (c .before .before .cut .ensures) (c .cut2 .ensures))
+
+add-i-2 : tie.Need-add-i-2 Inv-loop μ-loop
+add-i-2 c = omega arith
+
+loop-less-2 : tie.Need-loop-less-2 Inv-loop μ-loop
+loop-less-2 c = omega arith
+
+loop-again-2 : tie.Need-loop-again-2 Inv-loop μ-loop
+loop-again-2 c = let a = c .before .before .before .before .before .before .before .args in
+    let l = c .before .before .before .loop in
+    (omega arith, sums-past (a .marks .now) (a .first .now) (a .second .now) (l .inv .1) (omega arith) (omega arith) (omega arith) (c .if1 .left))
+
+array-read-t28 : tie.Need-array-read-t28 Inv-loop μ-loop
+array-read-t28 c = omega (arith, c .before .loop .inv .1 .each)
+
+array-read-t31 : tie.Need-array-read-t31 Inv-loop μ-loop
+array-read-t31 c = omega (arith, c .before .loop .inv .1 .each)
+
+array-read-t34 : tie.Need-array-read-t34 Inv-loop μ-loop
+array-read-t34 c = omega (arith, c .before .loop .inv .1 .each)
 
 returns : tie.Need-returns Inv-loop μ-loop
 returns c = let a = c .before .before .before .before .before .args in
-    let l = c .before .loop in
-    let end : length (a .marks .now) ≤ l .i = omega arith in
-    totals-of (a .marks .now) (a .first .now) (a .second .now) (summing-end 0 (a .marks .now) (a .first .now) (a .second .now) (l .inv .1) end) (summing-end 1 (a .marks .now) (a .first .now) (a .second .now) (l .inv .2) end) (summing-end 2 (a .marks .now) (a .first .now) (a .second .now) (l .inv .3) end)
+    sums-end (a .marks .now) (a .first .now) (a .second .now) (c .before .loop .inv .1) (omega arith)
 
 pub line-totals-spec : {M : Type 1} → statement M
 line-totals-spec =
@@ -86,21 +96,26 @@ line-totals-spec =
     Inv-loop
     μ-loop
     loop-holds
-    shared-slice-read-mark
+    shared-slice-read-stage
     mul-cut
     shared-slice-read-cut
     cut-requires
     mul-cut-2
     shared-slice-read-cut-2
     cut-requires-2
-    add-more
-    added-requires
-    add-zero
-    added-requires-2
-    add-one
-    added-requires-3
-    add-two
+    add-sums
+    cast-sums
+    mul-sums
+    array-read-sums
+    add-sums-2
+    array-write-sums
     add-i
     loop-less
     loop-again
+    add-i-2
+    loop-less-2
+    loop-again-2
+    array-read-t28
+    array-read-t31
+    array-read-t34
     returns)
