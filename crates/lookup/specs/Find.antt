@@ -6,6 +6,7 @@ use mathlib.Core.Bool.{Bool, cond, _&&_, _||_}
 use lib.Dec.{leb, ltb, eqb}
 use Rattle.fields.specs.Field.{u16At}
 use Rattle.lookup.specs.declared.Found.{Found}
+use Rattle.lookup.specs.declared.Head.{Head}
 use Rattle.lookup.specs.declared.Found.the-variants.{Value, Nothing}
 use Rattle.lookup.specs.Units.{unitSize, lastOf, firstOf}
 
@@ -34,6 +35,10 @@ hasUnits format = eqb format 2 || eqb format 4 || eqb format 6
 -- how many units the lookup at `at` counts
 unfoldable pub unitCount : List ℕ → ℕ → ℕ
 unitCount t at = cond (hasUnits (u16At t at)) (u16At t (at + 4)) 0
+
+-- the head of the lookup at `at`
+unfoldable pub headAt : List ℕ → ℕ → Head
+headAt t at = record { format = u16At t at; units = unitCount t at }
 
 -- format 8: first, count, values
 unfoldable pub trimmedValue : List ℕ → ℕ → ℕ → Found

@@ -7,7 +7,7 @@ ghost use Rattle.fields.specs.declared.Fault.the-variants.{Clear};
 ghost use Rattle.fields.specs.Field.{u16At};
 ghost use Rattle.lookup.specs.Units.{unitSize, firstOf, rangeFault, singleFault, unitFault, unitsFault, arrayFault, valuesFault, arraysFault, below};
 ghost use Rattle.lookup.specs.Lookup.{countedFault, segmentsFault, trimmedFault, lookupFault};
-ghost use Rattle.lookup.specs.Find.{covers, unitValue, unitsValue, hasUnits, unitCount, trimmedValue, valueFrom, valueOf};
+ghost use Rattle.lookup.specs.Find.{covers, unitValue, unitsValue, hasUnits, headAt, trimmedValue, valueFrom, valueOf};
 ghost use Rattle.lookup.specs.Pass.{Serves, Reaches, untilOf, Constant};
 use fields::Fault;
 use fields::Refusal;
@@ -16,6 +16,12 @@ use fields::Refusal;
 pub enum Found {
     Value(u16),
     Nothing,
+}
+
+// The head of a lookup: its format, and how many units it counts.
+pub struct Head {
+    pub format: usize,
+    pub units: usize,
 }
 
 // Where a pass over glyphs upward stands: the unit at hand, and how many counted units are left from it on.
@@ -268,15 +274,17 @@ pub fn lookup_fault(table: &[u8], glyphs: usize, at: usize) -> Fault
     }
 }
 
-// Whether the unit at `p` covers a glyph.
-fn covers_glyph(table: &[u8], format: usize, glyph: usize, p: usize) -> bool
+// Whether the unit of formats 2 and 4 at `p` covers a glyph. Its last and its first glyph stand beside each other and are
+// read as one number.
+fn range_covers(table: &[u8], glyph: usize, p: usize) -> bool
     requires { ⌜ p < 2 ^ 40 ⌝ }
-    ensures { λ r. ⌜ r ≡ covers (now (table .entry)) format glyph p ⌝ }
+    ensures { λ r. ⌜ ((format : ℕ) → (format ≡ 6 → ⊥) → r ≡ covers (now (table .entry)) format glyph p) ⌝ }
 {
-    if glyph < first_of(table, format, p) {
+    let ends = fields::u32_at(table, p);
+    if glyph < ends % 65536 {
         return false;
     }
-    glyph <= fields::u16_at(table, p)
+    glyph <= ends / 65536
 }
 
 // What the unit at `p`, in the lookup at `at`, gives a glyph that it covers.
@@ -295,8 +303,8 @@ fn unit_value(table: &[u8], format: usize, at: usize, glyph: usize, p: usize) ->
     fields::u16_at(table, p + 2) as u16
 }
 
-// What the first of `count` units from `start` on that covers the glyph gives it.
-fn units_value(
+// What the first of `count` units of formats 2 and 4 from `start` on that covers the glyph gives it.
+fn ranges_value(
     table: &[u8],
     format: usize,
     at: usize,
@@ -305,16 +313,33 @@ fn units_value(
     start: usize,
 ) -> Found
     requires { ⌜ (at < 2 ^ 32) × ((glyph < 2 ^ 16) × (start + 6 * count < 2 ^ 40)) ⌝ }
+    requires { ⌜ (format ≡ 6 → ⊥) ⌝ }
     ensures { λ r. ⌜ r ≡ unitsValue (now (table .entry)) format at glyph count start ⌝ }
 {
-    let size = unit_size(format);
     let mut p = start;
     let mut left = count;
     while 0 < left {
-        if covers_glyph(table, format, glyph, p) {
+        if range_covers(table, glyph, p) {
             return Found::Value(unit_value(table, format, at, glyph, p));
         }
-        p += size;
+        p += 6;
+        left -= 1;
+    }
+    Found::Nothing
+}
+
+// What the first of `count` units of format 6 from `start` on that has the glyph gives it.
+fn singles_value(table: &[u8], glyph: usize, count: usize, start: usize) -> Found
+    requires { ⌜ start + 6 * count < 2 ^ 40 ⌝ }
+    ensures { λ r. ⌜ ((at : ℕ) → r ≡ unitsValue (now (table .entry)) 6 at glyph count start) ⌝ }
+{
+    let mut p = start;
+    let mut left = count;
+    while 0 < left {
+        if fields::u16_at(table, p) == glyph {
+            return Found::Value(fields::u16_at(table, p + 2) as u16);
+        }
+        p += 4;
         left -= 1;
     }
     Found::Nothing
@@ -333,15 +358,19 @@ fn has_units(format: usize) -> bool
     format == 6
 }
 
-// How many units the lookup at `at` counts.
-fn unit_count(table: &[u8], at: usize) -> usize
+// The head of the lookup at `at`.
+pub fn head_at(table: &[u8], at: usize) -> Head
     requires { ⌜ at < 2 ^ 32 ⌝ }
-    ensures { λ r. ⌜ (r ≡ unitCount (now (table .entry)) at) × (r < 2 ^ 16) ⌝ }
+    ensures { λ r. ⌜ r ≡ headAt (now (table .entry)) at ⌝ }
 {
-    if has_units(fields::u16_at(table, at)) {
-        return fields::u16_at(table, at + 4);
+    let format = fields::u16_at(table, at);
+    if has_units(format) {
+        return Head {
+            format,
+            units: fields::u16_at(table, at + 4),
+        };
     }
-    0
+    Head { format, units: 0 }
 }
 
 // Format 8.
@@ -360,31 +389,50 @@ fn trimmed_value(table: &[u8], at: usize, glyph: usize) -> Found
     Found::Value(fields::u16_at(table, at + 6 + 2 * (glyph - first)) as u16)
 }
 
-// The value at a glyph where the units that are looked at are `count`, from `start` on.
-fn value_from(table: &[u8], at: usize, glyph: usize, count: usize, start: usize) -> Found
+// The value at a glyph in the lookup at `at`, whose format was read, where the units that are looked at are `count`, from
+// `start` on.
+fn value_from(
+    table: &[u8],
+    format: usize,
+    at: usize,
+    glyph: usize,
+    count: usize,
+    start: usize,
+) -> Found
     requires { ⌜ (at < 2 ^ 32) × ((glyph < 2 ^ 16) × (start + 6 * count < 2 ^ 40)) ⌝ }
+    requires { ⌜ format ≡ u16At (now table) at ⌝ }
     ensures { λ r. ⌜ r ≡ valueFrom (now (table .entry)) at glyph count start ⌝ }
 {
-    let format = fields::u16_at(table, at);
     if format == 0 {
         return Found::Value(fields::u16_at(table, at + 2 + 2 * glyph) as u16);
+    }
+    if format == 6 {
+        return singles_value(table, glyph, count, start);
     }
     if format == 8 {
         return trimmed_value(table, at, glyph);
     }
-    units_value(table, format, at, glyph, count, start)
+    ranges_value(table, format, at, glyph, count, start)
 }
 
-// The value at a glyph in the lookup at `at`, for a font of `glyphs` glyphs.
-pub fn find(table: &[u8], glyphs: usize, at: usize, glyph: u16) -> Found
-    requires { ⌜ at < 2 ^ 32 ⌝ }
+// The value at a glyph in the lookup at `at`, whose head was read, for a font of `glyphs` glyphs.
+pub fn find_by(table: &[u8], glyphs: usize, at: usize, head: Head, glyph: u16) -> Found
+    requires { ⌜ (at < 2 ^ 32) × (head ≡ headAt (now table) at) ⌝ }
     ensures { λ r. ⌜ r ≡ valueOf (now (table .entry)) glyphs at glyph ⌝ }
 {
     let number = glyph as usize;
     if glyphs <= number {
         return Found::Nothing;
     }
-    value_from(table, at, number, unit_count(table, at), at + 12)
+    value_from(table, head.format, at, number, head.units, at + 12)
+}
+
+// The same, the head being read for this glyph.
+pub fn find(table: &[u8], glyphs: usize, at: usize, glyph: u16) -> Found
+    requires { ⌜ at < 2 ^ 32 ⌝ }
+    ensures { λ r. ⌜ r ≡ valueOf (now (table .entry)) glyphs at glyph ⌝ }
+{
+    find_by(table, glyphs, at, head_at(table, at), glyph)
 }
 
 // A pass over the lookup at `at` begins.
@@ -394,7 +442,7 @@ pub fn begin(table: &[u8], at: usize) -> Cursor
 {
     Cursor {
         at: at + 12,
-        left: unit_count(table, at),
+        left: head_at(table, at).units,
     }
 }
 
@@ -425,10 +473,11 @@ fn value_here(table: &[u8], glyphs: usize, at: usize, cursor: Cursor, glyph: usi
     if glyphs <= glyph {
         return Found::Nothing;
     }
+    let format = fields::u16_at(table, at);
     if cursor.left == 0 {
-        return value_from(table, at, glyph, 0, start);
+        return value_from(table, format, at, glyph, 0, start);
     }
-    value_from(table, at, glyph, 1, start)
+    value_from(table, format, at, glyph, 1, start)
 }
 
 // Up to which glyph the units from the cursor on give what they give `glyph`: the next unit's first glyph, the end
