@@ -1,6 +1,7 @@
 -- Where the parts of a table's meaning stand in its bytes (document 01, "The table"): a direction's offsets, its machine, a glyph's cluster and a glyph's
 -- actions. Offset 0 is an absent direction, no machine, no actions. Fields are read as if zeros followed the table.
-use Prim.Native.Nat.{ℕ}
+use Prim.Native.Nat.{ℕ, _<_, _^_}
+use mathlib.Core.Path.{_≡_}
 use mathlib.Core.Bool.{cond}
 use mathlib.Core.List.{List}
 use lib.Dec.{eqb}
@@ -8,12 +9,15 @@ use Rattle.fields.specs.Field.{u16At}
 use Rattle.parts.specs.declared.Direction.{Direction}
 use Rattle.parts.specs.declared.Direction.the-variants.{Horizontal, Vertical}
 use Rattle.meaning.specs.Ask.{Answer, nothing, number, both, entry, pair, act}
-use Rattle.lookup.specs.Find.{valueOf}
+use Rattle.lookup.specs.Find.{headAt, valueOf}
 use Rattle.actions.specs.declared.Spot.{Spot}
 use Rattle.actions.specs.declared.Spot.the-variants.{At, Nowhere}
 use Rattle.actions.specs.Actions.{actionAt, placeOf, clipped}
+use Rattle.values.specs.declared.Kind.{Kind}
 use Rattle.values.specs.declared.Kind.the-variants.{Clusters, Lists}
 use Rattle.values.specs.Values.{spotOf}
+use Rattle.table_parts.specs.declared.Lookup.{Lookup}
+use Rattle.table_parts.specs.declared.Lookup.the-variants.{Absent, There}
 use Rattle.table.specs.Table.{machineOffset, widthOffset, actionOffset, widthLookup}
 
 -- where a direction's three offsets stand
@@ -24,6 +28,29 @@ directionAt t Vertical = u16At t 8
 -- the offset of a direction's machine
 unfoldable pub machineIn : List ℕ → Direction → ℕ
 machineIn t d = cond (eqb (directionAt t d) 0) 0 (machineOffset t (directionAt t d))
+
+-- the lookup of a direction's clusters
+unfoldable pub clustersIn : List ℕ → Direction → Lookup
+clustersIn t d =
+    cond (eqb (directionAt t d) 0) Absent
+    (There (widthLookup (directionAt t d)) (widthOffset t (directionAt t d)) (headAt t (widthLookup (directionAt t d))))
+
+-- the lookup of a direction's action lists
+unfoldable pub listsIn : List ℕ → Direction → Lookup
+listsIn t d =
+    cond (eqb (directionAt t d) 0) Absent
+    (cond (eqb (actionOffset t (directionAt t d)) 0) Absent
+    (There (actionOffset t (directionAt t d)) (actionOffset t (directionAt t d)) (headAt t (actionOffset t (directionAt t d)))))
+
+-- what is kept of a lookup was read of this table
+abbrev pub Readable : List ℕ → Lookup → Type 0
+Readable t Absent = Unit {0}
+Readable t (There at base head) = (at < 2 ^ 32) × ((base < 2 ^ 16) × (head ≡ headAt t at))
+
+-- where a glyph's cluster or list stands, by the lookup of that kind
+abbrev pub spotBy : List ℕ → ℕ → Kind → Lookup → ℕ → Spot
+spotBy t n kind Absent glyph = Nowhere
+spotBy t n kind (There at base head) glyph = spotOf kind base (valueOf t n at glyph)
 
 -- where a glyph's width records stand
 unfoldable pub clusterSpot : List ℕ → ℕ → Direction → ℕ → Spot

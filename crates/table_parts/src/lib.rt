@@ -10,7 +10,7 @@ ghost use Rattle.cluster.specs.Pairs.{clusterAt};
 ghost use Rattle.actions.specs.Actions.{Below};
 ghost use Rattle.table.specs.Table.{tableFault};
 ghost use Rattle.table.specs.Means.{meaningOf};
-ghost use Rattle.table_parts.specs.Places.{directionAt, machineIn, clusterSpot, listSpot, actionSpot, cut};
+ghost use Rattle.table_parts.specs.Places.{directionAt, machineIn, clustersIn, listsIn, Readable, spotBy, clusterSpot, listSpot, actionSpot, cut};
 ghost use Rattle.table_parts.specs.Components.{componentsOf, stretch, placeIn};
 use actions::Spot;
 use actions::Stretch;
@@ -22,8 +22,15 @@ use answers::RecordAnswer;
 use answers::SizesAnswer;
 use answers::Sought;
 use fields::Fault;
+use lookup::Head;
 use parts::Direction;
 use values::Kind;
+
+// A direction's lookup of one kind, read once: where it stands, what its values count from, and its head.
+pub enum Lookup {
+    Absent,
+    There { at: usize, base: usize, head: Head },
+}
 
 // Where a direction's offsets stand; 0 for an absent one.
 pub fn direction_at(table: &[u8], direction: Direction) -> usize
@@ -93,17 +100,58 @@ pub fn cell_of(table: &[u8], count: u32, direction: Direction, row: u16, class: 
     CellAnswer::Cell(machine::cell(table, offset + 8, row as usize, class as usize))
 }
 
+// The lookup of a direction's clusters.
+pub fn clusters_in(table: &[u8], direction: Direction) -> Lookup
+    ensures { λ r. ⌜ (r ≡ clustersIn (now (table .entry)) direction) × Readable (now (table .entry)) r ⌝ }
+{
+    let at = direction_at(table, direction);
+    if at == 0 {
+        return Lookup::Absent;
+    }
+    Lookup::There {
+        at: at + 6,
+        base: fields::u16_at(table, at + 2),
+        head: lookup::head_at(table, at + 6),
+    }
+}
+
+// The lookup of a direction's action lists.
+pub fn lists_in(table: &[u8], direction: Direction) -> Lookup
+    ensures { λ r. ⌜ (r ≡ listsIn (now (table .entry)) direction) × Readable (now (table .entry)) r ⌝ }
+{
+    let at = direction_at(table, direction);
+    if at == 0 {
+        return Lookup::Absent;
+    }
+    let offset = fields::u16_at(table, at + 4);
+    if offset == 0 {
+        return Lookup::Absent;
+    }
+    Lookup::There {
+        at: offset,
+        base: offset,
+        head: lookup::head_at(table, offset),
+    }
+}
+
+// Where a glyph's cluster or list stands, by the lookup of that kind.
+pub fn spot_by(table: &[u8], count: u32, kind: Kind, looked: Lookup, glyph: u16) -> Spot
+    requires { ⌜ Readable (now table) looked ⌝ }
+    ensures { λ r. ⌜ (r ≡ spotBy (now (table .entry)) count kind looked glyph) × Below (2 ^ 17) r ⌝ }
+{
+    let Lookup::There { at, base, head } = looked else {
+        return Spot::Nowhere;
+    };
+    let found = lookup::find_by(table, count as usize, at, head, glyph);
+    values::spot_of(kind, base, found)
+}
+
 // Where a glyph's width records stand in a direction.
 pub fn cluster_spot(table: &[u8], count: u32, direction: Direction, glyph: u16) -> Spot
     ensures { λ r. ⌜ (r ≡ clusterSpot (now (table .entry)) count direction glyph) × Below (2 ^ 17) r ⌝ }
 {
-    let at = direction_at(table, direction);
-    if at == 0 {
-        return Spot::Nowhere;
-    }
-    let base = fields::u16_at(table, at + 2);
-    let found = lookup::find(table, count as usize, at + 6, glyph);
-    values::spot_of(Kind::Clusters, base, found)
+    let clusters = clusters_in(table, direction);
+    spot_by(table, count, Kind::Clusters, clusters, glyph)
 }
 
 // The width record of a class in the cluster at a position.
@@ -137,16 +185,8 @@ pub fn record_of(
 pub fn list_spot(table: &[u8], count: u32, direction: Direction, glyph: u16) -> Spot
     ensures { λ r. ⌜ (r ≡ listSpot (now (table .entry)) count direction glyph) × Below (2 ^ 17) r ⌝ }
 {
-    let at = direction_at(table, direction);
-    if at == 0 {
-        return Spot::Nowhere;
-    }
-    let offset = fields::u16_at(table, at + 4);
-    if offset == 0 {
-        return Spot::Nowhere;
-    }
-    let found = lookup::find(table, count as usize, offset, glyph);
-    values::spot_of(Kind::Lists, offset, found)
+    let lists = lists_in(table, direction);
+    spot_by(table, count, Kind::Lists, lists, glyph)
 }
 
 // Where the action of a glyph with a number stands in a direction.
