@@ -11,14 +11,17 @@ ghost use Rattle.meaning.specs.Ask.{sideOf};
 ghost use Rattle.cluster.specs.Pairs.{soughtPair};
 ghost use Rattle.table.specs.Table.{tableFault};
 ghost use Rattle.table.specs.Means.{meaningOf};
+ghost use Rattle.table_parts.specs.Places.{clustersIn, Readable};
 ghost use Rattle.walk.specs.Line.{handedOut};
 ghost use Rattle.lines.specs.Line.{walkOf, recordFor, unitsOf, stageOf, partBy, partOf, partsOf};
 ghost use Rattle.line_parts.specs.Parts.{Known, bareLine, Small, IsSize, PartOf, Laid, Room, SharedOut};
 use actions::Spot;
 use cluster::Sought;
 use parts::Direction;
+use table_parts::Lookup;
 use units::Ems;
 use units::Units;
+use values::Kind;
 use walk::Walked;
 
 // A glyph's part in the sharing of the gap: its stage mark, 1 where it is unlimited and else 0, and the factors of
@@ -141,12 +144,20 @@ fn plain(factor: Units) -> u64
     factor.0 as u64
 }
 
-// A glyph's width record for its class.
-fn record_for(table: &[u8], count: u32, direction: Direction, glyph: u16, class: u8) -> Sought
+// A glyph's width record for its class, by the lookup of its direction's clusters.
+fn record_for(
+    table: &[u8],
+    count: u32,
+    direction: Direction,
+    clusters: Lookup,
+    glyph: u16,
+    class: u8,
+) -> Sought
     requires { ⌜ tableFault (now table) count ≡ Clear ⌝ }
+    requires { ⌜ (clusters ≡ clustersIn (now table) direction) × Readable (now table) clusters ⌝ }
     ensures { λ r. ⌜ (soughtPair r ≡ recordFor (sideOf direction (meaningOf (now (table .entry)) count)) glyph class) × Small (soughtPair r) ⌝ }
 {
-    match table_parts::cluster_spot(table, count, direction, glyph) {
+    match table_parts::spot_by(table, count, Kind::Clusters, clusters, glyph) {
         Spot::At(at) => reader::record_by(table, at as u32, class),
         Spot::Nowhere => Sought::Nothing,
     }
@@ -170,9 +181,10 @@ fn lay_parts(
     requires { ⌜ Room (length (now glyphs)) (now marks) (now extras) (now first) (now second) ⌝ }
     ensures { λ r. ⌜ Laid (partsOf (sideOf direction (meaningOf (now (table .entry)) count)) shrink size (now (glyphs .entry)) (now (classes .entry))) (now (marks .exit)) (now (extras .exit)) (now (first .exit)) (now (second .exit)) ⌝ }
 {
+    let clusters = table_parts::clusters_in(table, direction);
     let mut i = 0;
     while i < glyphs.len() {
-        let sought = record_for(table, count, direction, glyphs[i], classes[i]);
+        let sought = record_for(table, count, direction, clusters, glyphs[i], classes[i]);
         let part = part_of(shrink, size, sought);
         marks[i] = part.mark;
         extras[i] = part.extra;
@@ -236,8 +248,48 @@ fn share_parts(
     Shared::Over
 }
 
-// The same over a room of its own: the signed movements of each glyph into `before` and `after`.
-pub fn share_glyphs(
+// The same over a room of its own for 128 glyphs.
+fn share_short(
+    table: &[u8],
+    count: u32,
+    direction: Direction,
+    shrink: bool,
+    gap: u64,
+    size: u32,
+    glyphs: &[u16],
+    classes: &[u8],
+    before: &mut [i32],
+    after: &mut [i32],
+) -> Shared
+    requires { ⌜ (tableFault (now table) count ≡ Clear) × (length (now classes) ≡ length (now glyphs)) ⌝ }
+    requires { ⌜ (length (now before) ≡ length (now glyphs)) × (length (now after) ≡ length (now glyphs)) × (length (now glyphs) ≤ 128) × (gap ≤ 1073741823) ⌝ }
+    ensures { λ r. ⌜ SharedOut shrink gap (partsOf (sideOf direction (meaningOf (now (table .entry)) count)) shrink size (now (glyphs .entry)) (now (classes .entry))) (now (before .entry)) (now (after .entry)) r (now (before .exit)) (now (after .exit)) ⌝ }
+{
+    let n = glyphs.len();
+    let mut marks = [0u8; 128];
+    let mut extras = [0u8; 128];
+    let mut first = [0u64; 128];
+    let mut second = [0u64; 128];
+    share_parts(
+        table,
+        count,
+        direction,
+        shrink,
+        gap,
+        size,
+        glyphs,
+        classes,
+        &mut marks[..n],
+        &mut extras[..n],
+        &mut first[..n],
+        &mut second[..n],
+        before,
+        after,
+    )
+}
+
+// The same over a room of its own for 1,024 glyphs.
+fn share_long(
     table: &[u8],
     count: u32,
     direction: Direction,
@@ -254,29 +306,6 @@ pub fn share_glyphs(
     ensures { λ r. ⌜ SharedOut shrink gap (partsOf (sideOf direction (meaningOf (now (table .entry)) count)) shrink size (now (glyphs .entry)) (now (classes .entry))) (now (before .entry)) (now (after .entry)) r (now (before .exit)) (now (after .exit)) ⌝ }
 {
     let n = glyphs.len();
-    // Most lines are short, and less room is sooner cleared.
-    if n <= 128 {
-        let mut marks = [0u8; 128];
-        let mut extras = [0u8; 128];
-        let mut first = [0u64; 128];
-        let mut second = [0u64; 128];
-        return share_parts(
-            table,
-            count,
-            direction,
-            shrink,
-            gap,
-            size,
-            glyphs,
-            classes,
-            &mut marks[..n],
-            &mut extras[..n],
-            &mut first[..n],
-            &mut second[..n],
-            before,
-            after,
-        );
-    }
     let mut marks = [0u8; 1024];
     let mut extras = [0u8; 1024];
     let mut first = [0u64; 1024];
@@ -294,6 +323,52 @@ pub fn share_glyphs(
         &mut extras[..n],
         &mut first[..n],
         &mut second[..n],
+        before,
+        after,
+    )
+}
+
+// The gap, given as its size, shared over the sides of a line's glyphs, unless refusal 15 bars it: the signed movements
+// of each glyph go into `before` and `after`. Most lines are short, and less room is sooner cleared.
+pub fn share_glyphs(
+    table: &[u8],
+    count: u32,
+    direction: Direction,
+    shrink: bool,
+    gap: u64,
+    size: u32,
+    glyphs: &[u16],
+    classes: &[u8],
+    before: &mut [i32],
+    after: &mut [i32],
+) -> Shared
+    requires { ⌜ (tableFault (now table) count ≡ Clear) × (length (now classes) ≡ length (now glyphs)) ⌝ }
+    requires { ⌜ (length (now before) ≡ length (now glyphs)) × (length (now after) ≡ length (now glyphs)) × (length (now glyphs) ≤ 1024) × (gap ≤ 1073741823) ⌝ }
+    ensures { λ r. ⌜ SharedOut shrink gap (partsOf (sideOf direction (meaningOf (now (table .entry)) count)) shrink size (now (glyphs .entry)) (now (classes .entry))) (now (before .entry)) (now (after .entry)) r (now (before .exit)) (now (after .exit)) ⌝ }
+{
+    if glyphs.len() <= 128 {
+        return share_short(
+            table,
+            count,
+            direction,
+            shrink,
+            gap,
+            size,
+            glyphs,
+            classes,
+            before,
+            after,
+        );
+    }
+    share_long(
+        table,
+        count,
+        direction,
+        shrink,
+        gap,
+        size,
+        glyphs,
+        classes,
         before,
         after,
     )

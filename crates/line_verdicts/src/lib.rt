@@ -11,12 +11,15 @@ ghost use Rattle.actions.specs.Actions.{actionAt};
 ghost use Rattle.verdict.specs.Verdict.{firesOf};
 ghost use Rattle.table.specs.Table.{tableFault};
 ghost use Rattle.table.specs.Means.{meaningOf};
+ghost use Rattle.table_parts.specs.Places.{listsIn, Readable};
 ghost use Rattle.lines.specs.Line.{firings, verdictsFrom};
 ghost use Rattle.line_verdicts.specs.Cursor.{moved, stepOf, nothingAt, judgedAt, firesCount, handCursor, listLeft, Serves, Begins, InList, Here, InLine, Ready};
 use actions::Spot;
 use parts::Direction;
 use parts::Verdict;
+use table_parts::Lookup;
 use units::Units;
+use values::Kind;
 use verdict::Fires;
 
 // How far a line's verdicts have been taken: the glyphs before `next` are begun; of the last of them `left` actions
@@ -171,12 +174,20 @@ fn next_here(
     )
 }
 
-// The list of a glyph is at hand, found once.
-fn begin(table: &[u8], count: u32, direction: Direction, glyph: u16, place: usize) -> Cursor
+// The list of a glyph is at hand, found once, by the lookup of its direction's lists.
+fn begin(
+    table: &[u8],
+    count: u32,
+    direction: Direction,
+    lists: Lookup,
+    glyph: u16,
+    place: usize,
+) -> Cursor
     requires { ⌜ (tableFault (now table) count ≡ Clear) × (place < 1024) ⌝ }
+    requires { ⌜ (lists ≡ listsIn (now table) direction) × Readable (now table) lists ⌝ }
     ensures { λ r. ⌜ Begins (now (table .entry)) (getD (sideOf direction (meaningOf (now (table .entry)) count) .lists) glyph []) place r ⌝ }
 {
-    let Spot::At(at) = table_parts::list_spot(table, count, direction, glyph) else {
+    let Spot::At(at) = table_parts::spot_by(table, count, Kind::Lists, lists, glyph) else {
         return Cursor {
             next: place + 1,
             number: 0,
@@ -211,9 +222,10 @@ pub fn next_verdict<'a>(
     if here.found {
         return here;
     }
+    let lists = table_parts::lists_in(table, direction);
     let mut next = cursor.next;
     while next < glyphs.len() {
-        let begun = begin(table, count, direction, glyphs[next], next);
+        let begun = begin(table, count, direction, lists, glyphs[next], next);
         let step = next_here(table, size, classes, before, after, begun);
         if step.found {
             return step;
@@ -263,20 +275,22 @@ fn count_list(
     total
 }
 
-// How many actions of a glyph fire, for its class and growth and the point size.
+// How many actions of a glyph fire, for its class and growth and the point size, by the lookup of its direction's lists.
 fn count_glyph(
     table: &[u8],
     count: u32,
     direction: Direction,
+    lists: Lookup,
     glyph: u16,
     class: u8,
     growth: Units,
     size: u32,
 ) -> usize
     requires { ⌜ tableFault (now table) count ≡ Clear ⌝ }
+    requires { ⌜ (lists ≡ listsIn (now table) direction) × Readable (now table) lists ⌝ }
     ensures { λ r. ⌜ (r ≡ length (firings 0 class size (growth .0) 0 (getD (sideOf direction (meaningOf (now (table .entry)) count) .lists) glyph []))) × (r ≤ 64) ⌝ }
 {
-    let Spot::At(at) = table_parts::list_spot(table, count, direction, glyph) else {
+    let Spot::At(at) = table_parts::spot_by(table, count, Kind::Lists, lists, glyph) else {
         return 0;
     };
     count_list(
@@ -303,6 +317,7 @@ pub fn count_verdicts<'a>(
     requires { ⌜ Ready (now table) count (moved size (now classes) (now before) (now after)) (now glyphs) ⌝ }
     ensures { λ r. ⌜ r ≡ length (verdictsFrom (sideOf direction (meaningOf (now (table .entry)) count)) size 0 (now (glyphs .entry)) (now (classes .entry)) (now (before .entry)) (now (after .entry))) ⌝ }
 {
+    let lists = table_parts::lists_in(table, direction);
     let mut total: usize = 0;
     let mut place: usize = 0;
     while place < glyphs.len() {
@@ -311,6 +326,7 @@ pub fn count_verdicts<'a>(
             table,
             count,
             direction,
+            lists,
             glyphs[place],
             classes[place],
             growth,
