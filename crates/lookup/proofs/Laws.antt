@@ -1,13 +1,13 @@
 -- Laws of the definitions, one for each outcome, over values as the code has read them.
 use Prim.Native.Nat.{ℕ, zero, suc, _+_, _-_, _*_, _/_, _%_, _^_, _≤_, _<_}
 use mathlib.Core.List.{List}
-use mathlib.Core.Bool.{Bool, true, false, cond}
+use mathlib.Core.Bool.{Bool, true, false, cond, _&&_}
 use mathlib.Core.Path.{_≡_, refl, sym, _∙_, ap, ap₂}
 use native.Mathlib.Omega.{arith}
 use native.Mathlib.Decide.{decLt}
 use lib.ListN.{length}
 use lib.Dec.{leb, eqb}
-use borrow.Author.Tests.{le-leb, lt-leb, leb-true, leb-false, le-ltb, lt-ltb, eq-eqb, ne-eqb}
+use borrow.Author.Tests.{le-leb, lt-leb, leb-true, leb-false, le-ltb, lt-ltb, eqb-true, eq-eqb, ne-eqb}
 use Rattle.fields.specs.declared.Refusal.the-variants.{Outside, BadLookup}
 use Rattle.fields.specs.declared.Fault.the-variants.{Clear, Bad}
 use Rattle.fields.specs.Field.{u16At, u32At, Bytes}
@@ -136,11 +136,9 @@ module _ (t : List ℕ) (b : Bytes t) (format glyph p e : ℕ) (r : e ≡ u32At 
   unfolding u32At
   high-half = omega (arith, r, u16At-fits t (p + 2) b)
 
-  pub range-low : glyph < e % 65536 → covers t format glyph p ≡ false
-  range-low h = covers-low t format glyph p (e % 65536) low-half h
-
-  pub range-high : e % 65536 ≤ glyph → covers t format glyph p ≡ leb glyph (e / 65536)
-  range-high h = covers-high t format glyph p (e % 65536) low-half (e / 65536) high-half h
+  pub ends-covers : (leb (e % 65536) glyph && leb glyph (e / 65536)) ≡ covers t format glyph p
+  unfolding covers
+  ends-covers = rw (low-half, high-half)
 
 -- a unit of format 6, `l` being its glyph as it was read
 module _ (t : List ℕ) (glyph p l : ℕ) (r : l ≡ u16At t p) where
@@ -215,6 +213,14 @@ module _ (t : List ℕ) (at f : ℕ) (r : f ≡ u16At t at) where
   unfolding unitCount
   count-none e = simp (← r, e)
 
+both-first : (a b : Bool) → (a && b) ≡ true → a ≡ true
+both-first true b e = refl
+both-first false b e = e
+
+both-second : (a b : Bool) → (a && b) ≡ true → b ≡ true
+both-second true b e = e
+both-second false b e = cc
+
 pub units-fit : (t : List ℕ) (at : ℕ) → Bytes t → unitCount t at < 2 ^ 16
 unfolding unitCount
 units-fit t at b = go (hasUnits (u16At t at))
@@ -223,9 +229,10 @@ units-fit t at b = go (hasUnits (u16At t at))
     go true = u16At-fits t (at + 4) b
     go false = omega arith
 
-pub head-is : (t : List ℕ) (at f n : ℕ) → f ≡ u16At t at → unitCount t at ≡ n → _≡_ {A = Head} (record { format = f; units = n }) (headAt t at)
+pub head-is : (t : List ℕ) (at f n : ℕ) (w : Bool) → f ≡ u16At t at → n ≡ unitCount t at → w ≡ (eqb f 2 && leb (at + 12 + 6 * n) (length t))
+    → _≡_ {A = Head} (record { format = f; units = n; whole = w }) (headAt t at)
 unfolding headAt
-head-is t at f n r e = rw (r, ← e)
+head-is t at f n w r e s = rw (s, r, e)
 
 pub head-format : (t : List ℕ) (at : ℕ) {h : Head} → h ≡ headAt t at → h .format ≡ u16At t at
 unfolding headAt
@@ -234,6 +241,18 @@ head-format t at e = ap (λ (k : Head). k .format) e
 pub head-units : (t : List ℕ) (at : ℕ) {h : Head} → h ≡ headAt t at → h .units ≡ unitCount t at
 unfolding headAt
 head-units t at e = ap (λ (k : Head). k .units) e
+
+-- a head that is whole
+module _ (t : List ℕ) (at : ℕ) {h : Head} (e : h ≡ headAt t at) (w : h .whole ≡ true) where
+  whole-both : (eqb (u16At t at) 2 && leb (at + 12 + 6 * unitCount t at) (length t)) ≡ true
+  unfolding headAt
+  whole-both = sym (ap (λ (k : Head). k .whole) e) ∙ w
+
+  pub whole-format : u16At t at ≡ 2
+  whole-format = eqb-true _ _ (both-first (eqb (u16At t at) 2) _ whole-both)
+
+  pub whole-inside : at + 12 + 6 * unitCount t at ≤ length t
+  whole-inside = leb-true _ _ (both-second (eqb (u16At t at) 2) _ whole-both)
 
 -- ---- format 8, `f` and `n` being the first glyph and the count as they were read
 
@@ -258,6 +277,10 @@ module _ (t : List ℕ) (at glyph n p f : ℕ) (r : f ≡ u16At t at) where
   pub from-0 : f ≡ 0 → valueFrom t at glyph n p ≡ Value (u16At t (at + 2 + 2 * glyph))
   unfolding valueFrom
   from-0 e = simp (← r, e)
+
+  pub from-2 : f ≡ 2 → valueFrom t at glyph n p ≡ unitsValue t 2 at glyph n p
+  unfolding valueFrom
+  from-2 e = simp (← r, e)
 
   pub from-6 : f ≡ 6 → valueFrom t at glyph n p ≡ unitsValue t 6 at glyph n p
   unfolding valueFrom

@@ -1,13 +1,15 @@
 // A lookup from glyphs to 16-bit values, formats 0, 2, 4, 6 and 8 (document 01, "The table"): its first fault, the value at a glyph, and a pass over
 // glyphs upward that looks at each unit once.
 ghost use mathlib.Core.Path.{_≡_};
-ghost use mathlib.Core.Bool.{true};
-ghost use Prim.Native.Nat.{ℕ, _+_, _-_, _*_, _≤_, _<_, _^_};
+ghost use mathlib.Core.Bool.{true, _&&_};
+ghost use Prim.Native.Nat.{ℕ, _+_, _-_, _*_, _/_, _%_, _≤_, _<_, _^_};
+ghost use lib.Dec.{leb, eqb};
+ghost use lib.ListN.{length};
 ghost use Rattle.fields.specs.declared.Fault.the-variants.{Clear};
-ghost use Rattle.fields.specs.Field.{u16At};
+ghost use Rattle.fields.specs.Field.{u16At, u32At};
 ghost use Rattle.lookup.specs.Units.{unitSize, firstOf, rangeFault, singleFault, unitFault, unitsFault, arrayFault, valuesFault, arraysFault, below};
 ghost use Rattle.lookup.specs.Lookup.{countedFault, segmentsFault, trimmedFault, lookupFault};
-ghost use Rattle.lookup.specs.Find.{covers, unitValue, unitsValue, hasUnits, headAt, trimmedValue, valueFrom, valueOf};
+ghost use Rattle.lookup.specs.Find.{unitValue, unitsValue, hasUnits, unitCount, headAt, trimmedValue, valueFrom, valueOf};
 ghost use Rattle.lookup.specs.Pass.{Serves, Reaches, untilOf, Constant};
 use fields::Fault;
 use fields::Refusal;
@@ -18,10 +20,12 @@ pub enum Found {
     Nothing,
 }
 
-// The head of a lookup: its format, and how many units it counts.
+// The head of a lookup: its format, how many units it counts, and whether it is of format 2 and the table has all of
+// its units, which are then searched without a test of where they stand.
 pub struct Head {
     pub format: usize,
     pub units: usize,
+    pub whole: bool,
 }
 
 // Where a pass over glyphs upward stands: the unit at hand, and how many counted units are left from it on.
@@ -274,13 +278,11 @@ pub fn lookup_fault(table: &[u8], glyphs: usize, at: usize) -> Fault
     }
 }
 
-// Whether the unit of formats 2 and 4 at `p` covers a glyph. Its last and its first glyph stand beside each other and are
-// read as one number.
-fn range_covers(table: &[u8], glyph: usize, p: usize) -> bool
-    requires { ⌜ p < 2 ^ 40 ⌝ }
-    ensures { λ r. ⌜ ((format : ℕ) → (format ≡ 6 → ⊥) → r ≡ covers (now (table .entry)) format glyph p) ⌝ }
+// Whether a unit of formats 2 and 4 covers a glyph. Its last and its first glyph stand beside each other and are read as
+// one number.
+fn ends_cover(ends: usize, glyph: usize) -> bool
+    ensures { λ r. ⌜ r ≡ (leb (ends % 65536) glyph && leb glyph (ends / 65536)) ⌝ }
 {
-    let ends = fields::u32_at(table, p);
     if glyph < ends % 65536 {
         return false;
     }
@@ -319,8 +321,44 @@ fn ranges_value(
     let mut p = start;
     let mut left = count;
     while 0 < left {
-        if range_covers(table, glyph, p) {
+        if ends_cover(fields::u32_at(table, p), glyph) {
             return Found::Value(unit_value(table, format, at, glyph, p));
+        }
+        p += 6;
+        left -= 1;
+    }
+    Found::Nothing
+}
+
+// The 16-bit number at a position, all of it inside the table.
+fn u16_in(table: &[u8], p: usize) -> usize
+    requires { ⌜ p + 2 ≤ length (now table) ⌝ }
+    ensures { λ r. ⌜ (r ≡ u16At (now (table .entry)) p) × (r < 2 ^ 16) ⌝ }
+{
+    let high = table[p] as usize;
+    let low = table[p + 1] as usize;
+    high * 256 + low
+}
+
+// The 32-bit number at a position, all of it inside the table.
+fn u32_in(table: &[u8], p: usize) -> usize
+    requires { ⌜ p + 4 ≤ length (now table) ⌝ }
+    ensures { λ r. ⌜ r ≡ u32At (now (table .entry)) p ⌝ }
+{
+    u16_in(table, p) * 65536 + u16_in(table, p + 2)
+}
+
+// What the first of `count` units of format 2 from `start` on that covers the glyph gives it, all of them inside the
+// table.
+fn segments_value(table: &[u8], glyph: usize, count: usize, start: usize) -> Found
+    requires { ⌜ start + 6 * count ≤ length (now table) ⌝ }
+    ensures { λ r. ⌜ ((at : ℕ) → r ≡ unitsValue (now (table .entry)) 2 at glyph count start) ⌝ }
+{
+    let mut p = start;
+    let mut left = count;
+    while 0 < left {
+        if ends_cover(u32_in(table, p), glyph) {
+            return Found::Value(u16_in(table, p + 4) as u16);
         }
         p += 6;
         left -= 1;
@@ -358,19 +396,40 @@ fn has_units(format: usize) -> bool
     format == 6
 }
 
+// How many units the lookup at `at`, whose format was read, counts.
+fn unit_count(table: &[u8], format: usize, at: usize) -> usize
+    requires { ⌜ (at < 2 ^ 32) × (format ≡ u16At (now table) at) ⌝ }
+    ensures { λ r. ⌜ (r ≡ unitCount (now (table .entry)) at) × (r < 2 ^ 16) ⌝ }
+{
+    if has_units(format) {
+        return fields::u16_at(table, at + 4);
+    }
+    0
+}
+
+// Whether a lookup is of format 2 and the table has all of its units.
+fn is_whole(table: &[u8], format: usize, at: usize, units: usize) -> bool
+    requires { ⌜ (at < 2 ^ 32) × (units < 2 ^ 16) ⌝ }
+    ensures { λ r. ⌜ r ≡ (eqb format 2 && leb (at + 12 + 6 * units) (length (now (table .entry)))) ⌝ }
+{
+    if format == 2 {
+        return at + 12 + 6 * units <= table.len();
+    }
+    false
+}
+
 // The head of the lookup at `at`.
 pub fn head_at(table: &[u8], at: usize) -> Head
     requires { ⌜ at < 2 ^ 32 ⌝ }
     ensures { λ r. ⌜ r ≡ headAt (now (table .entry)) at ⌝ }
 {
     let format = fields::u16_at(table, at);
-    if has_units(format) {
-        return Head {
-            format,
-            units: fields::u16_at(table, at + 4),
-        };
+    let units = unit_count(table, format, at);
+    Head {
+        format,
+        units,
+        whole: is_whole(table, format, at, units),
     }
-    Head { format, units: 0 }
 }
 
 // Format 8.
@@ -423,6 +482,9 @@ pub fn find_by(table: &[u8], glyphs: usize, at: usize, head: Head, glyph: u16) -
     let number = glyph as usize;
     if glyphs <= number {
         return Found::Nothing;
+    }
+    if head.whole {
+        return segments_value(table, number, head.units, at + 12);
     }
     value_from(table, head.format, at, number, head.units, at + 12)
 }

@@ -1,0 +1,28 @@
+use Rattle.fields.specs.Field.{u32At}
+use native.Mathlib.Omega.{arith}
+use borrow.Author.Needs.{needs}
+use Rattle.lookup.proofs.u32_in.Statement.{statement}
+use Rattle.lookup.proofs.u32_in.Tie as tie
+
+u16-in-requires : tie.Need-u16-in-requires
+u16-in-requires c κs = search needs
+
+mul-result : tie.Need-mul-result
+mul-result c = search needs
+
+add-u16-in : tie.Need-add-u16-in
+add-u16-in c = search needs
+
+u16-in-requires-2 : tie.Need-u16-in-requires-2
+u16-in-requires-2 c κs = search needs
+
+add-result : tie.Need-add-result
+add-result c = search needs
+
+returns : tie.Need-returns
+unfolding u32At
+returns c = omega (arith, c .before .u16-in .ensures .0, c .u16-in2 .ensures .0)
+
+pub u32-in-spec : {M : Type 1} → statement M
+u32-in-spec =
+    tie.close (tie.spec u16-in-requires mul-result add-u16-in u16-in-requires-2 add-result returns)
