@@ -21,7 +21,6 @@ use parts::Direction;
 use table_parts::Lookup;
 use units::Ems;
 use units::Units;
-use values::Kind;
 use walk::Walked;
 
 // A glyph's part in the sharing of the gap: its stage mark, 1 where it is unlimited and else 0, and the factors of
@@ -157,7 +156,7 @@ fn record_for(
     requires { ⌜ (clusters ≡ clustersIn (now table) direction) × Readable (now table) clusters ⌝ }
     ensures { λ r. ⌜ (soughtPair r ≡ recordFor (sideOf direction (meaningOf (now (table .entry)) count)) glyph class) × Small (soughtPair r) ⌝ }
 {
-    match table_parts::spot_by(table, count, Kind::Clusters, clusters, glyph) {
+    match table_parts::cluster_by(table, count, clusters, glyph) {
         Spot::At(at) => reader::record_by(table, at as u32, class),
         Spot::Nowhere => Sought::Nothing,
     }

@@ -19,7 +19,6 @@ use parts::Direction;
 use parts::Verdict;
 use table_parts::Lookup;
 use units::Units;
-use values::Kind;
 use verdict::Fires;
 
 // How far a line's verdicts have been taken: the glyphs before `next` are begun; of the last of them `left` actions
@@ -187,7 +186,7 @@ fn begin(
     requires { ⌜ (lists ≡ listsIn (now table) direction) × Readable (now table) lists ⌝ }
     ensures { λ r. ⌜ Begins (now (table .entry)) (getD (sideOf direction (meaningOf (now (table .entry)) count) .lists) glyph []) place r ⌝ }
 {
-    let Spot::At(at) = table_parts::spot_by(table, count, Kind::Lists, lists, glyph) else {
+    let Spot::At(at) = table_parts::list_by(table, count, lists, glyph) else {
         return Cursor {
             next: place + 1,
             number: 0,
@@ -290,7 +289,7 @@ fn count_glyph(
     requires { ⌜ (lists ≡ listsIn (now table) direction) × Readable (now table) lists ⌝ }
     ensures { λ r. ⌜ (r ≡ length (firings 0 class size (growth .0) 0 (getD (sideOf direction (meaningOf (now (table .entry)) count) .lists) glyph []))) × (r ≤ 64) ⌝ }
 {
-    let Spot::At(at) = table_parts::spot_by(table, count, Kind::Lists, lists, glyph) else {
+    let Spot::At(at) = table_parts::list_by(table, count, lists, glyph) else {
         return 0;
     };
     count_list(

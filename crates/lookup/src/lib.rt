@@ -483,13 +483,22 @@ pub fn find_by(table: &[u8], glyphs: usize, at: usize, head: Head, glyph: u16) -
     if glyphs <= number {
         return Found::Nothing;
     }
-    if head.whole {
-        return segments_value(table, number, head.units, at + 12);
-    }
     value_from(table, head.format, at, number, head.units, at + 12)
 }
 
-// The same, the head being read for this glyph.
+// The same in a lookup whose head is whole.
+pub fn find_whole(table: &[u8], glyphs: usize, at: usize, head: Head, glyph: u16) -> Found
+    requires { ⌜ (at < 2 ^ 32) × (head ≡ headAt (now table) at) × (head .whole ≡ true) ⌝ }
+    ensures { λ r. ⌜ r ≡ valueOf (now (table .entry)) glyphs at glyph ⌝ }
+{
+    let number = glyph as usize;
+    if glyphs <= number {
+        return Found::Nothing;
+    }
+    segments_value(table, number, head.units, at + 12)
+}
+
+// The value at a glyph in the lookup at `at`, the head being read for this glyph.
 pub fn find(table: &[u8], glyphs: usize, at: usize, glyph: u16) -> Found
     requires { ⌜ at < 2 ^ 32 ⌝ }
     ensures { λ r. ⌜ r ≡ valueOf (now (table .entry)) glyphs at glyph ⌝ }

@@ -68,9 +68,9 @@ module _ (t : List ℕ) (d : Direction) (at : ℕ) (e : at ≡ directionAt t d) 
 
 -- a spot by a direction's lookup is the direction's
 module _ (t : List ℕ) (n : ℕ) (d : Direction) (g : ℕ) {l : Lookup} where
-  pub cluster-by : l ≡ clustersIn t d → spotBy t n Clusters l g ≡ clusterSpot t n d g
+  pub cluster-found : l ≡ clustersIn t d → spotBy t n Clusters l g ≡ clusterSpot t n d g
   unfolding clustersIn clusterSpot
-  cluster-by e = ap (λ (k : Lookup). spotBy t n Clusters k g) e ∙ go (eqb at 0)
+  cluster-found e = ap (λ (k : Lookup). spotBy t n Clusters k g) e ∙ go (eqb at 0)
     where
       at : ℕ
       at = directionAt t d
@@ -81,9 +81,9 @@ module _ (t : List ℕ) (n : ℕ) (d : Direction) (g : ℕ) {l : Lookup} where
       go true = refl
       go false = refl
 
-  pub list-by : l ≡ listsIn t d → spotBy t n Lists l g ≡ listSpot t n d g
+  pub list-found : l ≡ listsIn t d → spotBy t n Lists l g ≡ listSpot t n d g
   unfolding listsIn listSpot
-  list-by e = ap (λ (k : Lookup). spotBy t n Lists k g) e ∙ go (eqb (directionAt t d) 0) (eqb off 0)
+  list-found e = ap (λ (k : Lookup). spotBy t n Lists k g) e ∙ go (eqb (directionAt t d) 0) (eqb off 0)
     where
       off : ℕ
       off = actionOffset t (directionAt t d)

@@ -8,6 +8,7 @@ ghost use Rattle.meaning.specs.Ask.{maybe, pair, recordOf, ask, glyphCount, siz
 ghost use Rattle.answers.specs.Says.{given, unlessBad, saysCount, saysSizes, saysClass, saysCell, saysRecord, saysAction, roomAfter};
 ghost use Rattle.cluster.specs.Pairs.{clusterAt};
 ghost use Rattle.actions.specs.Actions.{Below};
+ghost use Rattle.values.specs.declared.Kind.the-variants.{Clusters, Lists};
 ghost use Rattle.table.specs.Table.{tableFault};
 ghost use Rattle.table.specs.Means.{meaningOf};
 ghost use Rattle.table_parts.specs.Places.{directionAt, machineIn, clustersIn, listsIn, Readable, spotBy, clusterSpot, listSpot, actionSpot, cut};
@@ -134,16 +135,36 @@ pub fn lists_in(table: &[u8], direction: Direction) -> Lookup
     }
 }
 
-// Where a glyph's cluster or list stands, by the lookup of that kind.
-pub fn spot_by(table: &[u8], count: u32, kind: Kind, looked: Lookup, glyph: u16) -> Spot
-    requires { ⌜ Readable (now table) looked ⌝ }
-    ensures { λ r. ⌜ (r ≡ spotBy (now (table .entry)) count kind looked glyph) × Below (2 ^ 17) r ⌝ }
+// Where a glyph's width records stand, by the lookup of a direction's clusters.
+pub fn cluster_by(table: &[u8], count: u32, clusters: Lookup, glyph: u16) -> Spot
+    requires { ⌜ Readable (now table) clusters ⌝ }
+    ensures { λ r. ⌜ (r ≡ spotBy (now (table .entry)) count Clusters clusters glyph) × Below (2 ^ 17) r ⌝ }
 {
-    let Lookup::There { at, base, head } = looked else {
+    let Lookup::There { at, base, head } = clusters else {
         return Spot::Nowhere;
     };
+    if head.whole {
+        let found = lookup::find_whole(table, count as usize, at, head, glyph);
+        return values::spot_of(Kind::Clusters, base, found);
+    }
     let found = lookup::find_by(table, count as usize, at, head, glyph);
-    values::spot_of(kind, base, found)
+    values::spot_of(Kind::Clusters, base, found)
+}
+
+// Where a glyph's actions stand, by the lookup of a direction's lists.
+pub fn list_by(table: &[u8], count: u32, lists: Lookup, glyph: u16) -> Spot
+    requires { ⌜ Readable (now table) lists ⌝ }
+    ensures { λ r. ⌜ (r ≡ spotBy (now (table .entry)) count Lists lists glyph) × Below (2 ^ 17) r ⌝ }
+{
+    let Lookup::There { at, base, head } = lists else {
+        return Spot::Nowhere;
+    };
+    if head.whole {
+        let found = lookup::find_whole(table, count as usize, at, head, glyph);
+        return values::spot_of(Kind::Lists, base, found);
+    }
+    let found = lookup::find_by(table, count as usize, at, head, glyph);
+    values::spot_of(Kind::Lists, base, found)
 }
 
 // Where a glyph's width records stand in a direction.
@@ -151,7 +172,7 @@ pub fn cluster_spot(table: &[u8], count: u32, direction: Direction, glyph: u16) 
     ensures { λ r. ⌜ (r ≡ clusterSpot (now (table .entry)) count direction glyph) × Below (2 ^ 17) r ⌝ }
 {
     let clusters = clusters_in(table, direction);
-    spot_by(table, count, Kind::Clusters, clusters, glyph)
+    cluster_by(table, count, clusters, glyph)
 }
 
 // The width record of a class in the cluster at a position.
@@ -186,7 +207,7 @@ pub fn list_spot(table: &[u8], count: u32, direction: Direction, glyph: u16) -> 
     ensures { λ r. ⌜ (r ≡ listSpot (now (table .entry)) count direction glyph) × Below (2 ^ 17) r ⌝ }
 {
     let lists = lists_in(table, direction);
-    spot_by(table, count, Kind::Lists, lists, glyph)
+    list_by(table, count, lists, glyph)
 }
 
 // Where the action of a glyph with a number stands in a direction.

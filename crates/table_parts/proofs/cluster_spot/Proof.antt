@@ -1,4 +1,4 @@
-use Rattle.table_parts.proofs.Steps.{cluster-by}
+use Rattle.table_parts.proofs.Steps.{cluster-found}
 use mathlib.Core.Path.{_∙_}
 use borrow.Author.Needs.{needs}
 use Rattle.table_parts.proofs.cluster_spot.Statement.{statement}
@@ -7,11 +7,11 @@ use Rattle.table_parts.proofs.cluster_spot.Tie as tie
 clusters-in-requires : tie.Need-clusters-in-requires
 clusters-in-requires c κs = search needs
 
-spot-by-requires : tie.Need-spot-by-requires
-spot-by-requires c κs = search needs
+cluster-by-requires : tie.Need-cluster-by-requires
+cluster-by-requires c κs = search needs
 
 returns : tie.Need-returns
-returns c = (c .spot-by .ensures .0 ∙ cluster-by _ _ _ _ (c .before .clusters-in .ensures .0), c .spot-by .ensures .1)
+returns c = (c .cluster-by .ensures .0 ∙ cluster-found _ _ _ _ (c .before .clusters-in .ensures .0), c .cluster-by .ensures .1)
 
 pub cluster-spot-spec : {M : Type 1} → statement M
-cluster-spot-spec = tie.close (tie.spec clusters-in-requires spot-by-requires returns)
+cluster-spot-spec = tie.close (tie.spec clusters-in-requires cluster-by-requires returns)
