@@ -3,7 +3,7 @@
 // A field is read as if zeros followed the bytes, so that reading asks nothing of its caller; whether a field
 // lies inside is judged apart, by `in_table`.
 ghost use mathlib.Core.Path.{_≡_};
-ghost use Prim.Native.Nat.{ℕ, _+_, _<_, _^_};
+ghost use Prim.Native.Nat.{ℕ, _+_, _≤_, _<_, _^_};
 ghost use lib.ListN.{length, getD, set};
 ghost use lib.Seq.{sets};
 ghost use Rattle.fields.specs.Field.{u16At, u32At, be16, be32};
@@ -74,6 +74,24 @@ pub fn u8_at(bytes: &[u8], at: usize) -> usize
     }
 }
 
+// The 16-bit number at a position, all of it inside the bytes.
+pub fn u16_in(bytes: &[u8], at: usize) -> usize
+    requires { ⌜ at + 2 ≤ length (now bytes) ⌝ }
+    ensures { λ r. ⌜ (r ≡ u16At (now (bytes .entry)) at) × (r < 2 ^ 16) ⌝ }
+{
+    let high = bytes[at] as usize;
+    let low = bytes[at + 1] as usize;
+    high * 256 + low
+}
+
+// The 32-bit number at a position, all of it inside the bytes.
+pub fn u32_in(bytes: &[u8], at: usize) -> usize
+    requires { ⌜ at + 4 ≤ length (now bytes) ⌝ }
+    ensures { λ r. ⌜ (r ≡ u32At (now (bytes .entry)) at) × (r < 2 ^ 32) ⌝ }
+{
+    u16_in(bytes, at) * 65536 + u16_in(bytes, at + 2)
+}
+
 // The 16-bit number at a position. Where all of it is there, that is seen once, and its bytes are read as one.
 pub fn u16_at(bytes: &[u8], at: usize) -> usize
     ensures { λ r. ⌜ (r ≡ u16At (now (bytes .entry)) at) × (r < 2 ^ 16) ⌝ }
@@ -84,7 +102,7 @@ pub fn u16_at(bytes: &[u8], at: usize) -> usize
     if bytes.len() - 2 < at {
         return u8_at(bytes, at) * 256;
     }
-    u8_at(bytes, at) * 256 + u8_at(bytes, at + 1)
+    u16_in(bytes, at)
 }
 
 // The 32-bit number at a position near the end or past it.
@@ -108,7 +126,7 @@ pub fn u32_at(bytes: &[u8], at: usize) -> usize
     if bytes.len() - 4 < at {
         return u32_near_end(bytes, at);
     }
-    u16_at(bytes, at) * 65536 + u16_at(bytes, at + 2)
+    u32_in(bytes, at)
 }
 
 // Stores a byte at a position; nothing past the end.

@@ -6,7 +6,7 @@ ghost use Prim.Native.Nat.{ℕ, _+_, _-_, _*_, _/_, _%_, _≤_, _<_, _^_};
 ghost use lib.Dec.{leb, eqb};
 ghost use lib.ListN.{length};
 ghost use Rattle.fields.specs.declared.Fault.the-variants.{Clear};
-ghost use Rattle.fields.specs.Field.{u16At, u32At};
+ghost use Rattle.fields.specs.Field.{u16At};
 ghost use Rattle.lookup.specs.Units.{unitSize, firstOf, rangeFault, singleFault, unitFault, unitsFault, arrayFault, valuesFault, arraysFault, below};
 ghost use Rattle.lookup.specs.Lookup.{countedFault, segmentsFault, trimmedFault, lookupFault};
 ghost use Rattle.lookup.specs.Find.{unitValue, unitsValue, hasUnits, unitCount, headAt, trimmedValue, valueFrom, valueOf};
@@ -330,24 +330,6 @@ fn ranges_value(
     Found::Nothing
 }
 
-// The 16-bit number at a position, all of it inside the table.
-fn u16_in(table: &[u8], p: usize) -> usize
-    requires { ⌜ p + 2 ≤ length (now table) ⌝ }
-    ensures { λ r. ⌜ (r ≡ u16At (now (table .entry)) p) × (r < 2 ^ 16) ⌝ }
-{
-    let high = table[p] as usize;
-    let low = table[p + 1] as usize;
-    high * 256 + low
-}
-
-// The 32-bit number at a position, all of it inside the table.
-fn u32_in(table: &[u8], p: usize) -> usize
-    requires { ⌜ p + 4 ≤ length (now table) ⌝ }
-    ensures { λ r. ⌜ r ≡ u32At (now (table .entry)) p ⌝ }
-{
-    u16_in(table, p) * 65536 + u16_in(table, p + 2)
-}
-
 // What the first of `count` units of format 2 from `start` on that covers the glyph gives it, all of them inside the
 // table.
 fn segments_value(table: &[u8], glyph: usize, count: usize, start: usize) -> Found
@@ -357,8 +339,8 @@ fn segments_value(table: &[u8], glyph: usize, count: usize, start: usize) -> Fou
     let mut p = start;
     let mut left = count;
     while 0 < left {
-        if ends_cover(u32_in(table, p), glyph) {
-            return Found::Value(u16_in(table, p + 4) as u16);
+        if ends_cover(fields::u32_in(table, p), glyph) {
+            return Found::Value(fields::u16_in(table, p + 4) as u16);
         }
         p += 6;
         left -= 1;

@@ -1,5 +1,4 @@
 use Rattle.fields.specs.Laws.{last-byte}
-use Rattle.fields.specs.Field.{u16At}
 use denote.Ref.{now}
 use native.Mathlib.Omega.{arith}
 use borrow.Author.Needs.{needs}
@@ -28,23 +27,10 @@ returns-2 : tie.Need-returns-2
 returns-2 c =
     omega (arith, c .u8-at2 .ensures .0, c .u8-at2 .ensures .1, last-byte (now (c .before .before .before .before .args .bytes)) (c .before .before .before .before .args .at) (omega arith))
 
-u8-at-requires-3 : tie.Need-u8-at-requires-3
-u8-at-requires-3 c κs = search needs
-
-mul-result-3 : tie.Need-mul-result-3
-mul-result-3 c = search needs
-
-add-u8-at : tie.Need-add-u8-at
-add-u8-at c = search needs
-
-u8-at-requires-4 : tie.Need-u8-at-requires-4
-u8-at-requires-4 c κs = search needs
-
-add-result : tie.Need-add-result
-add-result c = search needs
+u16-in-requires : tie.Need-u16-in-requires
+u16-in-requires c κs = search needs
 
 returns-3 : tie.Need-returns-3
-unfolding u16At
 returns-3 c = search needs
 
 pub u16-at-spec : {M : Type 1} → statement M
@@ -58,9 +44,5 @@ u16-at-spec =
     u8-at-requires-2
     mul-result-2
     returns-2
-    u8-at-requires-3
-    mul-result-3
-    add-u8-at
-    u8-at-requires-4
-    add-result
+    u16-in-requires
     returns-3)

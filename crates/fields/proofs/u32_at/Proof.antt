@@ -1,4 +1,3 @@
-use Rattle.fields.specs.Field.{u32At}
 use borrow.Author.Needs.{needs}
 use Rattle.fields.proofs.u32_at.Statement.{statement}
 use Rattle.fields.proofs.u32_at.Tie as tie
@@ -18,23 +17,10 @@ u32-near-end-requires-2 c κs = search needs
 returns-2 : tie.Need-returns-2
 returns-2 c = search needs
 
-u16-at-requires : tie.Need-u16-at-requires
-u16-at-requires c κs = search needs
-
-mul-result : tie.Need-mul-result
-mul-result c = search needs
-
-add-u16-at : tie.Need-add-u16-at
-add-u16-at c = search needs
-
-u16-at-requires-2 : tie.Need-u16-at-requires-2
-u16-at-requires-2 c κs = search needs
-
-add-result : tie.Need-add-result
-add-result c = search needs
+u32-in-requires : tie.Need-u32-in-requires
+u32-in-requires c κs = search needs
 
 returns-3 : tie.Need-returns-3
-unfolding u32At
 returns-3 c = search needs
 
 pub u32-at-spec : {M : Type 1} → statement M
@@ -46,9 +32,5 @@ u32-at-spec =
     sub-if2
     u32-near-end-requires-2
     returns-2
-    u16-at-requires
-    mul-result
-    add-u16-at
-    u16-at-requires-2
-    add-result
+    u32-in-requires
     returns-3)

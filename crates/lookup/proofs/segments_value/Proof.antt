@@ -34,7 +34,7 @@ cast-t12 : tie.Need-cast-t12 Inv-loop μ-loop
 cast-t12 c = search needs
 
 returns : tie.Need-returns Inv-loop μ-loop
-returns c = λ at. ap Value (c .u16-in .ensures .0 ∙ sym (value-2 _ 2 at _ _ refl)) ∙ sym (c .before .before .before .before .before .loop .inv .0 at ∙ units-here _ _ _ _ _ _ (c .before .before .before .before .loop-test .taken) (sym (ends-covers _ (λ i. c .before .before .before .before .before .before .shared-slice-known .given i .fits) 2 _ _ _ (c .before .before .before .u32-in .ensures) (λ e. omega arith)) ∙ sym (c .before .before .ends-cover .ensures) ∙ c .before .if1 .taken))
+returns c = λ at. ap Value (c .u16-in .ensures .0 ∙ sym (value-2 _ 2 at _ _ refl)) ∙ sym (c .before .before .before .before .before .loop .inv .0 at ∙ units-here _ _ _ _ _ _ (c .before .before .before .before .loop-test .taken) (sym (ends-covers _ (λ i. c .before .before .before .before .before .before .shared-slice-known .given i .fits) 2 _ _ _ (c .before .before .before .u32-in .ensures .0) (λ e. omega arith)) ∙ sym (c .before .before .ends-cover .ensures) ∙ c .before .if1 .taken))
 
 add-p : tie.Need-add-p Inv-loop μ-loop
 add-p c = search needs
@@ -46,7 +46,7 @@ loop-less : tie.Need-loop-less Inv-loop μ-loop
 loop-less c = search needs
 
 loop-again : tie.Need-loop-again Inv-loop μ-loop
-loop-again c = (λ at. c .before .before .before .before .loop .inv .0 at ∙ units-next _ _ _ _ _ _ _ (c .before .before .before .loop-test .taken) (sym (ends-covers _ (λ i. c .before .before .before .before .before .shared-slice-known .given i .fits) 2 _ _ _ (c .before .before .u32-in .ensures) (λ e. omega arith)) ∙ sym (c .before .ends-cover .ensures) ∙ c .if1 .left) (sym (ap (λ (k : ℕ). c .before .before .before .before .loop .p + k) (size-range 2 (λ e. omega arith)))), search needs)
+loop-again c = (λ at. c .before .before .before .before .loop .inv .0 at ∙ units-next _ _ _ _ _ _ _ (c .before .before .before .loop-test .taken) (sym (ends-covers _ (λ i. c .before .before .before .before .before .shared-slice-known .given i .fits) 2 _ _ _ (c .before .before .u32-in .ensures .0) (λ e. omega arith)) ∙ sym (c .before .ends-cover .ensures) ∙ c .if1 .left) (sym (ap (λ (k : ℕ). c .before .before .before .before .loop .p + k) (size-range 2 (λ e. omega arith)))), search needs)
 
 returns-2 : tie.Need-returns-2 Inv-loop μ-loop
 returns-2 c = λ at. sym (c .before .loop .inv .0 at ∙ units-none _ _ _ _ _ _ (c .loop-test .left))

@@ -1,8 +1,8 @@
 use Rattle.fields.specs.Field.{u32At}
 use native.Mathlib.Omega.{arith}
 use borrow.Author.Needs.{needs}
-use Rattle.lookup.proofs.u32_in.Statement.{statement}
-use Rattle.lookup.proofs.u32_in.Tie as tie
+use Rattle.fields.proofs.u32_in.Statement.{statement}
+use Rattle.fields.proofs.u32_in.Tie as tie
 
 u16-in-requires : tie.Need-u16-in-requires
 u16-in-requires c κs = search needs
@@ -21,7 +21,7 @@ add-result c = search needs
 
 returns : tie.Need-returns
 unfolding u32At
-returns c = omega (arith, c .before .u16-in .ensures .0, c .u16-in2 .ensures .0)
+returns c = (omega (arith, c .before .u16-in .ensures .0, c .u16-in2 .ensures .0), omega arith)
 
 pub u32-in-spec : {M : Type 1} → statement M
 u32-in-spec =
