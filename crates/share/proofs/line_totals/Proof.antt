@@ -1,4 +1,4 @@
-use lib.ListN.{length}
+use lib.ListN.{length, getD}
 use Prim.Native.Nat.{_-_, _≤_}
 use native.Mathlib.Omega.{arith}
 use borrow.Author.Needs.{needs}
@@ -49,7 +49,7 @@ array-read-sums : tie.Need-array-read-sums Inv-loop μ-loop
 array-read-sums c = omega (arith, c .before .before .before .before .before .before .before .loop .inv .1 .each, c .before .before .before .before .if1 .taken)
 
 add-sums-2 : tie.Need-add-sums-2 Inv-loop μ-loop
-add-sums-2 c = omega (arith, c .before .before .cut .ensures, c .cut2 .ensures, c .before .before .before .before .before .before .before .loop .inv .1 .at _ (c .before .before .before .before .if1 .taken) .low)
+add-sums-2 c = omega (arith, c .before .before .cut .ensures, c .cut2 .ensures, c .before .before .before .before .before .before .before .loop .inv .1 .at (getD (c .before .before .before .before .before .before .before .before .before .before .before .args .marks .now) (c .before .before .before .before .before .before .before .loop .i) 0) (omega (arith, c .before .before .before .before .if1 .taken)) .low)
 
 array-write-sums : tie.Need-array-write-sums Inv-loop μ-loop
 array-write-sums c = omega (arith, c .before .before .before .before .before .before .before .loop .inv .1 .each, c .before .before .before .before .if1 .taken)
@@ -63,7 +63,7 @@ loop-less c = omega arith
 loop-again : tie.Need-loop-again Inv-loop μ-loop
 loop-again c = let a = c .before .before .before .before .before .before .before .before .before .before .before .args in
     let l = c .before .before .before .before .before .before .before .loop in
-    (omega arith, sums-on (a .marks .now) (a .first .now) (a .second .now) (l .inv .1) (omega arith) (omega arith) (omega arith) (c .before .before .before .before .if1 .taken) (c .before .before .cut .ensures) (c .cut2 .ensures))
+    (omega arith, sums-on (a .marks .now) (a .first .now) (a .second .now) (l .inv .1) (omega arith) (omega arith) (omega arith) (omega (arith, c .before .before .before .before .if1 .taken)) (c .before .before .cut .ensures) (c .cut2 .ensures))
 
 add-i-2 : tie.Need-add-i-2 Inv-loop μ-loop
 add-i-2 c = omega arith
@@ -74,7 +74,7 @@ loop-less-2 c = omega arith
 loop-again-2 : tie.Need-loop-again-2 Inv-loop μ-loop
 loop-again-2 c = let a = c .before .before .before .before .before .before .before .args in
     let l = c .before .before .before .loop in
-    (omega arith, sums-past (a .marks .now) (a .first .now) (a .second .now) (l .inv .1) (omega arith) (omega arith) (omega arith) (c .if1 .left))
+    (omega arith, sums-past (a .marks .now) (a .first .now) (a .second .now) (l .inv .1) (omega arith) (omega arith) (omega arith) (omega (arith, c .if1 .left)))
 
 array-read-t28 : tie.Need-array-read-t28 Inv-loop μ-loop
 array-read-t28 c = omega (arith, c .before .loop .inv .1 .each)
