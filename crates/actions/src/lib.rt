@@ -8,6 +8,7 @@ ghost use Rattle.fields.specs.declared.Fault.the-variants.{Clear};
 ghost use Rattle.fields.specs.Field.{u32At};
 ghost use Rattle.meaning.specs.Ask.{held};
 ghost use Rattle.actions.specs.Faults.{glyphFault, addedFault, countFault, glyphsFault, type0Fault, type2Fault, type4Fault, type5Fault, dataFault, dataSize, lengthFault, actionFault, actionsFault, listFault};
+ghost use Rattle.actions.specs.Marks.{Passed, Passing};
 ghost use Rattle.actions.specs.Actions.{bytesAt, contentAt, actionAt, placeAfter, placeOf, Below, componentsAt, padded, clipped};
 use fields::Fault;
 use fields::Refusal;
@@ -344,15 +345,41 @@ fn clear_end(table: &[u8], glyphs: usize, at: usize) -> usize
     end
 }
 
+// The same; an action that is seen to be without fault is marked in `judged`, so that it is judged once, however many lists
+// have it.
+fn judged_end(table: &[u8], glyphs: usize, at: usize, judged: &mut [u8]) -> usize
+    requires { ⌜ at ≤ length (now table) + 2 ^ 32 ⌝ }
+    requires { ⌜ Passed (now table) glyphs (now judged) ⌝ }
+    ensures { λ r. ⌜ (0 < r → (actionFault (now (table .entry)) glyphs at ≡ Clear) × (r ≡ at + u32At (now (table .entry)) (at + 4)) × (r ≤ length (now (table .entry)) + 2 ^ 32)) × Passing (now (table .entry)) glyphs (now (judged .entry)) (now (judged .exit)) ⌝ }
+{
+    let mark = fields::u8_at(judged, at);
+    if 2 <= mark % 4 {
+        return at + fields::u32_at(table, at + 4);
+    }
+    let end = clear_end(table, glyphs, at);
+    if end == 0 {
+        return 0;
+    }
+    fields::put_u8(judged, at, (mark + 2) as u8);
+    end
+}
+
 // Whether `count` actions from `first` on are seen to be without fault: most are, and a chain of fields is slower.
-fn actions_are_clear(table: &[u8], glyphs: usize, first: usize, count: usize) -> bool
+fn actions_are_clear(
+    table: &[u8],
+    glyphs: usize,
+    first: usize,
+    count: usize,
+    judged: &mut [u8],
+) -> bool
     requires { ⌜ first ≤ length (now table) ⌝ }
-    ensures { λ r. ⌜ (r ≡ true → actionsFault (now (table .entry)) glyphs count first ≡ Clear) ⌝ }
+    requires { ⌜ Passed (now table) glyphs (now judged) ⌝ }
+    ensures { λ r. ⌜ (r ≡ true → actionsFault (now (table .entry)) glyphs count first ≡ Clear) × Passing (now (table .entry)) glyphs (now (judged .entry)) (now (judged .exit)) ⌝ }
 {
     let mut at = first;
     let mut left = count;
     while 0 < left {
-        at = clear_end(table, glyphs, at);
+        at = judged_end(table, glyphs, at, judged);
         if at == 0 {
             return false;
         }
@@ -361,9 +388,11 @@ fn actions_are_clear(table: &[u8], glyphs: usize, first: usize, count: usize) ->
     true
 }
 
-// The first fault of the list at `at`, in a table read with `glyphs` glyphs.
-pub fn list_fault(table: &[u8], glyphs: usize, at: usize) -> Fault
-    ensures { λ r. ⌜ r ≡ listFault (now (table .entry)) glyphs at ⌝ }
+// The first fault of the list at `at`, in a table read with `glyphs` glyphs. `judged` has a mark for each position, in which
+// 2 says that the action there has no fault; the rest of a mark is the caller's.
+pub fn list_fault(table: &[u8], glyphs: usize, at: usize, judged: &mut [u8]) -> Fault
+    requires { ⌜ Passed (now table) glyphs (now judged) ⌝ }
+    ensures { λ r. ⌜ (r ≡ listFault (now (table .entry)) glyphs at) × Passing (now (table .entry)) glyphs (now (judged .entry)) (now (judged .exit)) ⌝ }
 {
     let inside = fields::in_table(table, at, 4);
     if let Fault::Bad { refusal: _, at: _ } = inside {
@@ -376,7 +405,7 @@ pub fn list_fault(table: &[u8], glyphs: usize, at: usize) -> Fault
             at,
         };
     }
-    if actions_are_clear(table, glyphs, at + 4, count) {
+    if actions_are_clear(table, glyphs, at + 4, count, judged) {
         return Fault::Clear;
     }
     actions_fault(table, glyphs, at + 4, count)

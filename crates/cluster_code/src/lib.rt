@@ -1,19 +1,22 @@
 // A width cluster of a table as the sheet writes it (document 01, "The sheet", section 5): how many bytes it takes,
-// whether two positions hold the same one, a number that tells where to look for it, and storing it into lent bytes.
-// Two clusters are the same when they are
-// written alike, whatever their ignored bits and the signs of their shrink limits.
+// whether two positions hold the same one and which comes earlier, a number that tells where to look for it, and storing
+// it into lent bytes. Two clusters are the same when they are written alike, whatever their ignored bits and the signs of
+// their shrink limits.
 ghost use mathlib.Core.Path.{_≡_};
 ghost use mathlib.Core.List.{_++_};
-ghost use Prim.Native.Nat.{_+_, _*_, _<_, _^_, min};
+ghost use Prim.Native.Nat.{_+_, _*_, _<_, _^_};
 ghost use lib.ListN.{length};
 ghost use lib.Seq.{sets};
 ghost use Rattle.fields.specs.Field.{be16, be32};
 ghost use Rattle.lists.specs.Codes.{many, counted};
 ghost use Rattle.meaning.specs.Sheet.{pairCode};
+ghost use Rattle.lists.specs.Dictionary.{Before, Apart};
 ghost use Rattle.lists.specs.Tests.{Says};
 ghost use Rattle.cluster.specs.Pairs.{pairAt, pairsAt, clusterAt};
 ghost use Rattle.cluster_code.specs.Print.{limitsAt, flagsAt, limitsPrint, pairPrint, clusterPrint};
+ghost use Rattle.cluster_code.specs.Words.{limitsWords, flagsWords, afterWords, pairWords, clusterWords};
 use parts::Flags;
+use parts::Front;
 use parts::Limits;
 
 fn same_limits(a: Limits, b: Limits) -> bool
@@ -81,10 +84,10 @@ fn same_pair(table: &[u8], a: usize, b: usize) -> bool
     }
 }
 
-// Whether the `count` pairs from `first` on are the same as those from `second` on.
-fn same_pairs(table: &[u8], first: usize, second: usize, count: usize) -> bool
+// Past the pairs that are the same, of `count` from `first` on and from `second` on.
+fn apart_from(table: &[u8], first: usize, second: usize, count: usize) -> Front
     requires { ⌜ (first + 24 * count < 2 ^ 60) × (second + 24 * count < 2 ^ 60) ⌝ }
-    ensures { λ r. ⌜ Says r (pairsAt (now (table .entry)) count first ≡ pairsAt (now (table .entry)) count second) ⌝ }
+    ensures { λ r. ⌜ (r .a < 2 ^ 61) × (r .b < 2 ^ 61) × Apart pairWords (pairAt (now (table .entry))) (pairsAt (now (table .entry)) count first) (pairsAt (now (table .entry)) count second) (r .left) (r .a) (r .b) ⌝ }
 {
     let mut a = first;
     let mut b = second;
@@ -95,10 +98,22 @@ fn same_pairs(table: &[u8], first: usize, second: usize, count: usize) -> bool
             b += 24;
             left -= 1;
         } else {
-            return false;
+            return Front { left, a, b };
         }
     }
-    true
+    Front { left, a, b }
+}
+
+// Whether the `count` pairs from `first` on are the same as those from `second` on.
+fn same_pairs(table: &[u8], first: usize, second: usize, count: usize) -> bool
+    requires { ⌜ (first + 24 * count < 2 ^ 60) × (second + 24 * count < 2 ^ 60) ⌝ }
+    ensures { λ r. ⌜ Says r (pairsAt (now (table .entry)) count first ≡ pairsAt (now (table .entry)) count second) ⌝ }
+{
+    let front = apart_from(table, first, second, count);
+    if front.left == 0 {
+        return true;
+    }
+    false
 }
 
 // Whether two positions hold the same cluster.
@@ -113,6 +128,83 @@ pub fn same_cluster(table: &[u8], first: u16, second: u16) -> bool
     } else {
         false
     }
+}
+
+fn earlier_limits(a: Limits, b: Limits) -> bool
+    ensures { λ r. ⌜ Says r (Before (limitsWords a) (limitsWords b)) ⌝ }
+{
+    if a.grow != b.grow {
+        return a.grow < b.grow;
+    }
+    a.shrink < b.shrink
+}
+
+fn earlier_flags(a: Flags, b: Flags) -> bool
+    ensures { λ r. ⌜ Says r (Before (flagsWords a) (flagsWords b)) ⌝ }
+{
+    if a.grow != b.grow {
+        return a.grow < b.grow;
+    }
+    a.shrink < b.shrink
+}
+
+// Whether the limits after and the flags of the pair at `a` come before those of the pair at `b`.
+fn earlier_after(table: &[u8], a: usize, b: usize) -> bool
+    requires { ⌜ (a < 2 ^ 61) × (b < 2 ^ 61) ⌝ }
+    ensures { λ r. ⌜ Says r (Before (afterWords (pairAt (now (table .entry)) a)) (afterWords (pairAt (now (table .entry)) b))) ⌝ }
+{
+    let first = limits_at(table, a + 12);
+    let second = limits_at(table, b + 12);
+    if same_limits(first, second) {
+        return earlier_flags(flags_at(table, a + 20), flags_at(table, b + 20));
+    } else {
+        return earlier_limits(first, second);
+    }
+}
+
+// Whether the pair at `a` comes before the one at `b`.
+fn earlier_pair(table: &[u8], a: usize, b: usize) -> bool
+    requires { ⌜ (a < 2 ^ 61) × (b < 2 ^ 61) ⌝ }
+    ensures { λ r. ⌜ Says r (Before (pairWords (pairAt (now (table .entry)) a)) (pairWords (pairAt (now (table .entry)) b))) ⌝ }
+{
+    let class = cluster::class_at(table, a);
+    let other = cluster::class_at(table, b);
+    if class != other {
+        return class < other;
+    }
+    let first = limits_at(table, a + 4);
+    let second = limits_at(table, b + 4);
+    if same_limits(first, second) {
+        return earlier_after(table, a, b);
+    } else {
+        return earlier_limits(first, second);
+    }
+}
+
+// Whether the `count` pairs from `first` on come before those from `second` on: the first two that differ tell it.
+fn earlier_pairs(table: &[u8], first: usize, second: usize, count: usize) -> bool
+    requires { ⌜ (first + 24 * count < 2 ^ 60) × (second + 24 * count < 2 ^ 60) ⌝ }
+    ensures { λ r. ⌜ Says r (Before (many pairWords (pairsAt (now (table .entry)) count first)) (many pairWords (pairsAt (now (table .entry)) count second))) ⌝ }
+{
+    let front = apart_from(table, first, second, count);
+    if front.left == 0 {
+        return false;
+    }
+    earlier_pair(table, front.a, front.b)
+}
+
+// Whether the first of two positions holds the cluster that comes earlier, as words in a dictionary.
+pub fn earlier_cluster(table: &[u8], first: u16, second: u16) -> bool
+    ensures { λ r. ⌜ Says r (Before (clusterWords (clusterAt (now (table .entry)) first)) (clusterWords (clusterAt (now (table .entry)) second))) ⌝ }
+{
+    let a = first as usize;
+    let b = second as usize;
+    let count = fields::u32_at(table, a);
+    let other = fields::u32_at(table, b);
+    if count != other {
+        return count < other;
+    }
+    earlier_pairs(table, a + 4, b + 4, count)
 }
 
 fn limits_print(limits: Limits) -> usize
@@ -133,20 +225,13 @@ fn pair_print(table: &[u8], at: usize) -> usize
     17 * (cluster::class_at(table, at) as usize) + sides + marks
 }
 
-// How many of a cluster's pairs count for its print.
-fn printed_pairs(count: usize) -> usize
-    ensures { λ r. ⌜ r ≡ min count 4 ⌝ }
-{
-    if count < 4 { count } else { 4 }
-}
-
 // A number below 1,021 for the cluster at a position, the same for the same clusters: by its count and its first four pairs,
 // since clusters that begin alike share few bytes of a table, their classes rising.
 pub fn cluster_print(table: &[u8], at: u16) -> usize
     ensures { λ r. ⌜ (r ≡ clusterPrint (clusterAt (now (table .entry)) at)) × (r < 1021) ⌝ }
 {
     let count = fields::u32_at(table, at as usize);
-    let mut left = printed_pairs(count);
+    let mut left = fields::lower(count, 4);
     let mut first = at as usize + 4;
     let mut print = count;
     while 0 < left {

@@ -3,7 +3,7 @@
 // A field is read as if zeros followed the bytes, so that reading asks nothing of its caller; whether a field
 // lies inside is judged apart, by `in_table`.
 ghost use mathlib.Core.Path.{_≡_};
-ghost use Prim.Native.Nat.{ℕ, _+_, _≤_, _<_, _^_};
+ghost use Prim.Native.Nat.{ℕ, _+_, _-_, _≤_, _<_, _^_, min, max};
 ghost use lib.ListN.{length, getD, set};
 ghost use lib.Seq.{sets};
 ghost use Rattle.fields.specs.Field.{u16At, u32At, be16, be32};
@@ -61,6 +61,25 @@ pub fn number_of(refusal: Refusal) -> u32
         Refusal::ShortRoom => 16,
         Refusal::NotSheet => 17,
     }
+}
+
+// a - b, or 0
+pub fn less(a: usize, b: usize) -> usize
+    ensures { λ r. ⌜ r ≡ a - b ⌝ }
+{
+    if b < a { a - b } else { 0 }
+}
+
+pub fn lower(a: usize, b: usize) -> usize
+    ensures { λ r. ⌜ r ≡ min a b ⌝ }
+{
+    if a < b { a } else { b }
+}
+
+pub fn larger(a: usize, b: usize) -> usize
+    ensures { λ r. ⌜ r ≡ max a b ⌝ }
+{
+    if a < b { b } else { a }
 }
 
 // The byte at a position, 0 past the end.

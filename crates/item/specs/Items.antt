@@ -3,6 +3,7 @@
 use Prim.Native.Nat.{ℕ}
 use mathlib.Core.List.{List, []}
 use Rattle.lists.specs.Codes.{counted}
+use Rattle.lists.specs.Dictionary.{Before}
 use Rattle.parts.specs.declared.Pair.{Pair}
 use Rattle.meaning.specs.Meaning.{Action}
 use Rattle.meaning.specs.Discrete.{cluster-discrete, list-discrete}
@@ -10,7 +11,9 @@ use Rattle.meaning.specs.Sheet.{pairCode, actionCode}
 use Rattle.cluster.specs.Pairs.{clusterAt}
 use Rattle.actions.specs.Actions.{listAt}
 use Rattle.cluster_code.specs.Print.{clusterPrint}
-use Rattle.list_code.specs.Print.{actionsPrint}
+use Rattle.cluster_code.specs.Words.{clusterWords}
+use Rattle.list_code.specs.Print.{listPrint}
+use Rattle.list_code.specs.Words.{listWords}
 use Rattle.values.specs.declared.Kind.{Kind}
 use Rattle.values.specs.declared.Kind.the-variants.{Clusters, Lists}
 
@@ -42,4 +45,13 @@ itemCode Lists = counted actionCode
 -- a number below 1,021, the same for items that are the same: it tells where to look for one
 unfoldable pub itemPrint : (kind : Kind) → Item kind → ℕ
 itemPrint Clusters = clusterPrint
-itemPrint Lists = actionsPrint 0
+itemPrint Lists = listPrint
+
+-- the fields of an item in the order in which they are written, counts and lengths of data among them
+unfoldable pub itemWords : (kind : Kind) → Item kind → List ℕ
+itemWords Clusters = clusterWords
+itemWords Lists = listWords
+
+-- x comes before y, as words in a dictionary
+unfoldable pub Earlier : (kind : Kind) → Item kind → Item kind → Type 0
+Earlier kind x y = Before (itemWords kind x) (itemWords kind y)

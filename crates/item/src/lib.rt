@@ -1,12 +1,12 @@
 // The clusters and the action lists of a table by one name (document 01, "The sheet", sections 5 and 7): how many
-// bytes one takes in the sheet, whether two positions hold the same one as written, a number that tells where to look
-// for it, and storing it into lent bytes.
+// bytes one takes in the sheet, whether two positions hold the same one as written and which comes earlier, a number
+// that tells where to look for it, and storing it into lent bytes.
 ghost use mathlib.Core.Path.{_≡_};
 ghost use Prim.Native.Nat.{_≤_, _<_, _^_};
 ghost use lib.ListN.{length};
 ghost use lib.Seq.{sets};
 ghost use Rattle.lists.specs.Tests.{Says};
-ghost use Rattle.item.specs.Items.{itemAt, itemCode, itemPrint};
+ghost use Rattle.item.specs.Items.{itemAt, itemCode, itemPrint, Earlier};
 use values::Kind;
 
 // How many bytes the item at a position is written in.
@@ -28,6 +28,17 @@ pub fn same_item(table: &[u8], kind: Kind, first: u16, second: u16) -> bool
     match kind {
         Kind::Clusters => cluster_code::same_cluster(table, first, second),
         Kind::Lists => list_code::same_list(table, first, second),
+    }
+}
+
+// Whether the first of two positions holds the item that comes earlier, as words in a dictionary.
+pub fn is_earlier(table: &[u8], kind: Kind, first: u16, second: u16) -> bool
+    requires { ⌜ length (now table) ≤ 2 ^ 15 ⌝ }
+    ensures { λ r. ⌜ Says r (Earlier kind (itemAt kind (now (table .entry)) first) (itemAt kind (now (table .entry)) second)) ⌝ }
+{
+    match kind {
+        Kind::Clusters => cluster_code::earlier_cluster(table, first, second),
+        Kind::Lists => list_code::earlier_list(table, first, second),
     }
 }
 

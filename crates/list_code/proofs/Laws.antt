@@ -1,18 +1,19 @@
 -- Bytes and actions one after the other, and the bytes of an action and of a list.
-use Prim.Native.Nat.{ℕ, zero, suc, _+_, _-_, _*_, _%_, _≤_, _<_, _^_}
+use Prim.Native.Nat.{ℕ, zero, suc, _+_, _-_, _*_, _%_, _≤_, _<_, _^_, min}
 use mathlib.Core.Path.{_≡_, refl, sym, ap, ap₂, _∙_, subst}
 use mathlib.Core.Bool.{Bool, true, false}
 use mathlib.Core.List.{List, [], _∷_, _++_, head-eq-of-cons-eq, tail-eq-of-cons-eq}
 use native.Mathlib.Omega.{arith}
 use native.Mathlib.Decide.{ℕ-discrete, decLt}
 use native.Mathlib.Numerals.{add-one}
-use lib.ListN.{length, getD, length-append}
+use lib.ListN.{length, getD, take, length-append}
 use borrow.Author.Tests.{eq-eqb, ne-eqb}
-use Rattle.fields.specs.Field.{u16At, u32At, be16, be32}
-use Rattle.fields.specs.Laws.{u32At-past}
+use Rattle.fields.specs.Field.{u16At, u32At, be16, be32, Bytes}
+use Rattle.fields.specs.Laws.{u16At-fits, u32At-past}
 use Rattle.lists.specs.Codes.{many, counted}
 use Rattle.lists.specs.Sections.{byte}
 use Rattle.lists.specs.Upto.{from}
+use Rattle.lists.proofs.CodeLaws.{half-bytes, word-halves}
 use Rattle.lists.proofs.SectionLaws.{many-byte}
 use Rattle.meaning.specs.Meaning.{Action}
 use Rattle.meaning.specs.Sheet.{actionCode}
@@ -21,7 +22,7 @@ use Rattle.actions.specs.Faults.{dataSize}
 use Rattle.actions.specs.Actions.{bytesAt, contentAt, actionAt, actionsAt, listAt}
 use Rattle.actions.proofs.Copies.{bytes-length}
 use Rattle.actions.proofs.Laws.{list-length}
-use Rattle.list_code.specs.Print.{weight, actionPrint, actionsPrint}
+use Rattle.list_code.specs.Print.{weight, actionPrint, actionsPrint, listPrint}
 
 module _ (t : List ℕ) where
   -- ---- bytes
@@ -45,6 +46,37 @@ module _ (t : List ℕ) where
   byte-same n a b h e =
       let f = sym (bytes-cons n a h) ∙ e ∙ bytes-cons n b h in
       (head-eq-of-cons-eq f, tail-eq-of-cons-eq f)
+
+  bytes-four : (n at : ℕ) → 3 < n
+      → bytesAt t at n ≡ getD t at 0 ∷ getD t (at + 1) 0 ∷ getD t (at + 2) 0 ∷ getD t (at + 2 + 1) 0 ∷ bytesAt t (at + 4) (n - 4)
+  unfolding bytesAt from
+  bytes-four zero at h = absurd (omega arith)
+  bytes-four (suc zero) at h = absurd (omega arith)
+  bytes-four (suc (suc zero)) at h = absurd (omega arith)
+  bytes-four (suc (suc (suc zero))) at h = absurd (omega arith)
+  bytes-four (suc (suc (suc (suc n)))) at h =
+      let a : suc at ≡ at + 1 = omega arith in
+      let b : suc (suc at) ≡ at + 2 = omega arith in
+      let c : suc (suc (suc at)) ≡ at + 2 + 1 = omega arith in
+      let d : suc (suc (suc (suc at))) ≡ at + 4 = omega arith in
+      let e : n ≡ suc (suc (suc (suc n))) - 4 = omega arith in
+      λ i. getD t at 0 ∷ getD t (a i) 0 ∷ getD t (b i) 0 ∷ getD t (c i) 0 ∷ bytesAt t (d i) (e i)
+
+  pub same-four : Bytes t → (n a b : ℕ) → 3 < n → u32At t a ≡ u32At t b → bytesAt t (a + 4) (n - 4) ≡ bytesAt t (b + 4) (n - 4) → bytesAt t a n ≡ bytesAt t b n
+  same-four bytes n a b h e f =
+      let w = word-halves t bytes a b e in
+      let x = half-bytes t bytes a b (w .0) in
+      let y = half-bytes t bytes (a + 2) (b + 2) (w .1) in
+      bytes-four n a h ∙ (λ i. x .0 i ∷ x .1 i ∷ y .0 i ∷ y .1 i ∷ f i) ∙ sym (bytes-four n b h)
+
+  pub four-same : (n a b : ℕ) → 3 < n → bytesAt t a n ≡ bytesAt t b n → (u32At t a ≡ u32At t b) × (bytesAt t (a + 4) (n - 4) ≡ bytesAt t (b + 4) (n - 4))
+  unfolding u32At u16At
+  four-same n a b h e =
+      let p = sym (bytes-four n a h) ∙ e ∙ bytes-four n b h in
+      let q = tail-eq-of-cons-eq p in
+      let r = tail-eq-of-cons-eq q in
+      let s = tail-eq-of-cons-eq r in
+      ((λ i. (head-eq-of-cons-eq p i * 256 + head-eq-of-cons-eq q i) * 65536 + (head-eq-of-cons-eq r i * 256 + head-eq-of-cons-eq s i)), tail-eq-of-cons-eq s)
 
   -- ---- the data of an action
 
@@ -89,6 +121,10 @@ module _ (t : List ℕ) where
   unfolding actionsAt
   actions-cons zero at h = absurd (omega arith)
   actions-cons (suc n) at h = let e : n ≡ suc n - 1 = omega arith in ap (λ (k : ℕ). actionAt t at ∷ actionsAt t k (at + u32At t (at + 4))) e
+
+  -- where the length of the first was read as j
+  pub actions-read : (n at j : ℕ) → 0 < n → j ≡ u32At t (at + 4) → actionsAt t n at ≡ actionAt t at ∷ actionsAt t (n - 1) (at + j)
+  actions-read n at j h e = actions-cons n at h ∙ ap (λ (i : ℕ). actionAt t at ∷ actionsAt t (n - 1) (at + i)) (sym e)
 
   pub actions-none : (n at : ℕ) → n ≤ 0 → actionsAt t n at ≡ []
   unfolding actionsAt
@@ -139,9 +175,7 @@ module _ (t : List ℕ) where
 
   pub many-cons : (n at j : ℕ) → 0 < n → j ≡ u32At t (at + 4)
       → many actionCode (actionsAt t n at) ≡ actionCode (actionAt t at) ++ many actionCode (actionsAt t (n - 1) (at + j))
-  many-cons n at j h e =
-      ap (many actionCode) (actions-cons n at h)
-      ∙ ap (λ (i : ℕ). actionCode (actionAt t at) ++ many actionCode (actionsAt t (n - 1) (at + i))) (sym e)
+  many-cons n at j h e = ap (many actionCode) (actions-read n at j h e)
 
   pub size-cons : (n at j : ℕ) → 0 < n → j ≡ u32At t (at + 4)
       → length (many actionCode (actionsAt t n at)) ≡ length (actionCode (actionAt t at)) + length (many actionCode (actionsAt t (n - 1) (at + j)))
@@ -171,6 +205,25 @@ same-held t true a b k c ka kb e =
     ∙ ap (λ (y : ℕ). record { class = u16At t b; kind = y; content = contentAt t b y }) kb
 same-held t false a b k c ka kb f =
     λ e. f (ap (contentAt t a) ka ∙ ap (λ (x : Action). x .content) e ∙ ap (contentAt t b) (sym kb))
+
+-- the same, where class and type were read as one number
+module _ (t : List ℕ) (bytes : Bytes t) (r : Bool) (a b h k : ℕ) (ha : h ≡ u32At t a) (hk : k ≡ h % 65536) where
+  pub heads-apart : (i : ℕ) → i ≡ u32At t b → (h ≡ i → ⊥) → actionAt t a ≡ actionAt t b → ⊥
+  unfolding actionAt u32At
+  heads-apart i e n q =
+      n (ha ∙ ap₂ (λ (x y : ℕ). x * 65536 + y) (ap (λ (z : Action). z .class) q) (ap (λ (z : Action). z .kind) q) ∙ sym e)
+
+  its-kind : (p : ℕ) → h ≡ u32At t p → k ≡ u16At t (p + 2)
+  unfolding u32At
+  its-kind p e = omega (arith, u16At-fits t (p + 2) bytes)
+
+  pub heads-same : h ≡ u32At t b → Says r (contentAt t a k ≡ contentAt t b k) → Says r (actionAt t a ≡ actionAt t b)
+  heads-same e = same-held t r a b k (word-halves t bytes a b (sym ha ∙ e) .0) (its-kind a ha) (its-kind b e)
+
+-- type 3 has no data
+pub no-data : (t : List ℕ) (a b k : ℕ) → k ≡ 3 → contentAt t a k ≡ contentAt t b k
+unfolding contentAt
+no-data t a b k e = rw e (bytes-none t 0 (a + 8) (omega arith) ∙ sym (bytes-none t 0 (b + 8) (omega arith)))
 
 -- the data of two actions of one type, compared as it is written
 module _ (t : List ℕ) (r : Bool) (a b k : ℕ) where
@@ -223,6 +276,16 @@ module _ (t : List ℕ) where
   unfolding actionsPrint
   print-none n at print h = ap (actionsPrint print) (actions-none t n at h)
 
-  pub print-all : (at n : ℕ) → n ≡ u32At t at → actionsPrint 0 (actionsAt t n (at + 4)) ≡ actionsPrint 0 (listAt t at)
+  take-actions : (k n at : ℕ) → take k (actionsAt t n at) ≡ actionsAt t (min n k) at
+  unfolding actionsAt
+  take-actions zero n at = let e : 0 ≡ min n 0 = omega arith in ap (λ (m : ℕ). actionsAt t m at) e
+  take-actions (suc k) zero at = let e : 0 ≡ min 0 (suc k) = omega arith in ap (λ (m : ℕ). actionsAt t m at) e
+  take-actions (suc k) (suc n) at =
+      let e : suc (min n k) ≡ min (suc n) (suc k) = omega arith in
+      ap (λ (l : List Action). actionAt t at ∷ l) (take-actions k n (at + u32At t (at + 4))) ∙ ap (λ (m : ℕ). actionsAt t m at) e
+
+  pub print-all : (at n left : ℕ) → n ≡ u32At t at → left ≡ min n 4 → actionsPrint n (actionsAt t left (at + 4)) ≡ listPrint (listAt t at)
   unfolding listAt
-  print-all at n e = ap (λ (k : ℕ). actionsPrint 0 (actionsAt t k (at + 4))) e
+  print-all at n left e f =
+      ap (λ (m : ℕ). actionsPrint n (actionsAt t m (at + 4))) (f ∙ ap (λ (k : ℕ). min k 4) e)
+      ∙ ap₂ actionsPrint (e ∙ sym (list-length t at)) (sym (take-actions 4 (u32At t at) (at + 4)))

@@ -1,15 +1,20 @@
 // An action list of a table as the sheet writes it (document 01, "The sheet", section 7): how many bytes it takes,
-// whether two positions hold the same one, and storing it into lent bytes. Two lists are the same when they are
-// written alike, whatever their padding and the flags of their type 5 actions.
+// whether two positions hold the same one and which comes earlier, a number that tells where to look for it, and storing
+// it into lent bytes. Two lists are the same when they are written alike, whatever their padding and the flags of their
+// type 5 actions.
 ghost use mathlib.Core.Path.{_≡_};
 ghost use Prim.Native.Nat.{_+_, _*_, _≤_, _<_, _^_};
 ghost use lib.ListN.{length};
 ghost use lib.Seq.{sets};
 ghost use Rattle.lists.specs.Codes.{many, counted};
 ghost use Rattle.meaning.specs.Sheet.{actionCode};
+ghost use Rattle.lists.specs.Dictionary.{Before, Apart, listed};
+ghost use Rattle.lists.specs.Sections.{byte};
 ghost use Rattle.lists.specs.Tests.{Says};
-ghost use Rattle.list_code.specs.Print.{weight, actionPrint, actionsPrint};
+ghost use Rattle.list_code.specs.Print.{weight, actionPrint, listPrint};
+ghost use Rattle.list_code.specs.Words.{actionWords, listWords};
 ghost use Rattle.actions.specs.Actions.{bytesAt, contentAt, actionAt, actionsAt, listAt};
+use parts::Front;
 
 // How many bytes of data the action at `at` has, of type `kind`.
 fn content_size(table: &[u8], at: usize, kind: usize) -> usize
@@ -22,8 +27,8 @@ fn content_size(table: &[u8], at: usize, kind: usize) -> usize
     actions::data_size(kind)
 }
 
-// Whether the `count` bytes from `first` on are the same as those from `second` on.
-fn same_bytes(table: &[u8], first: usize, second: usize, count: usize) -> bool
+// Whether the `count` bytes from `first` on are the same as those from `second` on, one at a time.
+fn same_each(table: &[u8], first: usize, second: usize, count: usize) -> bool
     requires { ⌜ (first + count < 2 ^ 62) × (second + count < 2 ^ 62) ⌝ }
     ensures { λ r. ⌜ Says r (bytesAt (now (table .entry)) first count ≡ bytesAt (now (table .entry)) second count) ⌝ }
 {
@@ -42,6 +47,26 @@ fn same_bytes(table: &[u8], first: usize, second: usize, count: usize) -> bool
     true
 }
 
+// The same, four at a time while four are left.
+fn same_bytes(table: &[u8], first: usize, second: usize, count: usize) -> bool
+    requires { ⌜ (first + count < 2 ^ 62) × (second + count < 2 ^ 62) ⌝ }
+    ensures { λ r. ⌜ Says r (bytesAt (now (table .entry)) first count ≡ bytesAt (now (table .entry)) second count) ⌝ }
+{
+    let mut a = first;
+    let mut b = second;
+    let mut left = count;
+    while 3 < left {
+        if fields::u32_at(table, a) == fields::u32_at(table, b) {
+            a += 4;
+            b += 4;
+            left -= 4;
+        } else {
+            return false;
+        }
+    }
+    same_each(table, a, b, left)
+}
+
 // Whether two actions of one type have the same data.
 fn same_content(table: &[u8], first: usize, second: usize, kind: usize) -> bool
     requires { ⌜ (first < 2 ^ 60) × (second < 2 ^ 60) ⌝ }
@@ -58,25 +83,28 @@ fn same_content(table: &[u8], first: usize, second: usize, kind: usize) -> bool
     false
 }
 
+// Whether two positions hold the same action. Its class and its type stand beside each other and are read as one number;
+// type 3 has no data.
 fn same_action(table: &[u8], first: usize, second: usize) -> bool
     requires { ⌜ (first < 2 ^ 60) × (second < 2 ^ 60) ⌝ }
     ensures { λ r. ⌜ Says r (actionAt (now (table .entry)) first ≡ actionAt (now (table .entry)) second) ⌝ }
 {
-    if fields::u16_at(table, first) != fields::u16_at(table, second) {
+    let head = fields::u32_at(table, first);
+    if head != fields::u32_at(table, second) {
         return false;
     }
-    let kind = fields::u16_at(table, first + 2);
-    if kind != fields::u16_at(table, second + 2) {
-        return false;
+    let kind = head % 65536;
+    if kind == 3 {
+        return true;
     }
     same_content(table, first, second, kind)
 }
 
-// Whether the `count` actions from `first` on are the same as those from `second` on. Past the table an action's
-// length is 0, so no action stands much further on.
-fn same_actions(table: &[u8], first: usize, second: usize, count: usize) -> bool
+// Past the actions that are the same, of `count` from `first` on and from `second` on. Past the table an action's length is
+// 0, so no action stands much further on.
+fn apart_from(table: &[u8], first: usize, second: usize, count: usize) -> Front
     requires { ⌜ (length (now table) ≤ 2 ^ 15) × ((first < 2 ^ 33) × (second < 2 ^ 33)) ⌝ }
-    ensures { λ r. ⌜ Says r (actionsAt (now (table .entry)) count first ≡ actionsAt (now (table .entry)) count second) ⌝ }
+    ensures { λ r. ⌜ (r .a < 2 ^ 60) × (r .b < 2 ^ 60) × Apart actionWords (actionAt (now (table .entry))) (actionsAt (now (table .entry)) count first) (actionsAt (now (table .entry)) count second) (r .left) (r .a) (r .b) ⌝ }
 {
     let mut a = first;
     let mut b = second;
@@ -87,10 +115,22 @@ fn same_actions(table: &[u8], first: usize, second: usize, count: usize) -> bool
             b += fields::u32_at(table, b + 4);
             left -= 1;
         } else {
-            return false;
+            return Front { left, a, b };
         }
     }
-    true
+    Front { left, a, b }
+}
+
+// Whether the `count` actions from `first` on are the same as those from `second` on.
+fn same_actions(table: &[u8], first: usize, second: usize, count: usize) -> bool
+    requires { ⌜ (length (now table) ≤ 2 ^ 15) × ((first < 2 ^ 33) × (second < 2 ^ 33)) ⌝ }
+    ensures { λ r. ⌜ Says r (actionsAt (now (table .entry)) count first ≡ actionsAt (now (table .entry)) count second) ⌝ }
+{
+    let front = apart_from(table, first, second, count);
+    if front.left == 0 {
+        return true;
+    }
+    false
 }
 
 // Whether two positions hold the same list.
@@ -106,6 +146,90 @@ pub fn same_list(table: &[u8], first: u16, second: u16) -> bool
     } else {
         false
     }
+}
+
+// Whether the `count` bytes from `first` on come before those from `second` on: the first two that differ tell it.
+fn earlier_bytes(table: &[u8], first: usize, second: usize, count: usize) -> bool
+    requires { ⌜ (first + count < 2 ^ 62) × (second + count < 2 ^ 62) ⌝ }
+    ensures { λ r. ⌜ Says r (Before (many byte (bytesAt (now (table .entry)) first count)) (many byte (bytesAt (now (table .entry)) second count))) ⌝ }
+{
+    let mut a = first;
+    let mut b = second;
+    let mut left = count;
+    while 0 < left {
+        let one = fields::u8_at(table, a);
+        let other = fields::u8_at(table, b);
+        if one != other {
+            return one < other;
+        }
+        a += 1;
+        b += 1;
+        left -= 1;
+    }
+    false
+}
+
+// Whether the data of the action at `first`, after its length, comes before that of the action at `second`, both of type
+// `kind`.
+fn earlier_content(table: &[u8], first: usize, second: usize, kind: usize) -> bool
+    requires { ⌜ (first < 2 ^ 60) × (second < 2 ^ 60) ⌝ }
+    ensures { λ r. ⌜ Says r (Before (listed byte (contentAt (now (table .entry)) first kind)) (listed byte (contentAt (now (table .entry)) second kind))) ⌝ }
+{
+    // the flags are ignored
+    if kind == 5 {
+        return earlier_bytes(table, first + 10, second + 10, 2);
+    }
+    let size = content_size(table, first, kind);
+    let other = content_size(table, second, kind);
+    if size != other {
+        return size < other;
+    }
+    earlier_bytes(table, first + 8, second + 8, size)
+}
+
+// Whether the action at `first` comes before the one at `second`.
+fn earlier_action(table: &[u8], first: usize, second: usize) -> bool
+    requires { ⌜ (first < 2 ^ 60) × (second < 2 ^ 60) ⌝ }
+    ensures { λ r. ⌜ Says r (Before (actionWords (actionAt (now (table .entry)) first)) (actionWords (actionAt (now (table .entry)) second))) ⌝ }
+{
+    let class = fields::u16_at(table, first);
+    let other_class = fields::u16_at(table, second);
+    if class != other_class {
+        return class < other_class;
+    }
+    let kind = fields::u16_at(table, first + 2);
+    let other_kind = fields::u16_at(table, second + 2);
+    if kind != other_kind {
+        return kind < other_kind;
+    }
+    earlier_content(table, first, second, kind)
+}
+
+// Whether the `count` actions from `first` on come before those from `second` on: the first two that differ tell it.
+fn earlier_actions(table: &[u8], first: usize, second: usize, count: usize) -> bool
+    requires { ⌜ (length (now table) ≤ 2 ^ 15) × ((first < 2 ^ 33) × (second < 2 ^ 33)) ⌝ }
+    ensures { λ r. ⌜ Says r (Before (many actionWords (actionsAt (now (table .entry)) count first)) (many actionWords (actionsAt (now (table .entry)) count second))) ⌝ }
+{
+    let front = apart_from(table, first, second, count);
+    if front.left == 0 {
+        return false;
+    }
+    earlier_action(table, front.a, front.b)
+}
+
+// Whether the first of two positions holds the list that comes earlier, as words in a dictionary.
+pub fn earlier_list(table: &[u8], first: u16, second: u16) -> bool
+    requires { ⌜ length (now table) ≤ 2 ^ 15 ⌝ }
+    ensures { λ r. ⌜ Says r (Before (listWords (listAt (now (table .entry)) first)) (listWords (listAt (now (table .entry)) second))) ⌝ }
+{
+    let a = first as usize;
+    let b = second as usize;
+    let count = fields::u32_at(table, a);
+    let other = fields::u32_at(table, b);
+    if count != other {
+        return count < other;
+    }
+    earlier_actions(table, a + 4, b + 4, count)
 }
 
 // The running sums of `count` bytes, added up.
@@ -146,14 +270,15 @@ fn action_print(table: &[u8], at: usize) -> usize
     17 * fields::u16_at(table, at) + 19 * kind + content_weight(table, at, kind)
 }
 
-// A number below 1,021 for the list at a position, the same for the same lists.
+// A number below 1,021 for the list at a position, the same for the same lists: by its count and its first four actions.
 pub fn list_print(table: &[u8], place: u16) -> usize
     requires { ⌜ length (now table) ≤ 2 ^ 15 ⌝ }
-    ensures { λ r. ⌜ (r ≡ actionsPrint 0 (listAt (now (table .entry)) place)) × (r < 1021) ⌝ }
+    ensures { λ r. ⌜ (r ≡ listPrint (listAt (now (table .entry)) place)) × (r < 1021) ⌝ }
 {
+    let count = fields::u32_at(table, place as usize);
+    let mut left = fields::lower(count, 4);
     let mut at = place as usize + 4;
-    let mut left = fields::u32_at(table, place as usize);
-    let mut print: usize = 0;
+    let mut print = count;
     while 0 < left {
         print = (31 * print + action_print(table, at)) % 4294967296;
         at += fields::u32_at(table, at + 4);

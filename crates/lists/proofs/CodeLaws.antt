@@ -1,4 +1,5 @@
--- Numbers and counted sections are prefix free, and the number that stands at a place of some bytes is written there.
+-- Numbers and counted sections are prefix free, and the number that stands at a place of some bytes is written there: where the same number stands, so
+-- do the same bytes.
 use Prim.Native.Nat.{ℕ, suc, _+_, _*_, _/_, _%_, _≤_, _<_, _^_}
 use mathlib.Core.Path.{_≡_, refl, sym, ap, ap₂, _∙_}
 use mathlib.Core.List.{List, [], _∷_, _++_, append-assoc, head-eq-of-cons-eq, tail-eq-of-cons-eq}
@@ -83,3 +84,17 @@ module _ (s : List ℕ) (bytes : Bytes s) where
       be16-at p (omega arith)
       ∙ ap (λ (r : List ℕ). be16 (u16At s p) ++ r) (be16-at (p + 2) (omega arith) ∙ ap (λ (q : ℕ). be16 (u16At s (p + 2)) ++ drop q s) e)
       ∙ ap₂ (λ (x y : ℕ). be16 x ++ (be16 y ++ drop (p + 4) s)) (sym a) (sym b)
+
+  module _ (i j : ℕ) where
+    pub half-bytes : u16At s i ≡ u16At s j → (getD s i 0 ≡ getD s j 0) × (getD s (i + 1) 0 ≡ getD s (j + 1) 0)
+    unfolding u16At
+    half-bytes e =
+        let p : (getD s i 0 < 256) × (getD s (i + 1) 0 < 256) × (getD s j 0 < 256) × (getD s (j + 1) 0 < 256) = (bytes i, bytes (i + 1), bytes j, bytes (j + 1)) in
+        (omega (arith, e), omega (arith, e))
+
+    pub word-halves : u32At s i ≡ u32At s j → (u16At s i ≡ u16At s j) × (u16At s (i + 2) ≡ u16At s (j + 2))
+    unfolding u32At
+    word-halves e =
+        let p = u16At-fits s (i + 2) bytes in
+        let q = u16At-fits s (j + 2) bytes in
+        (omega (arith, e), omega (arith, e))

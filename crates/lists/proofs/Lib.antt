@@ -7,3 +7,4 @@ pub mod SectionLaws
 pub mod NumberedLaws
 pub mod PoolReadLaws
 pub mod UptoLaws
+pub mod DictionaryLaws

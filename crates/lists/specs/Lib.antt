@@ -4,3 +4,4 @@ pub mod Codes
 pub mod Sections
 pub mod Upto
 pub mod Tests
+pub mod Dictionary

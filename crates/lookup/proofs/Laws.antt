@@ -29,6 +29,14 @@ pub size-single : (f : ℕ) → f ≡ 6 → unitSize f ≡ 4
 unfolding unitSize
 size-single f e = simp (eq-eqb f 6 e)
 
+pub size-least : (f : ℕ) → 4 ≤ unitSize f
+unfolding unitSize
+size-least f = go (eqb f 6)
+  where
+    go : (b : Bool) → 4 ≤ cond b 4 6
+    go true = omega arith
+    go false = omega arith
+
 pub size-range : (f : ℕ) → (f ≡ 6 → ⊥) → unitSize f ≡ 6
 unfolding unitSize
 size-range f e = simp (ne-eqb f 6 e)

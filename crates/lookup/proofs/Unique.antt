@@ -5,17 +5,18 @@ use mathlib.Core.Bool.{Bool, true, false, _&&_}
 use mathlib.Core.Path.{_≡_, refl, sym, _∙_}
 use native.Mathlib.Omega.{arith}
 use lib.Dec.{leb, ltb, eqb}
+use lib.ListN.{length}
 use borrow.Author.Tests.{leb-true, lt-leb, eqb-true, eqb-false, ltb-true, ltb-false}
 use Rattle.fields.specs.declared.Refusal.the-variants.{BadLookup}
 use Rattle.fields.specs.declared.Fault.the-variants.{Clear}
 use Rattle.fields.specs.Field.{u16At}
-use Rattle.fields.specs.Laws.{then-first, then-second, rule-holds}
+use Rattle.fields.specs.Laws.{then-first, then-second, rule-holds, inside-holds}
 use Rattle.fields.specs.Walk.{walk, walk-none}
 use Rattle.lookup.specs.declared.Found.the-variants.{Value, Nothing}
 use Rattle.lookup.specs.Units.{unitSize, lastOf, firstOf, rangeFault, singleFault, unitFault, unitsFault}
-use Rattle.lookup.specs.Lookup.{countedFault, segmentsFault, lookupFault, formatFault}
+use Rattle.lookup.specs.Lookup.{countedFault, segmentsFault, trimmedFault, lookupFault, formatFault}
 use Rattle.lookup.specs.Find.{covers, unitValue, unitsValue, hasUnits, unitCount, valueOf}
-use Rattle.lookup.proofs.Laws.{unit-single, unit-range, first-single, first-range, units-here, units-next, from-units, value-none, value-in, count-some, count-none}
+use Rattle.lookup.proofs.Laws.{size-single, size-range, unit-single, unit-range, first-single, first-range, units-here, units-next, from-units, value-none, value-in, count-some, count-none}
 
 -- the place of the unit with number `k` in the lookup at `at`
 abbrev pub unitAt : List ℕ → ℕ → ℕ → ℕ
@@ -74,6 +75,23 @@ module _ (t : List ℕ) (f : ℕ) where
           let o : u16At t (p + 2) ≤ u16At t p = leb-true _ _ (rule-holds _ BadLookup (p + 2) (then-first _ _ (then-second _ _ tail))) in
           let i : firstOf t f p ≡ u16At t (p + 2) = first-range t f p s in
           (omega arith, omega arith)
+
+  -- a unit without a fault stands inside the table
+  pub unit-inside : (p least : ℕ) → unitFault t f p least ≡ Clear → p + unitSize f ≤ length t
+  unfolding singleFault rangeFault
+  unit-inside p least e = go (eqb f 6) refl
+    where
+      go : (b : Bool) → eqb f 6 ≡ b → p + unitSize f ≤ length t
+      go true q =
+          let s : f ≡ 6 = eqb-true f 6 q in
+          let clear : singleFault t p least ≡ Clear = sym (unit-single t f p least s) ∙ e in
+          let w = inside-holds t (p + 2) 2 (then-second _ _ (then-second _ _ clear)) in
+          omega (arith, w, size-single f s)
+      go false q =
+          let s : f ≡ 6 → ⊥ = eqb-false f 6 q in
+          let clear : rangeFault t p least ≡ Clear = sym (unit-range t f p least s) ∙ e in
+          let w = inside-holds t (p + 4) 2 (then-second _ _ (then-second _ _ (then-second _ _ (then-second _ _ clear)))) in
+          omega (arith, w, size-range f s)
 
   -- the units after the first are without a fault too
   pub units-rest : (n p least q : ℕ) → 0 < n → q ≡ p + unitSize f → unitsFault t f n p least ≡ Clear
@@ -164,6 +182,13 @@ module _ (t : List ℕ) (at : ℕ) where
           let r : 6 ≡ u16At t at = sym (eqb-true _ _ z) in
           counted 6 r (simp (← r) at w) refl
       go false x false y false z w = uncounted (u16At t at) refl (simp (x, y, z))
+
+  -- the fields of format 8 are inside
+  pub trimmed-inside : (glyphs : ℕ) → lookupFault t glyphs at ≡ Clear → u16At t at ≡ 8 → at + 6 ≤ length t
+  unfolding lookupFault formatFault trimmedFault
+  trimmed-inside glyphs e f =
+      let w : trimmedFault t glyphs at ≡ Clear = simp f at (then-second _ _ e) in
+      omega (arith, inside-holds t (at + 4) 2 (then-first _ _ (then-second _ _ w)))
 
 -- a lookup without a fault
 module _ (t : List ℕ) (glyphs at : ℕ) (clear : lookupFault t glyphs at ≡ Clear) where

@@ -2,7 +2,7 @@
 // glyphs upward that looks at each unit once.
 ghost use mathlib.Core.Path.{_≡_};
 ghost use mathlib.Core.Bool.{true, _&&_};
-ghost use Prim.Native.Nat.{ℕ, _+_, _-_, _*_, _/_, _%_, _≤_, _<_, _^_};
+ghost use Prim.Native.Nat.{ℕ, _+_, _*_, _/_, _%_, _≤_, _<_, _^_};
 ghost use lib.Dec.{leb, eqb};
 ghost use lib.ListN.{length};
 ghost use Rattle.fields.specs.declared.Fault.the-variants.{Clear};
@@ -10,7 +10,7 @@ ghost use Rattle.fields.specs.Field.{u16At};
 ghost use Rattle.lookup.specs.Units.{unitSize, firstOf, rangeFault, singleFault, unitFault, unitsFault, arrayFault, valuesFault, arraysFault, below};
 ghost use Rattle.lookup.specs.Lookup.{countedFault, segmentsFault, trimmedFault, lookupFault};
 ghost use Rattle.lookup.specs.Find.{unitValue, unitsValue, hasUnits, unitCount, headAt, trimmedValue, valueFrom, valueOf};
-ghost use Rattle.lookup.specs.Pass.{Serves, Reaches, untilOf, Constant};
+ghost use Rattle.lookup.specs.Pass.{Serves};
 use fields::Fault;
 use fields::Refusal;
 
@@ -28,24 +28,10 @@ pub struct Head {
     pub whole: bool,
 }
 
-// Where a pass over glyphs upward stands: the unit at hand, and how many counted units are left from it on.
+// Where a pass over glyphs upward stands: the next unit, and how many counted units are left from it on.
 pub struct Cursor {
     pub at: usize,
     pub left: usize,
-}
-
-// A glyph's value, the first glyph after it that may have another, and the cursor for the glyphs after it.
-pub struct Looked {
-    pub found: Found,
-    pub until: usize,
-    pub cursor: Cursor,
-}
-
-// a - b, or 0
-fn less(a: usize, b: usize) -> usize
-    ensures { λ r. ⌜ r ≡ a - b ⌝ }
-{
-    if b < a { a - b } else { 0 }
 }
 
 // How many glyphs from `first` on, up to but not with `end`, are below `glyphs`.
@@ -53,9 +39,9 @@ fn below_count(glyphs: usize, first: usize, end: usize) -> usize
     ensures { λ r. ⌜ r ≡ below glyphs first end ⌝ }
 {
     if end < glyphs {
-        return less(end, first);
+        return fields::less(end, first);
     }
-    less(glyphs, first)
+    fields::less(glyphs, first)
 }
 
 // The bytes of a unit.
@@ -65,15 +51,15 @@ pub fn unit_size(format: usize) -> usize
     if format == 6 { 4 } else { 6 }
 }
 
-// A unit's first glyph.
+// The first glyph of a unit that stands inside the table.
 pub fn first_of(table: &[u8], format: usize, p: usize) -> usize
-    requires { ⌜ p < 2 ^ 40 ⌝ }
-    ensures { λ r. ⌜ r ≡ firstOf (now (table .entry)) format p ⌝ }
+    requires { ⌜ p + unitSize format ≤ length (now table) ⌝ }
+    ensures { λ r. ⌜ (r ≡ firstOf (now (table .entry)) format p) × (r < 2 ^ 16) ⌝ }
 {
     if format == 6 {
-        return fields::u16_at(table, p);
+        return fields::u16_in(table, p);
     }
-    fields::u16_at(table, p + 2)
+    fields::u16_in(table, p + 2)
 }
 
 // Whether a unit of formats 2 and 4 is seen to be without fault: most are, and a chain of fields is slower.
@@ -173,7 +159,7 @@ fn array_fault(table: &[u8], count: usize, start: usize) -> Fault
     requires { ⌜ start < 2 ^ 40 ⌝ }
     ensures { λ r. ⌜ r ≡ arrayFault (now (table .entry)) count start ⌝ }
 {
-    let room = less(table.len(), start) / 2;
+    let room = fields::less(table.len(), start) / 2;
     fields::ruled(count <= room, Refusal::Outside, start + 2 * room)
 }
 
@@ -299,7 +285,7 @@ fn unit_value(table: &[u8], format: usize, at: usize, glyph: usize, p: usize) ->
     }
     if format == 4 {
         let offset = fields::u16_at(table, p + 4);
-        let index = less(glyph, fields::u16_at(table, p + 2));
+        let index = fields::less(glyph, fields::u16_at(table, p + 2));
         return fields::u16_at(table, at + offset + 2 * index) as u16;
     }
     fields::u16_at(table, p + 2) as u16
@@ -496,84 +482,5 @@ pub fn begin(table: &[u8], at: usize) -> Cursor
     Cursor {
         at: at + 12,
         left: head_at(table, at).units,
-    }
-}
-
-// Past the units that end below `glyph`, in the lookup at `at`, whose format was read.
-pub fn advance(table: &[u8], at: usize, format: usize, cursor: Cursor, glyph: usize) -> Cursor
-    requires { ⌜ (format ≡ u16At (now table) at) × Serves (now table) at glyph cursor ⌝ }
-    ensures { λ r. ⌜ Reaches (now (table .entry)) at glyph r ⌝ }
-{
-    let size = unit_size(format);
-    let mut p = cursor.at;
-    let mut left = cursor.left;
-    while 0 < left {
-        if glyph <= fields::u16_at(table, p) {
-            return Cursor { at: p, left };
-        }
-        p += size;
-        left -= 1;
-    }
-    Cursor { at: p, left }
-}
-
-// The value at a glyph by the unit at hand alone.
-fn value_here(table: &[u8], glyphs: usize, at: usize, cursor: Cursor, glyph: usize) -> Found
-    requires { ⌜ (at < 2 ^ 32) × ((glyph < 2 ^ 16) × Reaches (now table) at glyph cursor) ⌝ }
-    ensures { λ r. ⌜ r ≡ valueOf (now (table .entry)) glyphs at glyph ⌝ }
-{
-    let start = cursor.at;
-    if glyphs <= glyph {
-        return Found::Nothing;
-    }
-    let format = fields::u16_at(table, at);
-    if cursor.left == 0 {
-        return value_from(table, format, at, glyph, 0, start);
-    }
-    value_from(table, format, at, glyph, 1, start)
-}
-
-// Up to which glyph the units from the cursor on give what they give `glyph`: the next unit's first glyph, the end
-// of a unit of format 2, or the next glyph.
-fn units_until(table: &[u8], format: usize, cursor: Cursor, glyph: usize) -> usize
-    requires { ⌜ (cursor .at < 2 ^ 40) × (glyph < 2 ^ 16) ⌝ }
-    ensures { λ r. ⌜ r ≡ untilOf (now (table .entry)) format cursor glyph ⌝ }
-{
-    let p = cursor.at;
-    if cursor.left == 0 {
-        return 65536;
-    }
-    let first = first_of(table, format, p);
-    if glyph < first {
-        return first;
-    }
-    if format == 2 {
-        return fields::u16_at(table, p) + 1;
-    }
-    glyph + 1
-}
-
-// Up to which glyph the lookup at `at` gives what it gives `glyph`, as far as the unit at hand shows it.
-fn same_until(table: &[u8], at: usize, cursor: Cursor, glyph: usize) -> usize
-    requires { ⌜ (at < 2 ^ 32) × ((glyph < 2 ^ 16) × Reaches (now table) at glyph cursor) ⌝ }
-    ensures { λ r. ⌜ Constant (now (table .entry)) at glyph r ⌝ }
-{
-    let format = fields::u16_at(table, at);
-    if has_units(format) {
-        return units_until(table, format, cursor, glyph);
-    }
-    glyph + 1
-}
-
-// The value at a glyph of a pass that has come to it, how far it goes, and the cursor for the glyphs after it.
-pub fn step(table: &[u8], glyphs: usize, at: usize, cursor: Cursor, glyph: usize) -> Looked
-    requires { ⌜ (at < 2 ^ 32) × ((glyph < 2 ^ 16) × Serves (now table) at glyph cursor) ⌝ }
-    ensures { λ r. ⌜ (r .found ≡ valueOf (now (table .entry)) glyphs at glyph) × Serves (now (table .entry)) at (glyph + 1) (r .cursor) × Constant (now (table .entry)) at glyph (r .until) ⌝ }
-{
-    let next = advance(table, at, fields::u16_at(table, at), cursor, glyph);
-    Looked {
-        found: value_here(table, glyphs, at, next, glyph),
-        until: same_until(table, at, next, glyph),
-        cursor: next,
     }
 }

@@ -4,7 +4,7 @@
 ghost use mathlib.Core.Path.{_≡_};
 ghost use mathlib.Core.Bool.{true};
 ghost use Rattle.fields.specs.declared.Fault.the-variants.{Clear};
-ghost use Prim.Native.Nat.{ℕ, _+_, _-_, _<_, _^_, max, min};
+ghost use Prim.Native.Nat.{ℕ, _+_, _<_, _^_};
 ghost use Rattle.fields.specs.Field.{u16At};
 ghost use Rattle.machine.specs.declared.Scan.the-variants.{Count};
 ghost use Rattle.machine.specs.Cells.{classCount, entryTable, classAt, entryAt, cellAt};
@@ -29,24 +29,6 @@ pub struct ClassTable {
 }
 
 // `a` less `b`, 0 where `b` is larger.
-fn less(a: usize, b: usize) -> usize
-    ensures { λ r. ⌜ r ≡ a - b ⌝ }
-{
-    if b < a { a - b } else { 0 }
-}
-
-fn larger(a: usize, b: usize) -> usize
-    ensures { λ r. ⌜ r ≡ max a b ⌝ }
-{
-    if a < b { b } else { a }
-}
-
-fn smaller(a: usize, b: usize) -> usize
-    ensures { λ r. ⌜ r ≡ min a b ⌝ }
-{
-    if a < b { a } else { b }
-}
-
 // Where a cell's byte stands.
 fn cell_place(table: &[u8], here: usize, row: usize, class: usize) -> usize
     requires { ⌜ (here < 2 ^ 32) × ((row < 2 ^ 16) × (class < 2 ^ 16)) ⌝ }
@@ -70,7 +52,7 @@ pub fn entry_at(table: &[u8], here: usize, number: usize) -> Entry
     ensures { λ r. ⌜ r ≡ entryAt (now (table .entry)) here number ⌝ }
 {
     let at = entry_place(table, here, number);
-    let past = less(fields::u16_at(table, at), fields::u16_at(table, here + 4));
+    let past = fields::less(fields::u16_at(table, at), fields::u16_at(table, here + 4));
     let row = past / fields::u16_at(table, here);
     Entry {
         row: row as u16,
@@ -198,8 +180,8 @@ fn class_table_fault(table: &[u8], glyphs: usize, here: usize) -> Fault
     let at = here + fields::u16_at(table, here + 2);
     let first_in = fields::in_table(table, at, 2);
     let count_in = fields::in_table(table, at + 2, 2);
-    let below = less(glyphs, fields::u16_at(table, at));
-    let count = smaller(fields::u16_at(table, at + 2), below);
+    let below = fields::less(glyphs, fields::u16_at(table, at));
+    let count = fields::lower(fields::u16_at(table, at + 2), below);
     let classes = classes_fault(table, here, at + 4, count);
     fields::then(first_in, fields::then(count_in, classes))
 }
@@ -216,7 +198,11 @@ fn entry_fault(table: &[u8], here: usize, number: usize) -> Fault
     let next = entry_at(table, here, number);
     let row_in = fields::in_table(table, at, 2);
     let past = fields::ruled(array <= to, Refusal::BadMachine, at);
-    let whole = fields::ruled(less(to, array) % classes == 0, Refusal::BadMachine, at);
+    let whole = fields::ruled(
+        fields::less(to, array) % classes == 0,
+        Refusal::BadMachine,
+        at,
+    );
     let few = fields::ruled(next.row <= 255, Refusal::BadMachine, at);
     let flags_in = fields::in_table(table, at + 2, 2);
     let tail = fields::then(whole, fields::then(few, flags_in));
@@ -247,7 +233,7 @@ fn row_cells(table: &[u8], here: usize, row: usize, s: usize) -> Scan
             return Scan::Broken(fault);
         }
         let next = cell(table, here, row, class);
-        rows = larger(rows, next.row as usize + 1);
+        rows = fields::larger(rows, next.row as usize + 1);
         class += 1;
         left -= 1;
     }
@@ -294,7 +280,7 @@ fn clear_count(table: &[u8], here: usize, row: usize, s: usize) -> usize
         if 255 < next {
             return 0;
         }
-        rows = larger(rows, next + 1);
+        rows = fields::larger(rows, next + 1);
         class += 1;
         left -= 1;
     }

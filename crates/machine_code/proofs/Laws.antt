@@ -1,17 +1,18 @@
 -- The four sections of a machine by their parts as they are stored.
 use Prim.Native.Nat.{ℕ, _+_, _-_, _*_, _≤_, _<_, _^_, min}
-use mathlib.Core.Path.{_≡_, refl, sym, ap, ap₂, _∙_, subst}
+use mathlib.Core.Path.{_≡_, refl, sym, ap, ap₂, _∙_}
 use mathlib.Core.Option.{none, some}
-use mathlib.Core.List.{List, _++_, append-assoc}
+use mathlib.Core.List.{List, [], _∷_, _++_, append-assoc}
 use native.Mathlib.Omega.{arith}
 use native.Mathlib.Nat.{mul-le-mul}
-use lib.ListN.{length, getD, take, length-append}
-use lib.Seq.{length-take-le}
-use native.Mathlib.Decide.{decLt}
+use lib.ListN.{length, getD, replicate, length-append}
+use native.Mathlib.Decide.{ℕ-discrete, decLt}
 use borrow.Author.Tests.{eq-eqb, ne-eqb, le-leb, lt-leb, lt-ltb, le-ltb}
 use Rattle.fields.specs.declared.Fault.the-variants.{Clear}
 use Rattle.fields.specs.Field.{u16At, be32}
-use Rattle.lists.specs.Upto.{upto}
+use Rattle.lists.specs.Runs.{runs}
+use Rattle.lists.specs.Upto.{from, upto}
+use Rattle.lists.proofs.UptoLaws.{length-from, getD-from}
 use Rattle.lists.specs.Sections.{runSection, distinctSection, numberSection, numbered}
 use Rattle.meaning.specs.Discrete.{Entry-discrete}
 use Rattle.meaning.specs.Sheet.{entryCode}
@@ -23,11 +24,10 @@ use Rattle.table.specs.Table.{machinePart}
 use Rattle.table.proofs.Laws.{present-some}
 use Rattle.places.proofs.Laws.{map-from}
 use Rattle.run_code.specs.RunCode.{runBytes}
-use Rattle.run_code.specs.Spread.{Rise, Stretches}
-use Rattle.run_code.proofs.Laws.{class-runs}
-use Rattle.run_code.proofs.Stretch.{Stored, stored-all, stored-few}
+use Rattle.run_code.proofs.Laws.{class-runs, runs-pass, runs-first}
+use Rattle.run_code.proofs.Stretch.{from-stretch}
 use Rattle.entry_code.specs.Entries.{storedAt, entriesOf, entryBytes}
-use Rattle.machine_code.specs.Parts.{machineParts, machineBytes, OneClass, Classed}
+use Rattle.machine_code.specs.Parts.{machineParts, machineBytes, OneClass}
 
 pub few-cells : (rows classes : ℕ) → rows ≤ 256 → classes ≤ 255 → rows * classes < 2 ^ 16
 few-cells rows classes h k = omega (arith, mul-le-mul {n₁ = rows} {m₁ = classes} {n₂ = 256} {m₂ = 255} h k)
@@ -115,22 +115,40 @@ module _ (t : List ℕ) (here at first past : ℕ) (ea : at ≡ classTable t her
   module _ (n glyph : ℕ) (h : glyph < n) where
     pub class-after : past ≤ glyph → OneClass t n here glyph n
     class-after b =
-        record { more = h; most = omega arith; same = λ g p q. class-out g (λ x y. omega arith) ∙ sym (class-out glyph (λ x y. omega arith)) }
+        record {
+          more = h;
+          most = omega arith;
+          same = λ g p q. class-out g (λ x y. omega arith) ∙ sym (class-out glyph (λ x y. omega arith));
+          other = λ k l e. absurd (omega arith);
+        }
 
     pub class-before : glyph < first → OneClass t n here glyph (min first n)
     class-before b =
-        record { more = omega arith; most = omega arith; same = λ g p q. class-out g (λ x y. omega arith) ∙ sym (class-out glyph (λ x y. omega arith)) }
+        record {
+          more = omega arith;
+          most = omega arith;
+          same = λ g p q. class-out g (λ x y. omega arith) ∙ sym (class-out glyph (λ x y. omega arith));
+          other = λ k l e. absurd (k (class-out glyph (λ x y. omega arith)));
+        }
 
     pub class-within : (r : ℕ) → first ≤ glyph → glyph < past → 0 < r → r ≤ min past n - glyph
-        → ((k : ℕ) → k < r → getD t (at + 4 + (glyph - first) + k) 0 ≡ getD t (at + 4 + (glyph - first)) 0) → OneClass t n here glyph (glyph + r)
-    class-within r a b c d e =
+        → ((k : ℕ) → k < r → getD t (at + 4 + (glyph - first) + k) 0 ≡ getD t (at + 4 + (glyph - first)) 0)
+        → (r < min past n - glyph → getD t (at + 4 + (glyph - first) + r) 0 ≡ getD t (at + 4 + (glyph - first)) 0 → ⊥) → OneClass t n here glyph (glyph + r)
+    class-within r a b c d e f =
         record {
           more = omega arith;
           most = omega arith;
           same = λ g p q.
               let s : at + 4 + (glyph - first) + (g - glyph) ≡ at + 4 + (g - first) = omega arith in
               class-in g (omega arith) (omega arith) ∙ ap (λ (x : ℕ). getD t x 0) (sym s) ∙ e (g - glyph) (omega arith) ∙ sym (class-in glyph a b);
+          other = λ k l q. ends k l q (decLt (glyph + r) past);
         }
+      where
+        ends : (classAt t here glyph ≡ 1 → ⊥) → glyph + r < n → classAt t here (glyph + r) ≡ classAt t here glyph → Dec (glyph + r < past) → ⊥
+        ends k l q (yes z) =
+            let s : at + 4 + (glyph - first) + r ≡ at + 4 + (glyph + r - first) = omega arith in
+            f (omega arith) (ap (λ (x : ℕ). getD t x 0) s ∙ sym (class-in (glyph + r) (omega arith) z) ∙ q ∙ class-in glyph a b)
+        ends k l q (no z) = k (sym q ∙ class-out (glyph + r) (λ x y. z y))
 
 -- ---- bytes that are the same
 
@@ -145,24 +163,35 @@ more-bytes t at n e f k h = go (decLt k n)
     go (yes l) = f k l
     go (no l) = let s : at + k ≡ at + n = omega (arith, l) in ap (λ (x : ℕ). getD t x 0) s ∙ e
 
--- ---- the stretches that were found
+-- ---- the runs from a glyph on
 
-pub classed : (t : List ℕ) (n here : ℕ) (ends classes : List ℕ) (m g : ℕ) → m ≤ length ends → n ≤ g → Stored (classAt t here) n ends classes m g
-    → Classed t n here ends classes m
-classed t n here ends classes m g l h s =
-    let e : g ≡ n = omega (arith, s .most) in
-    record {
-      rise = subst (Rise 0 (take m ends)) e (s .rise);
-      fits = omega (arith, s .most, stored-few (classAt t here) n ends classes m g l s);
-      same = stored-all (classAt t here) n ends classes m g s h;
-    }
+module _ (t : List ℕ) (n here glyph end : ℕ) (w : OneClass t n here glyph end) where
+  abbrev rest : List ℕ
+  rest = from (classAt t here) (n - end) end
 
-pub classed-stretches : (t : List ℕ) (n here : ℕ) (ends classes : List ℕ) (m : ℕ) → n < 2 ^ 16 → n ≤ length ends → n ≤ length classes
-    → Classed t n here ends classes m → Stretches (take m ends) (take m classes)
-classed-stretches t n here ends classes m h a b c =
-    record {
-      last = n;
-      few = h;
-      rise = c .rise;
-      each = length-take-le m classes (omega (arith, c .fits)) ∙ sym (length-take-le m ends (omega (arith, c .fits)));
-    }
+  stretch : from (classAt t here) (n - glyph) glyph ≡ replicate (end - glyph) (classAt t here glyph) ++ rest
+  stretch = from-stretch (classAt t here) n glyph end (classAt t here glyph) (omega (arith, w .more)) (w .most) (w .same)
+
+  pub class-skipped : classAt t here glyph ≡ 1
+      → runs ℕ-discrete 1 glyph (from (classAt t here) (n - glyph) glyph) ≡ runs ℕ-discrete 1 end rest
+  class-skipped e =
+      ap (runs ℕ-discrete 1 glyph) (stretch ∙ ap (λ (v : ℕ). replicate (end - glyph) v ++ rest) e) ∙ runs-pass 1 glyph end rest (w .more)
+
+  pub class-taken : (classAt t here glyph ≡ 1 → ⊥)
+      → runs ℕ-discrete 1 glyph (from (classAt t here) (n - glyph) glyph)
+      ≡ record { first = glyph; last = end - 1; value = classAt t here glyph } ∷ runs ℕ-discrete 1 end rest
+  class-taken h =
+      ap (runs ℕ-discrete 1 glyph) stretch
+      ∙ runs-first 1 glyph end (classAt t here glyph) rest (w .more) h
+      (λ z e.
+      let l : end < n = omega (arith, z, length-from (classAt t here) (n - end) end) in
+      let q : end + 0 ≡ end = omega arith in
+      w .other h l (sym (getD-from (classAt t here) (n - end) end 0 0 (omega arith) ∙ ap (classAt t here) q) ∙ e))
+
+pub class-done : (t : List ℕ) (n here glyph : ℕ) → n ≤ glyph → runs ℕ-discrete 1 glyph (from (classAt t here) (n - glyph) glyph) ≡ []
+unfolding from
+class-done t n here glyph h = let z : n - glyph ≡ 0 = omega arith in ap (λ (k : ℕ). runs ℕ-discrete 1 glyph (from (classAt t here) k glyph)) z
+
+-- at first all glyphs are left
+pub class-all : (t : List ℕ) (n here : ℕ) → runs ℕ-discrete 1 0 (from (classAt t here) (n - 0) 0) ≡ runs ℕ-discrete 1 0 (upto (classAt t here) n)
+class-all t n here = let z : n - 0 ≡ n = omega arith in ap (λ (k : ℕ). runs ℕ-discrete 1 0 (from (classAt t here) k 0)) z

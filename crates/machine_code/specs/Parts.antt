@@ -3,13 +3,10 @@ use Prim.Native.Nat.{ℕ, _≤_, _<_}
 use mathlib.Core.Path.{_≡_}
 use mathlib.Core.Option.{Option}
 use mathlib.Core.List.{List, _++_}
-use lib.ListN.{take}
-use Rattle.lists.specs.Upto.{upto}
 use Rattle.meaning.specs.Meaning.{Machine}
 use Rattle.meaning.specs.Sheet.{machineSection, classSection, entrySection, cellSection}
 use Rattle.machine.specs.Cells.{classAt}
 use Rattle.table.specs.Means.{machineOf}
-use Rattle.run_code.specs.Spread.{spread, Rise}
 
 unfoldable pub machineParts : Option Machine → List ℕ
 machineParts m = machineSection m ++ classSection m ++ entrySection m ++ cellSection m
@@ -18,14 +15,9 @@ machineParts m = machineSection m ++ classSection m ++ entrySection m ++ cellSec
 unfoldable pub machineBytes : List ℕ → ℕ → ℕ → List ℕ
 machineBytes t n offset = machineParts (machineOf t n offset)
 
--- the glyphs from `glyph` up to `end` have one class
+-- the glyphs from `glyph` up to `end` have one class, and if it is not 1, the glyph there has another
 pub record OneClass (t : List ℕ) (n here glyph end : ℕ) : Type 0 where
   pub more : glyph < end
   pub most : end ≤ n
   pub same : (g : ℕ) → glyph ≤ g → g < end → classAt t here g ≡ classAt t here glyph
-
--- the classes of n glyphs by the first m stretches
-pub record Classed (t : List ℕ) (n here : ℕ) (ends classes : List ℕ) (m : ℕ) : Type 0 where
-  pub rise : Rise 0 (take m ends) n
-  pub fits : m ≤ n
-  pub same : spread 0 (take m ends) (take m classes) ≡ upto (classAt t here) n
+  pub other : (classAt t here glyph ≡ 1 → ⊥) → end < n → classAt t here end ≡ classAt t here glyph → ⊥

@@ -3,29 +3,27 @@
 ghost use mathlib.Core.Path.{_≡_};
 ghost use mathlib.Core.Option.{some};
 ghost use mathlib.Core.List.{_++_};
-ghost use Prim.Native.Nat.{ℕ, _+_, _*_, _≤_, _<_, _^_, min};
+ghost use Prim.Native.Nat.{ℕ, _+_, _*_, _≤_, _<_, _^_};
+ghost use native.Mathlib.Decide.{ℕ-discrete};
 ghost use lib.ListN.{length, getD};
 ghost use lib.Seq.{sets};
 ghost use Rattle.fields.specs.declared.Fault.the-variants.{Clear};
 ghost use Rattle.fields.specs.Field.{be32};
+ghost use Rattle.lists.specs.Codes.{many};
+ghost use Rattle.lists.specs.Runs.{runs};
 ghost use Rattle.lists.specs.Upto.{upto};
 ghost use Rattle.machine.specs.Cells.{classAt};
 ghost use Rattle.machine.specs.Machine.{machineFault};
 ghost use Rattle.table.specs.Means.{machineAt};
 ghost use Rattle.table.specs.Table.{machinePart};
-ghost use Rattle.run_code.specs.RunCode.{runBytes};
-ghost use Rattle.machine_code.specs.Parts.{machineParts, machineBytes, OneClass, Classed};
+ghost use Rattle.run_code.specs.RunCode.{lessCode, runBytes};
+ghost use Rattle.machine_code.specs.Parts.{machineParts, machineBytes, OneClass};
 
-fn lower(a: usize, b: usize) -> usize
-    ensures { λ r. ⌜ r ≡ min a b ⌝ }
-{
-    if a < b { a } else { b }
-}
-
-// How many bytes from `at` on, of `most`, are the same.
+// How many bytes from `at` on, of `most`, are the same, one after the other.
 fn same_count(table: &[u8], at: usize, most: usize) -> usize
     requires { ⌜ (0 < most) × (at + most < 2 ^ 62) ⌝ }
-    ensures { λ r. ⌜ (0 < r) × (r ≤ most) × ((k : ℕ) → k < r → getD (now (table .entry)) (at + k) 0 ≡ getD (now (table .entry)) at 0) ⌝ }
+    ensures { λ r. ⌜ (0 < r) × (r ≤ most) × ((k : ℕ) → k < r → getD (now (table .entry)) (at + k) 0 ≡ getD (now (table .entry)) at 0)
+        × ((r < most → getD (now (table .entry)) (at + r) 0 ≡ getD (now (table .entry)) at 0 → ⊥)) ⌝ }
 {
     let value = fields::u8_at(table, at);
     let mut count: usize = 1;
@@ -39,7 +37,7 @@ fn same_count(table: &[u8], at: usize, most: usize) -> usize
     count
 }
 
-// Up to which glyph the glyphs from `glyph` on have one class.
+// Up to which glyph the glyphs from `glyph` on have one class: the next has another, if it is not 1.
 fn class_end(table: &[u8], glyphs: usize, here: usize, glyph: usize) -> usize
     requires { ⌜ (here < 2 ^ 32) × ((glyph < glyphs) × (glyphs < 2 ^ 16)) ⌝ }
     ensures { λ r. ⌜ OneClass (now (table .entry)) glyphs here glyph r ⌝ }
@@ -51,84 +49,53 @@ fn class_end(table: &[u8], glyphs: usize, here: usize, glyph: usize) -> usize
         return glyphs;
     }
     if glyph < first {
-        return lower(first, glyphs);
+        return fields::lower(first, glyphs);
     }
-    glyph + same_count(table, at + 4 + (glyph - first), lower(past, glyphs) - glyph)
+    glyph
+        + same_count(
+            table,
+            at + 4 + (glyph - first),
+            fields::lower(past, glyphs) - glyph,
+        )
 }
 
-// The classes of the glyphs by stretches of glyphs that have one, and how many stretches there are.
-fn class_stretches(
-    table: &[u8],
-    glyphs: usize,
-    here: usize,
-    ends: &mut [u16],
-    classes: &mut [u16],
-) -> usize
-    requires { ⌜ (here < 2 ^ 32) × ((glyphs < 2 ^ 16) × ((glyphs ≤ length (now ends)) × (glyphs ≤ length (now classes)))) ⌝ }
-    ensures { λ r. ⌜ Classed (now (table .entry)) glyphs here (now (ends .exit)) (now (classes .exit)) r ⌝ }
+// Stores the runs of a class other than 1, and answers how many there are.
+fn put_each(table: &[u8], glyphs: usize, here: usize, out: &mut [u8], to: usize) -> usize
+    requires { ⌜ (here < 2 ^ 32) × ((glyphs < 2 ^ 16) × (to < 2 ^ 60)) ⌝ }
+    ensures { λ r. ⌜ (r ≡ length (runs ℕ-discrete 1 0 (upto (classAt (now (table .entry)) here) glyphs))) × (r < 2 ^ 16)
+        × (now (out .exit) ≡ sets (now (out .entry)) to (many (lessCode 0) (runs ℕ-discrete 1 0 (upto (classAt (now (table .entry)) here) glyphs)))) ⌝ }
 {
     let mut glyph: usize = 0;
     let mut count: usize = 0;
     while glyph < glyphs {
         let class = machine::class_of(table, here, glyph as u16);
         let end = class_end(table, glyphs, here, glyph);
-        ends[count] = end as u16;
-        classes[count] = class as u16;
-        glyph = end;
-        count += 1;
+        if class == 1 {
+            glyph = end;
+        } else {
+            run_code::put_run(
+                out,
+                to + 6 * count,
+                glyph as u16,
+                (end - 1) as u16,
+                class as u16,
+            );
+            count += 1;
+            glyph = end;
+        }
     }
     count
 }
 
 // Stores section 2, and answers where it ends.
-fn put_classes(
-    table: &[u8],
-    glyphs: usize,
-    here: usize,
-    ends: &mut [u16],
-    classes: &mut [u16],
-    out: &mut [u8],
-    to: usize,
-) -> usize
-    requires { ⌜ (here < 2 ^ 32) × ((glyphs < 2 ^ 16) × ((glyphs ≤ length (now ends)) × (glyphs ≤ length (now classes)))) ⌝ }
-    requires { ⌜ to < 2 ^ 40 ⌝ }
-    ensures { λ r. ⌜ (r ≡ to + length (runBytes 1 0 (upto (classAt (now (table .entry)) here) glyphs))) × (r < to + 2 ^ 19)
-        × (now (out .exit) ≡ sets (now (out .entry)) to (runBytes 1 0 (upto (classAt (now (table .entry)) here) glyphs))) ⌝ }
-{
-    let m = class_stretches(table, glyphs, here, ends, classes);
-    run_code::put_runs(&ends[..m], &classes[..m], 1, 0, out, to)
-}
-
-// The same with rooms for few glyphs, and for any number.
-fn put_few(table: &[u8], glyphs: usize, here: usize, out: &mut [u8], to: usize) -> usize
-    requires { ⌜ (here < 2 ^ 32) × ((glyphs ≤ 512) × (to < 2 ^ 40)) ⌝ }
-    ensures { λ r. ⌜ (r ≡ to + length (runBytes 1 0 (upto (classAt (now (table .entry)) here) glyphs))) × (r < to + 2 ^ 19)
-        × (now (out .exit) ≡ sets (now (out .entry)) to (runBytes 1 0 (upto (classAt (now (table .entry)) here) glyphs))) ⌝ }
-{
-    let mut ends = [0u16; 512];
-    let mut classes = [0u16; 512];
-    put_classes(table, glyphs, here, &mut ends, &mut classes, out, to)
-}
-
-fn put_many(table: &[u8], glyphs: usize, here: usize, out: &mut [u8], to: usize) -> usize
-    requires { ⌜ (here < 2 ^ 32) × ((glyphs < 2 ^ 16) × (to < 2 ^ 40)) ⌝ }
-    ensures { λ r. ⌜ (r ≡ to + length (runBytes 1 0 (upto (classAt (now (table .entry)) here) glyphs))) × (r < to + 2 ^ 19)
-        × (now (out .exit) ≡ sets (now (out .entry)) to (runBytes 1 0 (upto (classAt (now (table .entry)) here) glyphs))) ⌝ }
-{
-    let mut ends = [0u16; 65536];
-    let mut classes = [0u16; 65536];
-    put_classes(table, glyphs, here, &mut ends, &mut classes, out, to)
-}
-
 fn put_class_runs(table: &[u8], glyphs: usize, here: usize, out: &mut [u8], to: usize) -> usize
     requires { ⌜ (here < 2 ^ 32) × ((glyphs < 2 ^ 16) × (to < 2 ^ 40)) ⌝ }
     ensures { λ r. ⌜ (r ≡ to + length (runBytes 1 0 (upto (classAt (now (table .entry)) here) glyphs))) × (r < to + 2 ^ 19)
         × (now (out .exit) ≡ sets (now (out .entry)) to (runBytes 1 0 (upto (classAt (now (table .entry)) here) glyphs))) ⌝ }
 {
-    if glyphs <= 512 {
-        return put_few(table, glyphs, here, out, to);
-    }
-    put_many(table, glyphs, here, out, to)
+    let count = put_each(table, glyphs, here, out, to + 4);
+    fields::put_u32(out, to, count as u32);
+    to + 4 + 6 * count
 }
 
 // Stores section 1: one machine, its row count and its class count.

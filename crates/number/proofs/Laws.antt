@@ -1,15 +1,16 @@
 -- Numbering by positions: `f` gives what stands at a position, `z` is none. S is the list of what is seen, D the list of all distinct ones in the end.
 use Prim.Native.Nat.{ℕ, zero, suc, _+_, _≤_, _<_}
-use mathlib.Core.Path.{_≡_, refl, sym, ap, _∙_, subst}
+use mathlib.Core.Path.{_≡_, refl, sym, ap, _∙_}
 use mathlib.Core.Logic.{if-pos, if-neg}
-use mathlib.Core.List.{List, [], _∷_, _++_, map, map-append, append-assoc, append-nil}
+use mathlib.Core.List.{List, [], _∷_, _++_, map, map-append}
 use native.Mathlib.Decide.{ℕ-discrete, decLt}
 use native.Mathlib.Omega.{arith}
 use native.Mathlib.Numerals.{add-one}
 use lib.ListN.{length, getD, take, drop, set, replicate, length-append, length-set, drop-of-length-le, List·getD-eq-default}
 use lib.Seq.{drop-cons, take-suc-set, getD-set-same, getD-set-other, length-take-le, take-all}
+use Rattle.number.specs.Numbered.{Known}
 use Rattle.lists.specs.Distinct.{index, distinct, numbers}
-use Rattle.lists.proofs.DistinctLaws.{index-le, index-append, index-new, index-kept, index-added}
+use Rattle.lists.proofs.DistinctLaws.{index-append, index-new, index-kept, index-added}
 
 pub map-length : {A : Type 0} (f : ℕ → A) (l : List ℕ) → length (map f l) ≡ length l
 map-length f [] = refl
@@ -40,51 +41,37 @@ module _ {A : Type 0} (eq : Discrete A) (f : ℕ → A) where
 
   -- ---- one turn
 
+  -- one more of what was seen, or one that is new: what is added to the distinct ones, and its number among them
+  pub next-old : (x : A) (xs : List A) (n : ℕ) (S D : List A) → n ≡ index eq x S → n < length S → distinct eq S (x ∷ xs) ≡ D
+      → (distinct eq S xs ≡ D) × (index eq x D ≡ n)
+  next-old x xs n S D en hn e =
+      let g : distinct eq S xs ≡ D =
+      sym (if-neg (ℕ-discrete (index eq x S) (length S)) (λ q. omega arith) (distinct eq (S ++ (x ∷ [])) xs) (distinct eq S xs)) ∙ e in
+      (g, ap (index eq x) (sym g) ∙ index-kept eq x S xs (omega arith) ∙ sym en)
+
+  pub next-new : (x : A) (xs : List A) (n : ℕ) (S D : List A) → n ≡ index eq x S → n ≡ length S → distinct eq S (x ∷ xs) ≡ D
+      → (distinct eq (S ++ (x ∷ [])) xs ≡ D) × (index eq x D ≡ n)
+  next-new x xs n S D en hn e =
+      let q : index eq x S ≡ length S = omega arith in
+      let g : distinct eq (S ++ (x ∷ [])) xs ≡ D =
+      sym (if-pos (ℕ-discrete (index eq x S) (length S)) q (distinct eq (S ++ (x ∷ [])) xs) (distinct eq S xs)) ∙ e in
+      (g, ap (index eq x) (sym g) ∙ index-added eq x S xs q ∙ sym hn)
+
   pub step-old : (ps : List ℕ) (i n : ℕ) (S D : List A) → i < length ps → n ≡ index eq (f (getD ps i 0)) S → n < length S
       → distinct eq S (map f (drop i ps)) ≡ D → (distinct eq S (map f (drop (i + 1) ps)) ≡ D) × (index eq (f (getD ps i 0)) D ≡ n)
   step-old ps i n S D h en hn e =
-      let x = f (getD ps i 0) in
-      let xs = map f (drop (i + 1) ps) in
-      let g : distinct eq S xs ≡ D =
-      sym (if-neg (ℕ-discrete (index eq x S) (length S)) (λ q. omega arith) (distinct eq (S ++ (x ∷ [])) xs) (distinct eq S xs)) ∙ ap (distinct eq S) (sym (map-drop f ps i h)) ∙ e in
-      (g, ap (index eq x) (sym g) ∙ index-kept eq x S xs (omega arith) ∙ sym en)
+      next-old (f (getD ps i 0)) (map f (drop (i + 1) ps)) n S D en hn (ap (distinct eq S) (sym (map-drop f ps i h)) ∙ e)
 
   pub step-new : (ps : List ℕ) (i n : ℕ) (S D : List A) → i < length ps → n ≡ index eq (f (getD ps i 0)) S → n ≡ length S
       → distinct eq S (map f (drop i ps)) ≡ D
       → (distinct eq (S ++ (f (getD ps i 0) ∷ [])) (map f (drop (i + 1) ps)) ≡ D) × (index eq (f (getD ps i 0)) D ≡ n)
   step-new ps i n S D h en hn e =
-      let x = f (getD ps i 0) in
-      let xs = map f (drop (i + 1) ps) in
-      let q : index eq x S ≡ length S = omega arith in
-      let g : distinct eq (S ++ (x ∷ [])) xs ≡ D =
-      sym (if-pos (ℕ-discrete (index eq x S) (length S)) q (distinct eq (S ++ (x ∷ [])) xs) (distinct eq S xs)) ∙ ap (distinct eq S) (sym (map-drop f ps i h)) ∙ e in
-      (g, ap (index eq x) (sym g) ∙ index-added eq x S xs q ∙ sym hn)
-
-  -- the numbers stored so far, and those that are left
-  pub step-numbers : (ps nums : List ℕ) (i n : ℕ) (D : List A) (W : List ℕ) → i < length ps → i < length nums → index eq (f (getD ps i 0)) D ≡ n
-      → take i nums ++ numbers eq D (map f (drop i ps)) ≡ W
-      → take (i + 1) (set nums i n) ++ numbers eq D (map f (drop (i + 1) ps)) ≡ W
-  step-numbers ps nums i n D W h hn en e =
-      let a : take (i + 1) (set nums i n) ≡ take i nums ++ (n ∷ []) = rw add-one (take-suc-set nums i n hn) in
-      let rest = numbers eq D (map f (drop (i + 1) ps)) in
-      ap (λ (l : List ℕ). l ++ rest) a ∙ append-assoc (take i nums) (n ∷ []) rest
-      ∙ ap (λ (m : ℕ). take i nums ++ (m ∷ rest)) (sym en) ∙ ap (λ (l : List A). take i nums ++ numbers eq D l) (sym (map-drop f ps i h)) ∙ e
-
-  pub last-numbers : (ps nums : List ℕ) (i : ℕ) (D : List A) (W : List ℕ) → i ≡ length ps
-      → take i nums ++ numbers eq D (map f (drop i ps)) ≡ W → take (length ps) nums ≡ W
-  last-numbers ps nums i D W h e =
-      let l : length ps ≤ i = omega arith in
-      ap (λ (n : ℕ). take n nums) (sym h) ∙ sym (append-nil (take i nums))
-      ∙ ap (λ (b : List ℕ). take i nums ++ numbers eq D (map f b)) (sym (drop-of-length-le ps l)) ∙ e
+      next-new (f (getD ps i 0)) (map f (drop (i + 1) ps)) n S D en hn (ap (distinct eq S) (sym (map-drop f ps i h)) ∙ e)
 
   pub last-adds : (ps : List ℕ) (i : ℕ) (S D : List A) → length ps ≤ i → distinct eq S (map f (drop i ps)) ≡ D → D ≡ S
   last-adds ps i S D h e = sym e ∙ ap (λ (l : List ℕ). distinct eq S (map f l)) (drop-of-length-le ps h)
 
   -- ---- the numbers kept by position
-
-  -- a number other than 0 is the number of what stands at that position
-  abbrev pub Known : List ℕ → List A → Type 0
-  Known seen S = (q : ℕ) → (getD seen q 0 ≡ 0 → ⊥) → (index eq (f q) S ≡ getD seen q 0) × (getD seen q 0 < length S)
 
   -- what is read where a number was stored
   stored : (seen : List ℕ) (p q n : ℕ) → q ≡ p → (getD (set seen p n) q 0 ≡ 0 → ⊥) → getD (set seen p n) q 0 ≡ n
@@ -94,7 +81,7 @@ module _ {A : Type 0} (eq : Discrete A) (f : ℕ → A) where
       go (yes h) = ap (λ (j : ℕ). getD (set seen p n) j 0) e ∙ getD-set-same seen p n 0 h
       go (no h) = absurd (u (List·getD-eq-default (set seen p n) 0 (omega (arith, h, length-set seen p n))))
 
-  pub known-old : (seen : List ℕ) (S : List A) (p n : ℕ) → n ≡ index eq (f p) S → n < length S → Known seen S → Known (set seen p n) S
+  pub known-old : (seen : List ℕ) (S : List A) (p n : ℕ) → n ≡ index eq (f p) S → n < length S → Known eq f seen S → Known eq f (set seen p n) S
   known-old seen S p n en hn k q = go (ℕ-discrete q p)
     where
       go : Dec (q ≡ p) → (getD (set seen p n) q 0 ≡ 0 → ⊥) → (index eq (f q) S ≡ getD (set seen p n) q 0) × (getD (set seen p n) q 0 < length S)
@@ -106,8 +93,8 @@ module _ {A : Type 0} (eq : Discrete A) (f : ℕ → A) where
           let w = k q (λ v. u (g ∙ v)) in
           (w .0 ∙ sym g, omega (arith, w .1))
 
-  pub known-new : (seen : List ℕ) (S : List A) (p n : ℕ) → n ≡ index eq (f p) S → n ≡ length S → Known seen S
-      → Known (set seen p n) (S ++ (f p ∷ []))
+  pub known-new : (seen : List ℕ) (S : List A) (p n : ℕ) → n ≡ index eq (f p) S → n ≡ length S → Known eq f seen S
+      → Known eq f (set seen p n) (S ++ (f p ∷ []))
   known-new seen S p n en hn k q = go (ℕ-discrete q p)
     where
       T : List A
@@ -144,52 +131,18 @@ getD-zeros zero q = refl
 getD-zeros (suc n) zero = refl
 getD-zeros (suc n) (suc q) = getD-zeros n q
 
--- ---- a turn of the numbering
-
--- where the numbering stands: of the positions ps, i are passed; D is the distinct list in the end, W the numbers in the end
-pub record Turn {A : Type 0} (eq : Discrete A) (f : ℕ → A) (z : A) (ps : List ℕ) (D : List A) (W nums firsts seen : List ℕ) (k i : ℕ) : Type 0 where
-  pub left : distinct eq (z ∷ map f (take k firsts)) (map f (drop i ps)) ≡ D
-  pub done : take i nums ++ numbers eq D (map f (drop i ps)) ≡ W
-  pub known : Known eq f seen (z ∷ map f (take k firsts))
+-- ---- the items that are listed
 
 pub seen-length : {A : Type 0} (f : ℕ → A) (z : A) (fs : List ℕ) (k : ℕ) → k ≤ length fs → length (z ∷ map f (take k fs)) ≡ k + 1
 seen-length f z fs k h = omega (arith, map-length f (take k fs), length-take-le k fs h)
 
--- n is the number of what stands at the place at hand; `firsts′` are the distinct places afterwards
-module _ {A : Type 0} (eq : Discrete A) (f : ℕ → A) (z : A) (ps : List ℕ) (D : List A) (W nums firsts seen : List ℕ) (k i n p : ℕ)
-    (hi : i < length ps) (hn : i < length nums) (hk : k ≤ length firsts) (ep : p ≡ getD ps i 0)
-    (en : n ≡ index eq (f p) (z ∷ map f (take k firsts))) (t : Turn eq f z ps D W nums firsts seen k i) (firsts′ : List ℕ) where
-  en′ : n ≡ index eq (f (getD ps i 0)) (z ∷ map f (take k firsts))
-  en′ = en ∙ ap (λ (q : ℕ). index eq (f q) (z ∷ map f (take k firsts))) ep
+-- ---- many of one kind
 
-  pub turn-old : n ≤ k → take k firsts′ ≡ take k firsts → Turn eq f z ps D W (set nums i n) firsts′ (set seen p n) k (i + 1)
-  turn-old h e =
-      let len = seen-length f z firsts k hk in
-      let S = z ∷ map f (take k firsts) in
-      let m : z ∷ map f (take k firsts′) ≡ S = ap (λ (l : List ℕ). z ∷ map f l) e in
-      let s = step-old eq f ps i n S D hi en′ (omega arith) (t .left) in
-      record {
-        left = ap (λ (l : List A). distinct eq l (map f (drop (i + 1) ps))) m ∙ s .0;
-        done = step-numbers eq f ps nums i n D W hi hn (s .1) (t .done);
-        known = subst (λ (l : List A). Known eq f (set seen p n) l) (sym m) (known-old eq f seen S p n en (omega arith) (t .known));
-      }
+module _ {A : Type 0} (eq : Discrete A) where
+  pub distinct-again : (c : ℕ) (x : A) (S ys : List A) → index eq x S < length S → distinct eq S (replicate c x ++ ys) ≡ distinct eq S ys
+  distinct-again zero x S ys h = refl
+  distinct-again (suc c) x S ys h = if-neg (ℕ-discrete (index eq x S) (length S)) (λ e. omega arith) _ _ ∙ distinct-again c x S ys h
 
-  pub turn-new : k < n → take (k + 1) firsts′ ≡ take k firsts ++ (p ∷ []) → Turn eq f z ps D W (set nums i n) firsts′ (set seen p n) (k + 1) (i + 1)
-  turn-new h e =
-      let len = seen-length f z firsts k hk in
-      let S = z ∷ map f (take k firsts) in
-      let most = index-le eq (f p) S in
-      let full : n ≡ length S = omega arith in
-      let s = step-new eq f ps i n S D hi en′ full (t .left) in
-      let m : z ∷ map f (take (k + 1) firsts′) ≡ S ++ (f p ∷ []) = ap (λ (l : List A). z ∷ l) (ap (map f) e ∙ map-append f (take k firsts) (p ∷ [])) in
-      record {
-        left =
-            ap (λ (l : List A). distinct eq l (map f (drop (i + 1) ps))) m
-            ∙ ap (λ (q : ℕ). distinct eq (S ++ (f q ∷ [])) (map f (drop (i + 1) ps))) ep ∙ s .0;
-        done = step-numbers eq f ps nums i n D W hi hn (s .1) (t .done);
-        known = subst (λ (l : List A). Known eq f (set seen p n) l) (sym m) (known-new eq f seen S p n en full (t .known));
-      }
-
-  -- how many distinct ones there are then
-  pub turn-count : k < n → n ≡ k + 1
-  turn-count h = omega (arith, h, en, seen-length f z firsts k hk, index-le eq (f p) (z ∷ map f (take k firsts)))
+  pub numbers-same : (c : ℕ) (x : A) (ds ys : List A) → numbers eq ds (replicate c x ++ ys) ≡ replicate c (index eq x ds) ++ numbers eq ds ys
+  numbers-same zero x ds ys = refl
+  numbers-same (suc c) x ds ys = ap (λ (l : List ℕ). index eq x ds ∷ l) (numbers-same c x ds ys)

@@ -1,18 +1,14 @@
 -- None is the first of the distinct items.
-use Prim.Native.Nat.{ℕ, suc, _≤_}
+use Prim.Native.Nat.{ℕ, suc}
 use mathlib.Core.Path.{_≡_}
 use mathlib.Core.Logic.{if-pos, if-neg}
 use mathlib.Core.List.{List}
-use native.Mathlib.Omega.{arith}
-use lib.ListN.{length}
 use Rattle.fields.specs.Field.{u32At}
 use Rattle.lists.specs.Distinct.{index}
-use Rattle.lists.proofs.DistinctLaws.{index-le}
 use Rattle.values.specs.declared.Kind.{Kind}
 use Rattle.item.specs.Items.{noItem, itemAt, item-discrete}
 use Rattle.item.proofs.Laws.{item-none, item-some}
 use Rattle.number.specs.Numbered.{placed, numberOf}
-use Rattle.number.proofs.Laws.{map-length}
 
 module _ (kind : Kind) (t firsts : List ℕ) (place : ℕ) where
   pub number-none : u32At t place ≡ 0 → numberOf kind t firsts place ≡ 0
@@ -20,6 +16,3 @@ module _ (kind : Kind) (t firsts : List ℕ) (place : ℕ) where
 
   pub number-some : (u32At t place ≡ 0 → ⊥) → numberOf kind t firsts place ≡ suc (index (item-discrete kind) (itemAt kind t place) (placed kind t firsts))
   number-some h = if-neg (item-discrete kind (noItem kind) (itemAt kind t place)) (item-some kind t place h) _ _
-
-  pub number-few : index (item-discrete kind) (itemAt kind t place) (placed kind t firsts) ≤ length firsts
-  number-few = omega (arith, index-le (item-discrete kind) (itemAt kind t place) (placed kind t firsts), map-length (itemAt kind t) firsts)

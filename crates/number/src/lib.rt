@@ -1,13 +1,16 @@
 // The clusters or the lists at some places, numbered in order of first use (document 01, "The sheet", sections 5 to 8),
 // without a heap: an array by position has the number of what was found there, an array of positions the distinct ones.
-// A position that is seen for the first time is compared with the distinct ones that have its item's print.
+// The item at a position that is seen for the first time is looked for by its print: `slots` has by print the number of
+// the first item with it. Those that find their slot taken are listed in `others`, which has how many they are and then
+// their indices, sorted as words in a dictionary, and searched by halves: many items of one print cost little more.
 ghost use mathlib.Core.Path.{_≡_};
-ghost use Prim.Native.Nat.{_≤_, _<_, _^_};
-ghost use lib.ListN.{length, getD, set, take, replicate};
+ghost use mathlib.Core.Bool.{true};
+ghost use Prim.Native.Nat.{_+_, _≤_, _<_, _^_, max};
+ghost use lib.ListN.{length, getD, set, replicate};
 ghost use Rattle.fields.specs.Field.{u32At};
-ghost use Rattle.lists.specs.Distinct.{index};
-ghost use Rattle.item.specs.Items.{itemAt, item-discrete, itemPrint};
-ghost use Rattle.number.specs.Numbered.{placed, numberOf, printOf, lastWith, Numbered, Linked, Chained, Entered, Room, Blank};
+ghost use Rattle.lists.specs.Tests.{Says};
+ghost use Rattle.item.specs.Items.{itemAt};
+ghost use Rattle.number.specs.Numbered.{otherOf, Sorted, Split, Inserted, Kept, Entered, Marked, Seen};
 use values::Kind;
 
 // Sets every element.
@@ -21,31 +24,61 @@ pub fn fill(list: &mut [u16], value: u16)
     }
 }
 
-// The index of the first of the first `k` of these places that has the item at `place`, or `k`. `last` is the number of
-// the last of them with this item's print, 0 for none; `nexts` leads on.
-fn index_of(
-    table: &[u8],
-    kind: Kind,
-    firsts: &[u16],
-    nexts: &[u16],
-    k: usize,
-    last: u16,
-    place: u16,
-) -> usize
-    requires { ⌜ (length (now table) ≤ 2 ^ 15) × ((k ≤ length (now firsts)) × (k ≤ length (now nexts))) ⌝ }
-    requires { ⌜ Linked kind (now table) (now firsts) (now nexts) k × (last ≡ lastWith (printOf kind (now table) (now firsts)) k (itemPrint kind (itemAt kind (now table) place))) ⌝ }
-    ensures { λ r. ⌜ r ≡ index (item-discrete kind) (itemAt kind (now (table .entry)) place) (placed kind (now (table .entry)) (take k (now (firsts .entry)))) ⌝ }
+// The `s`-th place, counted from 0, of those listed in `others`.
+fn other_place(firsts: &[u16], others: &[u16], s: usize) -> u16
+    requires { ⌜ (s + 1 < length (now others)) × (getD (now others) (s + 1) 0 < length (now firsts)) ⌝ }
+    ensures { λ r. ⌜ r ≡ getD (now (firsts .entry)) (getD (now (others .entry)) (s + 1) 0) 0 ⌝ }
 {
-    let mut number = last as usize;
-    while 0 < number {
-        let j = number - 1;
-        if item::same_item(table, kind, firsts[j], place) {
-            return j;
+    let index = others[s + 1] as usize;
+    firsts[index]
+}
+
+// How many of the items listed in `others` come before the item at `place`, found by halves.
+fn earlier_count(table: &[u8], kind: Kind, firsts: &[u16], others: &[u16], place: u16) -> usize
+    requires { ⌜ (length (now table) ≤ 2 ^ 15) × (getD (now others) 0 0 < length (now others)) ⌝ }
+    requires { ⌜ Sorted kind (now table) (now firsts) (now others) (length (now firsts)) ⌝ }
+    ensures { λ r. ⌜ Split kind (now (table .entry)) (now (firsts .entry)) (now (others .entry)) (itemAt kind (now (table .entry)) place) r ⌝ }
+{
+    let mut low: usize = 0;
+    let mut high = others[0] as usize;
+    while low < high {
+        let middle = low + (high - low) / 2;
+        let other = other_place(firsts, others, middle);
+        if item::is_earlier(table, kind, other, place) {
+            low = middle + 1;
         } else {
-            number = nexts[j] as usize;
+            high = middle;
         }
     }
-    k
+    low
+}
+
+// Whether more than `s` items are listed in `others`, and the `s`-th, counted from 0, is the item at `place`.
+fn is_other(table: &[u8], kind: Kind, firsts: &[u16], others: &[u16], s: usize, place: u16) -> bool
+    requires { ⌜ (length (now table) ≤ 2 ^ 15) × (getD (now others) 0 0 < length (now others)) ⌝ }
+    requires { ⌜ Sorted kind (now table) (now firsts) (now others) (length (now firsts)) ⌝ }
+    ensures { λ r. ⌜ Says r ((s < getD (now (others .entry)) 0 0) × (otherOf kind (now (table .entry)) (now (firsts .entry)) (now (others .entry)) s ≡ itemAt kind (now (table .entry)) place)) ⌝ }
+{
+    if others[0] as usize <= s {
+        return false;
+    }
+    item::same_item(table, kind, other_place(firsts, others, s), place)
+}
+
+// Lists an index in `others` after the first `n`; the later ones move up.
+fn insert(others: &mut [u16], n: usize, index: u16)
+    requires { ⌜ (n ≤ getD (now others) 0 0) × ((getD (now others) 0 0 + 1 < length (now others)) × (getD (now others) 0 0 < 65535)) ⌝ }
+    ensures { λ r. ⌜ Inserted (now (others .entry)) (now (others .exit)) n index ⌝ }
+{
+    let count = others[0] as usize + 1;
+    let at = n + 1;
+    let mut i = count;
+    while at < i {
+        others[i] = others[i - 1];
+        i -= 1;
+    }
+    others[at] = index;
+    others[0] = count as u16;
 }
 
 // The number of the item at `place`, which is not none, among those at the first `k` of `firsts`; it joins them if it
@@ -54,50 +87,32 @@ fn enter(
     table: &[u8],
     kind: Kind,
     firsts: &mut [u16],
-    nexts: &mut [u16],
-    lasts: &mut [u16],
+    others: &mut [u16],
+    slots: &mut [u16],
     k: usize,
     place: u16,
 ) -> usize
-    requires { ⌜ (length (now table) ≤ 2 ^ 15) × ((u32At (now table) place ≡ 0 → ⊥) × Chained kind (now table) (now firsts) (now nexts) (now lasts) k) ⌝ }
-    requires { ⌜ (k < 65535) × ((k < length (now firsts)) × ((k < length (now nexts)) × (length (now lasts) ≡ 1021))) ⌝ }
-    ensures { λ r. ⌜ Entered kind (now (table .entry)) (now (firsts .entry)) (now (firsts .exit)) (now (nexts .exit)) (now (lasts .exit)) k place r ⌝ }
+    requires { ⌜ (length (now table) ≤ 2 ^ 15) × ((u32At (now table) place ≡ 0 → ⊥) × Kept kind (now table) (now firsts) (now others) (now slots) k) ⌝ }
+    requires { ⌜ (k < 65535) × ((k < length (now firsts)) × ((k < length (now others)) × (length (now slots) ≡ 1021))) ⌝ }
+    ensures { λ r. ⌜ Entered kind (now (table .entry)) (now (firsts .entry)) (now (firsts .exit)) (now (others .exit)) (now (slots .exit)) k place r ⌝ }
 {
     let print = item::item_print(table, kind, place);
-    let last = lasts[print];
-    let index = index_of(table, kind, firsts, nexts, k, last, place);
-    if index < k {
-        return index + 1;
+    let slot = slots[print] as usize;
+    if slot == 0 {
+        firsts[k] = place;
+        slots[print] = (k + 1) as u16;
+        return k + 1;
     }
+    if item::same_item(table, kind, firsts[slot - 1], place) {
+        return slot;
+    }
+    let n = earlier_count(table, kind, firsts, others, place);
+    if is_other(table, kind, firsts, others, n, place) {
+        return others[n + 1] as usize + 1;
+    }
+    insert(others, n, k as u16);
     firsts[k] = place;
-    nexts[k] = last;
-    lasts[print] = (k + 1) as u16;
     k + 1
-}
-
-// The number of the item at `place`. `known` is that number if the place has been seen, else 0.
-fn number_of(
-    table: &[u8],
-    kind: Kind,
-    firsts: &mut [u16],
-    nexts: &mut [u16],
-    lasts: &mut [u16],
-    k: usize,
-    place: u16,
-    known: u16,
-) -> usize
-    requires { ⌜ (length (now table) ≤ 2 ^ 15) × Chained kind (now table) (now firsts) (now nexts) (now lasts) k ⌝ }
-    requires { ⌜ ((known ≡ 0 → ⊥) → (known ≡ numberOf kind (now table) (take k (now firsts)) place) × (known ≤ k)) ⌝ }
-    requires { ⌜ (k < 65535) × ((k < length (now firsts)) × ((k < length (now nexts)) × (length (now lasts) ≡ 1021))) ⌝ }
-    ensures { λ r. ⌜ Entered kind (now (table .entry)) (now (firsts .entry)) (now (firsts .exit)) (now (nexts .exit)) (now (lasts .exit)) k place r ⌝ }
-{
-    if known != 0 {
-        return known as usize;
-    }
-    if fields::u32_at(table, place as usize) == 0 {
-        return 0;
-    }
-    enter(table, kind, firsts, nexts, lasts, k, place)
 }
 
 // What is marked at a place, 0 past the end.
@@ -118,35 +133,44 @@ fn mark(seen: &mut [u16], place: u16, number: u16)
     }
 }
 
-// Numbers the items that stand at `places`, and answers how many distinct ones there are.
-pub fn number_items(
+// Whether what is marked tells that the item at `place` has this number; none, which has the number 0, is not marked.
+pub fn is_known(table: &[u8], seen: &[u16], place: u16, number: u16) -> bool
+    ensures { λ r. ⌜ (r ≡ true → Marked (now (table .entry)) (now (seen .entry)) place number) ⌝ }
+{
+    if known_at(seen, place) != number {
+        return false;
+    }
+    if number != 0 {
+        return true;
+    }
+    fields::u32_at(table, place as usize) == 0
+}
+
+// The number of the item at `place` among those at the first `k` of `firsts`, none having 0; an item that is not there
+// joins them. A place is looked at once: its number is marked.
+pub fn number_of(
     table: &[u8],
     kind: Kind,
-    places: &[u16],
-    nums: &mut [u16],
     firsts: &mut [u16],
-    nexts: &mut [u16],
-    lasts: &mut [u16],
+    others: &mut [u16],
+    slots: &mut [u16],
     seen: &mut [u16],
+    k: usize,
+    place: u16,
 ) -> usize
-    requires { ⌜ (length (now table) ≤ 2 ^ 15) × Room (length (now places)) (length (now nums)) (length (now firsts)) (length (now nexts)) (length (now lasts)) ⌝ }
-    requires { ⌜ Blank (now lasts) × Blank (now seen) ⌝ }
-    ensures { λ r. ⌜ Numbered kind (now (table .entry)) (now (places .entry)) (take (length (now (places .entry))) (now (nums .exit))) (now (firsts .exit)) r ⌝ }
+    requires { ⌜ (length (now table) ≤ 2 ^ 15) × (Kept kind (now table) (now firsts) (now others) (now slots) k × Seen kind (now table) (now firsts) (now seen) k) ⌝ }
+    requires { ⌜ (k < 65535) × ((k < length (now firsts)) × ((k < length (now others)) × (length (now slots) ≡ 1021))) ⌝ }
+    ensures { λ r. ⌜ Entered kind (now (table .entry)) (now (firsts .entry)) (now (firsts .exit)) (now (others .exit)) (now (slots .exit)) k place r
+        × Seen kind (now (table .entry)) (now (firsts .exit)) (now (seen .exit)) (max k r) × (r ≤ k + 1) ⌝ }
 {
-    let mut k: usize = 0;
-    let mut i: usize = 0;
-    while i < places.len() {
-        let place = places[i];
-        let known = known_at(seen, place);
-        let n = number_of(table, kind, firsts, nexts, lasts, k, place, known);
-        nums[i] = n as u16;
-        mark(seen, place, n as u16);
-        if k < n {
-            k = n;
-            i += 1;
-        } else {
-            i += 1;
-        }
+    let known = known_at(seen, place);
+    if known != 0 {
+        return known as usize;
     }
-    k
+    if fields::u32_at(table, place as usize) == 0 {
+        return 0;
+    }
+    let number = enter(table, kind, firsts, others, slots, k, place);
+    mark(seen, place, number as u16);
+    number
 }

@@ -8,7 +8,8 @@ use native.Mathlib.Omega.{arith}
 use lib.ListN.{length, getD, take, drop, length-take, List·getD-eq-default, drop-of-length-le}
 use lib.Seq.{slice, take-all}
 use Rattle.lists.specs.Tests.{Says}
-use Rattle.order.specs.Order.{Le, stretch, NoLater}
+use Rattle.lists.specs.Dictionary.{Le}
+use Rattle.order.specs.Order.{stretch, NoLater}
 
 pub mark-none : (s marks : List ℕ) (i : ℕ) → length marks ≤ i → min (getD marks i 0) (length s) ≡ 0
 mark-none s marks i h = let e : getD marks i 0 ≡ 0 = List·getD-eq-default marks 0 h in omega (arith, e)

@@ -1,52 +1,15 @@
--- The dictionary's order: total, transitive, and two that come no later than each other are equal.
+-- The dictionary's order of stretches: total, transitive, and two that come no later than each other are equal; and a stretch byte by byte.
 use Prim.Native.Nat.{ℕ, _+_, _≤_, _<_}
-use mathlib.Core.Path.{_≡_, refl, sym, ap, ap₂, _∙_, subst}
+use mathlib.Core.Path.{_≡_, sym, ap, ap₂, _∙_, subst}
 use mathlib.Core.Logic.{inl, inr, ⊎-elim}
 use mathlib.Core.List.{List, [], _∷_}
-use native.Mathlib.Decide.{ℕ-discrete, decLt}
 use native.Mathlib.Omega.{arith}
 use native.Mathlib.Numerals.{add-one}
 use lib.ListN.{length, getD, take, length-take, drop-of-length-le}
 use lib.Seq.{slice, slice-cons}
-use Rattle.order.specs.Order.{Le, stretch, NoLater}
-
-total-step : (x y : ℕ) (a b : List ℕ) → Dec (y < x) → Dec (x ≡ y) → (Le (x ∷ a) (y ∷ b) → ⊥) → ((Le a b → ⊥) → Le b a) → Le (y ∷ b) (x ∷ a)
-total-step x y a b (yes p) e h f = inl p
-total-step x y a b (no p) (yes q) h f = inr (sym q, f (λ k. h (inr (q, k))))
-total-step x y a b (no p) (no q) h f = absurd (h (inl (omega arith)))
-
-pub le-total : (a b : List ℕ) → (Le a b → ⊥) → Le b a
-le-total [] b h = absurd (h tt)
-le-total (x ∷ a) [] h = tt
-le-total (x ∷ a) (y ∷ b) h = total-step x y a b (decLt y x) (ℕ-discrete x y) h (le-total a b)
-
-trans-step : (x y z : ℕ) (a b c : List ℕ) → (Le a b → Le b c → Le a c) → Le (x ∷ a) (y ∷ b) → Le (y ∷ b) (z ∷ c) → Le (x ∷ a) (z ∷ c)
-trans-step x y z a b c f (inl p) (inl q) = inl (omega arith)
-trans-step x y z a b c f (inl p) (inr q) = inl (omega arith)
-trans-step x y z a b c f (inr p) (inl q) = inl (omega arith)
-trans-step x y z a b c f (inr p) (inr q) = inr (p .0 ∙ q .0, f (p .1) (q .1))
-
-pub le-trans : (a b c : List ℕ) → Le a b → Le b c → Le a c
-le-trans [] b c p q = tt
-le-trans (x ∷ a) [] c p q = absurd p
-le-trans (x ∷ a) (y ∷ b) [] p q = absurd q
-le-trans (x ∷ a) (y ∷ b) (z ∷ c) p q = trans-step x y z a b c (le-trans a b c) p q
-
-anti-step : (x y : ℕ) (a b : List ℕ) → (Le a b → Le b a → a ≡ b) → Le (x ∷ a) (y ∷ b) → Le (y ∷ b) (x ∷ a) → x ∷ a ≡ y ∷ b
-anti-step x y a b f (inl p) (inl q) = absurd (omega arith)
-anti-step x y a b f (inl p) (inr q) = absurd (omega arith)
-anti-step x y a b f (inr p) (inl q) = absurd (omega arith)
-anti-step x y a b f (inr p) (inr q) = ap₂ (λ (u : ℕ) (v : List ℕ). u ∷ v) (p .0) (f (p .1) (q .1))
-
-pub le-anti : (a b : List ℕ) → Le a b → Le b a → a ≡ b
-le-anti [] [] p q = refl
-le-anti [] (y ∷ b) p q = absurd q
-le-anti (x ∷ a) [] p q = absurd p
-le-anti (x ∷ a) (y ∷ b) p q = anti-step x y a b (le-anti a b) p q
-
-pub le-same : (a : List ℕ) → Le a a
-le-same [] = tt
-le-same (x ∷ a) = inr (refl, le-same a)
+use Rattle.lists.specs.Dictionary.{Le}
+use Rattle.lists.proofs.DictionaryLaws.{le-total, le-trans, le-anti, le-same}
+use Rattle.order.specs.Order.{stretch, NoLater}
 
 -- ---- of stretches
 

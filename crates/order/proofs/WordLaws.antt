@@ -6,7 +6,9 @@ use native.Mathlib.Omega.{arith}
 use lib.ListN.{length, getD}
 use lib.Seq.{slice}
 use Rattle.fields.specs.Field.{u16At, u32At, Bytes}
-use Rattle.order.specs.Order.{Le, Shared}
+use Rattle.lists.specs.Dictionary.{Le}
+use Rattle.lists.proofs.CodeLaws.{half-bytes, word-halves}
+use Rattle.order.specs.Order.{Shared}
 use Rattle.order.proofs.OrderLaws.{turn-on, turn-back}
 
 -- a word is its four bytes
@@ -25,19 +27,6 @@ Alike s ae be i j x y =
     (Le (slice i ae s) (slice j be s) → Le (slice x ae s) (slice y be s)) × (Le (slice x ae s) (slice y be s) → Le (slice i ae s) (slice j be s))
 
 module _ (s : List ℕ) (bytes : Bytes s) (i j : ℕ) (e : u32At s i ≡ u32At s j) where
-  halves : (u16At s i ≡ u16At s j) × (u16At s (i + 2) ≡ u16At s (j + 2))
-  unfolding u32At u16At
-  halves =
-      let p : (getD s i 0 < 256) × (getD s (i + 1) 0 < 256) × (getD s (i + 2) 0 < 256) × (getD s (i + 2 + 1) 0 < 256) = (bytes i, bytes (i + 1), bytes (i + 2), bytes (i + 2 + 1)) in
-      let q : (getD s j 0 < 256) × (getD s (j + 1) 0 < 256) × (getD s (j + 2) 0 < 256) × (getD s (j + 2 + 1) 0 < 256) = (bytes j, bytes (j + 1), bytes (j + 2), bytes (j + 2 + 1)) in
-      (omega (arith, e), omega (arith, e))
-
-  both : (x y : ℕ) → u16At s x ≡ u16At s y → (getD s x 0 ≡ getD s y 0) × (getD s (x + 1) 0 ≡ getD s (y + 1) 0)
-  unfolding u16At
-  both x y h =
-      let p : (getD s x 0 < 256) × (getD s (x + 1) 0 < 256) × (getD s y 0 < 256) × (getD s (y + 1) 0 < 256) = (bytes x, bytes (x + 1), bytes y, bytes (y + 1)) in
-      (omega (arith, h), omega (arith, h))
-
   module _ (ae be : ℕ) (ai : i + 4 ≤ ae) (al : ae ≤ length s) (bj : j + 4 ≤ be) (bl : be ≤ length s) where
     turn : (x y : ℕ) → x < ae → y < be → getD s x 0 ≡ getD s y 0 → Alike s ae be x y (x + 1) (y + 1)
     turn x y p q h = (turn-on s x ae y be p al q bl h, turn-back s x ae y be p al q bl h)
@@ -47,8 +36,9 @@ module _ (s : List ℕ) (bytes : Bytes s) (i j : ℕ) (e : u32At s i ≡ u32At s
 
     pub word : Alike s ae be i j (i + 4) (j + 4)
     word =
-        let f = both i j (halves .0) in
-        let g = both (i + 2) (j + 2) (halves .1) in
+        let h = word-halves s bytes i j e in
+        let f = half-bytes s bytes i j (h .0) in
+        let g = half-bytes s bytes (i + 2) (j + 2) (h .1) in
         let t₁ = turn i j (omega arith) (omega arith) (f .0) in
         let t₂ = turn (i + 1) (j + 1) (omega arith) (omega arith) (f .1) in
         let t₃ = turn (i + 1 + 1) (j + 1 + 1) (omega arith) (omega arith) (at (i + 1 + 1) (j + 1 + 1) (i + 2) (j + 2) (omega arith) (omega arith) (g .0)) in

@@ -3,19 +3,13 @@
 use Prim.Native.Nat.{ℕ, _+_, _≤_, _<_}
 use mathlib.Core.Path.{_≡_}
 use mathlib.Core.Bool.{Bool, true, false}
-use mathlib.Core.Logic.{_⊎_, inl, inr, ⊎-elim, ite}
+use mathlib.Core.Logic.{ite}
 use mathlib.Core.List.{List, [], _∷_}
-use native.Mathlib.Decide.{ℕ-discrete, decLt}
 use lib.ListN.{length, getD, drop}
 use lib.Seq.{slice}
 use Rattle.lists.specs.Codes.{All}
+use Rattle.lists.specs.Dictionary.{Le, le-dec}
 use Rattle.lists.specs.Upto.{from}
-
--- a comes no later than b in a dictionary
-abbrev pub Le : List ℕ → List ℕ → Type 0
-Le [] b = Unit {0}
-Le (x ∷ a) [] = ⊥
-Le (x ∷ a) (y ∷ b) = (x < y) ⊎ ((x ≡ y) × Le a b)
 
 -- two slices that begin with the same r bytes: which comes first is told by what follows
 pub record Shared (s : List ℕ) (a ae b be r : ℕ) : Type 0 where
@@ -68,19 +62,6 @@ Adjacent f (x ∷ y ∷ xs) = (f x ≡ f y → ⊥) × Adjacent f (y ∷ xs)
 -- the numbers from i on, k of them
 abbrev pub countFrom : ℕ → ℕ → List ℕ
 countFrom i k = from (λ (x : ℕ). x) k i
-
--- ---- the order is decided
-
-le-decide : (x y : ℕ) (a b : List ℕ) → Dec (x < y) → Dec (x ≡ y) → Dec (Le a b) → Dec (Le (x ∷ a) (y ∷ b))
-le-decide x y a b (yes p) e d = yes (inl p)
-le-decide x y a b (no p) (no q) d = no (λ h. ⊎-elim p (λ k. q (k .0)) h)
-le-decide x y a b (no p) (yes q) (yes d) = yes (inr (q, d))
-le-decide x y a b (no p) (yes q) (no d) = no (λ h. ⊎-elim p (λ k. d (k .1)) h)
-
-pub le-dec : (a b : List ℕ) → Dec (Le a b)
-le-dec [] b = yes tt
-le-dec (x ∷ a) [] = no (λ h. h)
-le-dec (x ∷ a) (y ∷ b) = le-decide x y a b (decLt x y) (ℕ-discrete x y) (le-dec a b)
 
 pub no-later-dec : (s marks : List ℕ) (i j : ℕ) → Dec (NoLater s marks i j)
 unfolding NoLater

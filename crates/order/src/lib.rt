@@ -9,7 +9,8 @@ ghost use lib.ListN.{length, getD};
 ghost use lib.Seq.{slice};
 ghost use Rattle.fields.specs.Field.{u32At};
 ghost use Rattle.lists.specs.Tests.{Says};
-ghost use Rattle.order.specs.Order.{Le, Shared, stretch, NoLater, Ordered, Sorted, left, Next, Apart, Adjacent, countFrom};
+ghost use Rattle.lists.specs.Dictionary.{Le};
+ghost use Rattle.order.specs.Order.{Shared, stretch, NoLater, Ordered, Sorted, left, Next, Apart, Adjacent, countFrom};
 ghost use Rattle.order.specs.Slots.{mixed, slotOf, Rooms, Thinned};
 
 fn byte(x: u8) -> usize

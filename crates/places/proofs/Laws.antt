@@ -1,72 +1,192 @@
--- What stands at the places, and the stretches of glyphs that have one.
-use Prim.Native.Nat.{ℕ, zero, suc, _≤_, _<_, _^_, min}
-use mathlib.Core.Path.{_≡_, refl, sym, ap, ap₂, _∙_}
+-- What stands at the places, the places of a run, and how far an item goes.
+use Prim.Native.Nat.{ℕ, zero, suc, _+_, _-_, _*_, _≤_, _<_, _^_, min}
+use mathlib.Core.Path.{_≡_, refl, sym, ap, ap₂, _∙_, subst}
+use mathlib.Core.Bool.{Bool, true, false, cond}
 use mathlib.Core.List.{List, _∷_, map}
 use native.Mathlib.Omega.{arith}
-use native.Mathlib.Decide.{decLt}
-use lib.ListN.{length, take}
-use Rattle.lists.specs.Upto.{from, upto}
+use native.Mathlib.Decide.{ℕ-discrete, decLt}
+use lib.Dec.{ltb}
+use lib.ListN.{length, getD, set}
+use lib.Seq.{getD-set-other}
+use borrow.Author.Tests.{lt-ltb, le-ltb, ltb-true, ltb-false}
+use Rattle.fields.specs.Field.{u16At}
+use Rattle.lists.specs.Upto.{from}
 use Rattle.lookup.specs.declared.Found.{Found}
-use Rattle.lookup.specs.Find.{valueOf}
-use Rattle.lookup.specs.Pass.{Constant}
-use Rattle.lookup.proofs.Pass.{constant-value}
+use Rattle.lookup.specs.declared.Found.the-variants.{Value}
+use Rattle.lookup.proofs.Laws.{value-in}
 use Rattle.actions.specs.declared.Spot.{Spot}
 use Rattle.actions.specs.declared.Spot.the-variants.{At, Nowhere}
+use Rattle.runs.specs.declared.Run.{Run}
+use Rattle.runs.specs.Runs.{placeOf, Follows}
 use Rattle.values.specs.declared.Kind.{Kind}
-use Rattle.values.specs.Values.{spotOf}
+use Rattle.values.specs.Values.{spotOf, blockPlace}
 use Rattle.item.specs.Items.{itemAt}
 use Rattle.item.proofs.Laws.{item-past}
-use Rattle.number.specs.Numbered.{placed}
-use Rattle.run_code.specs.Spread.{spread}
-use Rattle.run_code.proofs.Spread.{spread-map}
-use Rattle.run_code.proofs.Stretch.{Stored, stored-all}
-use Rattle.places.specs.declared.Source.the-variants.{Lookup}
-use Rattle.places.specs.Places.{itemHere, itemsFrom, placeOf, glyphPlace, Passed}
+use Rattle.number.specs.Numbered.{Marked, Blank}
+use Rattle.places.specs.Places.{itemHere, glyphItem, spotPlace, valuePlace, runPlace, Agree, Carries, Lead, OneItem, Alike}
 
 -- ---- what stands at a place
 
-there : (kind : Kind) (t : List ℕ) → length t ≤ 2 ^ 15 → (spot : Spot) → itemAt kind t (placeOf spot) ≡ itemHere kind t spot
-there kind t h Nowhere = item-past kind t (placeOf Nowhere) (omega arith)
+there : (kind : Kind) (t : List ℕ) → length t ≤ 2 ^ 15 → (spot : Spot) → itemAt kind t (spotPlace spot) ≡ itemHere kind t spot
+there kind t h Nowhere = item-past kind t (spotPlace Nowhere) (omega arith)
 there kind t h (At p) = go (decLt p 65535)
   where
     go : Dec (p < 65535) → itemAt kind t (min p 65535) ≡ itemAt kind t p
     go (yes l) = let e : min p 65535 ≡ p = omega arith in ap (itemAt kind t) e
     go (no l) = item-past kind t (min p 65535) (omega (arith, l)) ∙ sym (item-past kind t p (omega (arith, l)))
 
+value-there : (kind : Kind) (t : List ℕ) (base : ℕ) → length t ≤ 2 ^ 15 → (p : ℕ)
+    → itemAt kind t (valuePlace kind t base p) ≡ itemHere kind t (spotOf kind base (Value (u16At t p)))
+unfolding valuePlace
+value-there kind t base short p = there kind t short (spotOf kind base (Value (u16At t p)))
+
 pub map-from : {A B : Type 0} (f : ℕ → A) (g : A → B) (h : ℕ → B) → ((x : ℕ) → g (f x) ≡ h x) → (n i : ℕ) → map g (from f n i) ≡ from h n i
 unfolding from
 map-from f g h e zero i = refl
 map-from f g h e (suc n) i = ap₂ (λ a l. a ∷ l) (e i) (map-from f g h e n (suc i))
 
-module _ (kind : Kind) (t : List ℕ) (n : ℕ) (h : length t ≤ 2 ^ 15) where
-  pub looked-there : (at base : ℕ) (places : List ℕ) → places ≡ upto (glyphPlace t n kind at base) n → placed kind t places ≡ itemsFrom kind t n (Lookup at base)
-  unfolding itemsFrom glyphPlace
-  looked-there at base places e =
-      ap (placed kind t) e
-      ∙ map-from (λ (g : ℕ). placeOf (spotOf kind base (valueOf t n at g))) (itemAt kind t) (λ (g : ℕ). itemHere kind t (spotOf kind base (valueOf t n at g)))
-      (λ g. there kind t h (spotOf kind base (valueOf t n at g))) n 0
+-- what a value leads to, as the code has its steps
+pub value-leads : (kind : Kind) (t : List ℕ) (base p value place : ℕ) (spot : Spot) → value ≡ u16At t p → spot ≡ spotOf kind base (Value value) → place ≡ spotPlace spot
+    → place ≡ valuePlace kind t base p
+unfolding valuePlace
+value-leads kind t base p value place spot v s e = e ∙ ap spotPlace (s ∙ ap (λ (x : ℕ). spotOf kind base (Value x)) v)
 
-  -- what a pass stored, once it has come to its end
-  pub passed : (at base m g : ℕ) (ends places : List ℕ) → Stored (glyphPlace t n kind at base) n ends places m g → m ≤ length ends → (g < n → m ≡ length ends)
-      → Passed kind t n at base ends places (record { count = m; glyph = g })
-  passed at base m g ends places s f stops =
+-- ---- the places of a run
+
+module _ (kind : Kind) (t : List ℕ) (base start place : ℕ) (array : Bool) (glyph : ℕ) where
+  pub place-before : glyph < start → runPlace kind t base start place array glyph ≡ 65535
+  unfolding runPlace
+  place-before h = simp (lt-ltb glyph start h)
+
+  pub place-in : start ≤ glyph → runPlace kind t base start place array glyph ≡ valuePlace kind t base (cond array (place + 2 * (glyph - start)) place)
+  unfolding runPlace
+  place-in h = ap (λ (b : Bool). cond b 65535 (valuePlace kind t base (cond array (place + 2 * (glyph - start)) place))) (le-ltb glyph start h)
+
+  pub place-array : start ≤ glyph → array ≡ true → (p : ℕ) → p ≡ place + 2 * (glyph - start) → valuePlace kind t base p ≡ runPlace kind t base start place array glyph
+  place-array h e p q =
+      ap (valuePlace kind t base) (q ∙ sym (ap (λ (b : Bool). cond b (place + 2 * (glyph - start)) place) e)) ∙ sym (place-in h)
+
+  pub place-one : start ≤ glyph → array ≡ false → valuePlace kind t base place ≡ runPlace kind t base start place array glyph
+  place-one h e = ap (valuePlace kind t base) (sym (ap (λ (b : Bool). cond b (place + 2 * (glyph - start)) place) e)) ∙ sym (place-in h)
+
+-- what a glyph of the font has stands at its place
+pub run-item : (kind : Kind) (t : List ℕ) (n at base glyph x : ℕ) (r : Run) → length t ≤ 2 ^ 15 → n < 2 ^ 16 → Follows t at glyph r → glyph ≤ x → x < r .until → x < n
+    → itemAt kind t (runPlace kind t base (r .from) (r .place) (r .array) x) ≡ glyphItem kind t n at base x
+run-item kind t n at base glyph x r short few w h u l = go (ltb x (r .from)) refl
+  where
+    go : (b : Bool) → ltb x (r .from) ≡ b → itemAt kind t (runPlace kind t base (r .from) (r .place) (r .array) x) ≡ glyphItem kind t n at base x
+    go true e =
+        let before : x < r .from = ltb-true x (r .from) e in
+        ap (itemAt kind t) (place-before kind t base (r .from) (r .place) (r .array) x before) ∙ item-past kind t 65535 (omega arith)
+        ∙ sym (ap (λ (f : Found). itemHere kind t (spotOf kind base f)) (value-in t n at x l ∙ w .none x h before (omega arith)))
+    go false e =
+        let among : r .from ≤ x = ltb-false x (r .from) e in
+        ap (itemAt kind t) (place-in kind t base (r .from) (r .place) (r .array) x among) ∙ value-there kind t base short (placeOf r x)
+        ∙ sym (ap (λ (f : Found). itemHere kind t (spotOf kind base f)) (value-in t n at x l ∙ w .some x among u (omega arith)))
+
+-- one more value that is known to lead to the same
+pub marked-more : (kind : Kind) (t : List ℕ) (base : ℕ) (seen : List ℕ) (place number i q : ℕ)
+    → ((j : ℕ) → j < i → Marked t seen (valuePlace kind t base (place + 2 * j)) number) → q ≡ valuePlace kind t base (place + 2 * i) → Marked t seen q number
+    → (j : ℕ) → j < i + 1 → Marked t seen (valuePlace kind t base (place + 2 * j)) number
+marked-more kind t base seen place number i q before e here j l = go (ℕ-discrete j i)
+  where
+    go : Dec (j ≡ i) → Marked t seen (valuePlace kind t base (place + 2 * j)) number
+    go (yes s) = subst (λ (p : ℕ). Marked t seen p number) (e ∙ ap (λ (k : ℕ). valuePlace kind t base (place + 2 * k)) (sym s)) here
+    go (no s) = before j (omega (arith, s))
+
+-- a marked place carries its own number
+pub carries-own : (kind : Kind) (t seen : List ℕ) (p number : ℕ) → Marked t seen p number → Carries kind t seen p number
+carries-own kind t seen p number m = record { twin = p; item = refl; marked = m }
+
+pub lead-own : (kind : Kind) (t : List ℕ) (base : ℕ) (seen : List ℕ) (place number n : ℕ)
+    → ((i : ℕ) → i < n → Marked t seen (valuePlace kind t base (place + 2 * i)) number) → Lead kind t base seen place number n
+lead-own kind t base seen place number n m i l = carries-own kind t seen _ number (m i l)
+
+-- values that lead to an item, and more of them after those
+pub lead-more : (kind : Kind) (t : List ℕ) (base : ℕ) (seen : List ℕ) (place number n more p : ℕ) → p ≡ place + 2 * n
+    → Lead kind t base seen place number n → Lead kind t base seen p number more → Lead kind t base seen place number (n + more)
+lead-more kind t base seen place number n more p e before after i l = go (decLt i n)
+  where
+    go : Dec (i < n) → Carries kind t seen (valuePlace kind t base (place + 2 * i)) number
+    go (yes b) = before i b
+    go (no b) =
+        let z : p + 2 * (i - n) ≡ place + 2 * i = omega (arith, b) in
+        subst (λ (q : ℕ). Carries kind t seen (valuePlace kind t base q) number) z (after (i - n) (omega (arith, b)))
+
+-- ---- blocks
+
+-- none is marked at first
+pub blocks-none : (kind : Kind) (t : List ℕ) (base : ℕ) (blocks : List ℕ) → Blank blocks → OneItem kind t base blocks
+blocks-none kind t base blocks b = record { same = λ block i e l. let z : _≡_ {A = ℕ} 0 1 = sym (b block) ∙ e in absurd (omega arith) }
+
+module _ (kind : Kind) (t : List ℕ) (base : ℕ) (seen blocks : List ℕ) (place block number : ℕ) (here : blockPlace block ≡ place) where
+  -- a marked block whose first value is known to lead to an item
+  pub block-known : getD blocks block 0 ≡ 1 → OneItem kind t base blocks → (q : ℕ) → q ≡ valuePlace kind t base place → Marked t seen q number
+      → Lead kind t base seen place number 16
+  block-known e o q here′ m i l =
+      let y : blockPlace block + 2 * i ≡ place + 2 * i = omega (arith, here) in
       record {
-        rise = s .rise;
-        most = s .most;
-        fits = f;
-        stops = stops;
-        items = λ l. sym (spread-map (itemAt kind t) (take m ends) (take m places) 0)
-            ∙ looked-there at base (spread 0 (take m ends) (take m places)) (stored-all (glyphPlace t n kind at base) n ends places m g s l);
+        twin = q;
+        item =
+            ap (λ (x : ℕ). itemAt kind t (valuePlace kind t base x)) (sym y)
+            ∙ o .same block i e l
+            ∙ ap (λ (x : ℕ). itemAt kind t (valuePlace kind t base x)) here
+            ∙ ap (itemAt kind t) (sym here′);
+        marked = m;
       }
 
--- glyphs up to where a value goes have one place
-pub same-place : (t : List ℕ) (n : ℕ) (kind : Kind) (at base glyph until p : ℕ) → Constant t at glyph until → p ≡ glyphPlace t n kind at base glyph
-    → (x : ℕ) → glyph ≤ x → x < min until n → glyphPlace t n kind at base x ≡ p
-unfolding glyphPlace
-same-place t n kind at base glyph until p k e x a b =
-    ap (λ (f : Found). placeOf (spotOf kind base f)) (constant-value t n at glyph until x k a (omega arith) (omega arith)) ∙ sym e
+  -- a block whose values are all known to lead to an item is marked
+  pub block-marked : Agree kind t seen → OneItem kind t base blocks
+      → ((i : ℕ) → i < 16 → Marked t seen (valuePlace kind t base (place + 2 * i)) number) → OneItem kind t base (set blocks block 1)
+  block-marked a o m = record { same = λ b i e l. go b i e l (ℕ-discrete b block) }
+    where
+      go : (b i : ℕ) → getD (set blocks block 1) b 0 ≡ 1 → i < 16 → Dec (b ≡ block)
+          → itemAt kind t (valuePlace kind t base (blockPlace b + 2 * i)) ≡ itemAt kind t (valuePlace kind t base (blockPlace b))
+      go b i e l (yes q) =
+          let first : place + 2 * 0 ≡ blockPlace b = omega (arith, ap blockPlace q, here) in
+          let this : place + 2 * i ≡ blockPlace b + 2 * i = omega (arith, ap blockPlace q, here) in
+          ap (λ (p : ℕ). itemAt kind t (valuePlace kind t base p)) (sym this)
+          ∙ a .same _ _ number (m i l) (m 0 (omega arith))
+          ∙ ap (λ (p : ℕ). itemAt kind t (valuePlace kind t base p)) first
+      go b i e l (no q) = o .same b i (sym (getD-set-other blocks block b 1 0 q) ∙ e) l
 
-pub glyph-place : (t : List ℕ) (n : ℕ) (kind : Kind) (at base glyph p : ℕ) (found : Found) → p ≡ placeOf (spotOf kind base found) → found ≡ valueOf t n at glyph
-    → p ≡ glyphPlace t n kind at base glyph
-unfolding glyphPlace
-glyph-place t n kind at base glyph p found e f = e ∙ ap (λ (x : Found). placeOf (spotOf kind base x)) f
+-- a pass that had room has come further where its room is full
+pub went-on : (g₀ g m₀ m room : ℕ) → g₀ ≤ g → (g ≤ g₀ → m ≡ m₀) → m₀ < room → room ≤ m → g₀ < g
+went-on g₀ g m₀ m room h same before full = go (decLt g₀ g)
+  where
+    go : Dec (g₀ < g) → g₀ < g
+    go (yes l) = l
+    go (no l) = absurd (omega (arith, same (omega (arith, l))))
+
+-- ---- how far an item goes
+
+module _ (kind : Kind) (t : List ℕ) (base start until place : ℕ) (array : Bool) (glyph : ℕ) (seen : List ℕ) (number e : ℕ) (u : glyph < until) where
+  -- before the run
+  pub alike-before : glyph < start → e ≡ min start until → Alike kind t base start until place array glyph seen number e
+  alike-before h q =
+      record {
+        more = omega arith;
+        most = omega arith;
+        same = λ x a b k. absurd (k (place-before kind t base start place array x (omega arith) ∙ sym (place-before kind t base start place array glyph h)));
+      }
+
+  -- in a run with one value
+  pub alike-one : start ≤ glyph → array ≡ false → e ≡ until → Alike kind t base start until place array glyph seen number e
+  alike-one h o q =
+      record {
+        more = omega arith;
+        most = omega arith;
+        same = λ x a b k. absurd (k (sym (place-one kind t base start place array x (omega arith) o) ∙ place-one kind t base start place array glyph h o));
+      }
+
+  -- in an array, `c` more values of which are known to lead to the same
+  pub alike-array : start ≤ glyph → array ≡ true → (p c : ℕ) → p ≡ place + 2 * (glyph + 1 - start) → c ≤ until - (glyph + 1)
+      → Lead kind t base seen p number c → e ≡ glyph + 1 + c → Alike kind t base start until place array glyph seen number e
+  alike-array h o p c s f w q =
+      record {
+        more = omega arith;
+        most = omega arith;
+        same = λ x a b k.
+            let z : p + 2 * (x - (glyph + 1)) ≡ place + 2 * (x - start) = omega arith in
+            subst (λ (y : ℕ). Carries kind t seen y number) (place-array kind t base start place array x (omega arith) o _ z) (w (x - (glyph + 1)) (omega arith));
+      }

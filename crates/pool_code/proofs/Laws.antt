@@ -18,17 +18,17 @@ use Rattle.lists.proofs.DistinctLaws.{index-self}
 use Rattle.values.specs.declared.Kind.{Kind}
 use Rattle.values.specs.declared.Kind.the-variants.{Clusters, Lists}
 use Rattle.item.specs.Items.{Item, noItem, itemAt, item-discrete, itemCode}
-use Rattle.number.specs.Numbered.{placed, distinctAt, Numbered, Room}
+use Rattle.number.specs.Numbered.{placed, distinctOf}
 use Rattle.number.proofs.Laws.{map-length, map-drop}
 use Rattle.places.specs.declared.Pass.{Pass}
 use Rattle.places.specs.declared.Source.{Source}
 use Rattle.places.specs.declared.Source.the-variants.{Lookup, Absent}
-use Rattle.places.specs.Places.{itemsFrom, Passed}
+use Rattle.places.specs.Places.{itemsFrom, Rooms, Passed}
 use Rattle.run_code.specs.RunCode.{runBytes}
 use Rattle.run_code.specs.Spread.{spread, Stretches}
 use Rattle.run_code.proofs.Laws.{number-runs}
-use Rattle.run_code.proofs.Spread.{rise-few, spread-distinct, spread-numbers}
-use Rattle.pool_code.specs.Pool.{poolBytes, sections, Short, Rooms, Placed, Tried}
+use Rattle.run_code.proofs.Spread.{rise-few}
+use Rattle.pool_code.specs.Pool.{poolBytes, sections, Short, Placed, Tried}
 
 -- ---- items one after the other
 
@@ -88,78 +88,40 @@ unfolding itemCode
 none-short Clusters = omega arith
 none-short Lists = omega arith
 
--- the stretches of glyphs, their places and the numbers of these, once the pass has come to the last glyph
-module _ (kind : Kind) (t : List ℕ) (n at base : ℕ) (ends places nums firsts : List ℕ) (pass : Pass) (k : ℕ) (few : n < 2 ^ 16)
-    (short : All (Short kind) (itemsFrom kind t n (Lookup at base))) (p : Passed kind t n at base ends places pass) (all : n ≤ pass .glyph)
-    (fits : length ends ≤ length places) where
-  held : length (take (pass .count) places) ≡ pass .count
-  held = length-take-le (pass .count) places (omega (arith, p .fits))
+-- the stretches of glyphs and the numbers of what they have, once the pass has come to the last glyph
+module _ (kind : Kind) (t : List ℕ) (n at base : ℕ) (ends nums firsts : List ℕ) (pass : Pass) (few : n < 2 ^ 16)
+    (short : All (Short kind) (itemsFrom kind t n (Lookup at base))) (p : Passed kind t n at base ends nums firsts pass) (all : n ≤ pass .glyph) where
+  pub pass-few : pass .stretches < 2 ^ 16
+  pass-few = omega (arith, p .most, rise-few (take (pass .stretches) ends) 0 (pass .glyph) (p .rise), length-take-le (pass .stretches) ends (p .fits))
 
-  pub pass-few : pass .count < 2 ^ 16
-  pass-few = omega (arith, p .most, rise-few (take (pass .count) ends) 0 (pass .glyph) (p .rise), length-take-le (pass .count) ends (p .fits))
-
-  pub pass-held : pass .count ≡ length (take (pass .count) places)
-  pass-held = sym held
-
-  pub pass-room : (nums₀ firsts₀ nexts₀ lasts₀ : ℕ) → length ends ≤ nums₀ → length ends ≤ firsts₀ → length ends ≤ nexts₀ → lasts₀ ≡ 1021
-      → Room (length (take (pass .count) places)) nums₀ firsts₀ nexts₀ lasts₀
-  pass-room nums₀ firsts₀ nexts₀ lasts₀ a b c d =
-      record {
-        few = omega (arith, held, pass-few);
-        each = omega (arith, held, p .fits);
-        most = omega (arith, held, p .fits);
-        links = omega (arith, held, p .fits);
-        prints = d;
-      }
-
-  pub pass-stretches : length ends ≤ length nums → Stretches (take (pass .count) ends) (take (pass .count) nums)
+  pub pass-stretches : length ends ≤ length nums → Stretches (take (pass .stretches) ends) (take (pass .stretches) nums)
   pass-stretches h =
       record {
         last = pass .glyph;
         few = omega (arith, p .most);
         rise = p .rise;
-        each = length-take-le (pass .count) nums (omega (arith, p .fits)) ∙ sym (length-take-le (pass .count) ends (p .fits));
+        each = length-take-le (pass .stretches) nums (omega (arith, p .fits)) ∙ sym (length-take-le (pass .stretches) ends (p .fits));
       }
 
-  module _ (w : Numbered kind t (take (pass .count) places) (take (length (take (pass .count) places)) nums) firsts k) where
-    pub pass-distinct : k < 2 ^ 16
-    pass-distinct = omega (arith, w .few, held, pass-few)
+  found : distinct (item-discrete kind) (noItem kind ∷ []) (itemsFrom kind t n (Lookup at base)) ≡ noItem kind ∷ placed kind t (take (pass .items) firsts)
+  unfolding distinctOf
+  found = p .numbered all .found
 
-    each : length (placed kind t (take (pass .count) places)) ≡ length (take (pass .count) ends)
-    each = map-length (itemAt kind t) (take (pass .count) places) ∙ held ∙ sym (length-take-le (pass .count) ends (p .fits))
+  numbered : numbers (item-discrete kind) (distinct (item-discrete kind) (noItem kind ∷ []) (itemsFrom kind t n (Lookup at base))) (itemsFrom kind t n (Lookup at base))
+      ≡ spread 0 (take (pass .stretches) ends) (take (pass .stretches) nums)
+  unfolding distinctOf
+  numbered = sym (p .numbered all .numbered)
 
-    -- the distinct items of the glyphs are those of the places
-    distinct-are : distinct (item-discrete kind) (noItem kind ∷ []) (itemsFrom kind t n (Lookup at base)) ≡ noItem kind ∷ placed kind t (take k firsts)
-    unfolding distinctAt
-    distinct-are =
-        ap (distinct (item-discrete kind) (noItem kind ∷ [])) (sym (p .items all))
-        ∙ spread-distinct (item-discrete kind) (take (pass .count) ends) (placed kind t (take (pass .count) places)) (noItem kind ∷ []) 0 (pass .glyph) each (p .rise)
-        ∙ w .found
+  pub pass-sections : sections kind t (take (pass .items) firsts) (take (pass .stretches) ends) (take (pass .stretches) nums) ≡ poolBytes kind t n (Lookup at base)
+  unfolding sections poolBytes
+  pass-sections =
+      ap (λ (b : List ℕ). counted (itemCode kind) (placed kind t (take (pass .items) firsts)) ++ b) (number-runs (spread 0 (take (pass .stretches) ends) (take (pass .stretches) nums)))
+      ∙ ap₂ (λ (ys : List (Item kind)) (ns : List ℕ). counted (itemCode kind) ys ++ counted runLessCode (runs ℕ-discrete 0 0 ns)) (ap (drop 1) (sym found)) (sym numbered)
 
-    numbers-are : numbers (item-discrete kind) (distinct (item-discrete kind) (noItem kind ∷ []) (itemsFrom kind t n (Lookup at base))) (itemsFrom kind t n (Lookup at base))
-        ≡ spread 0 (take (pass .count) ends) (take (pass .count) nums)
-    numbers-are =
-        let eq = item-discrete kind in
-        let ds = noItem kind ∷ placed kind t (take k firsts) in
-        ap₂ (λ (d y : List (Item kind)). numbers eq d y) distinct-are (sym (p .items all))
-        ∙ spread-numbers eq (take (pass .count) ends) (placed kind t (take (pass .count) places)) ds 0
-        ∙ ap (spread 0 (take (pass .count) ends))
-        (ap (λ (d : List (Item kind)). numbers eq d (placed kind t (take (pass .count) places))) (sym (w .found)) ∙ sym (w .numbered)
-        ∙ ap (λ (j : ℕ). take j nums) held)
-
-    pub pass-sections : sections kind t (take k firsts) (take (pass .count) ends) (take (pass .count) nums) ≡ poolBytes kind t n (Lookup at base)
-    unfolding sections poolBytes
-    pass-sections =
-        ap (λ (b : List ℕ). counted (itemCode kind) (placed kind t (take k firsts)) ++ b) (number-runs (spread 0 (take (pass .count) ends) (take (pass .count) nums)))
-        ∙ ap₂ (λ (ys : List (Item kind)) (ns : List ℕ). counted (itemCode kind) ys ++ counted runLessCode (runs ℕ-discrete 0 0 ns)) (ap (drop 1) (sym distinct-are)) (sym numbers-are)
-
-    pub pass-most : k ≤ pass .count
-    pass-most = omega (arith, w .few, held)
-
-    pub pass-short : All (Short kind) (placed kind t (take k firsts))
-    pass-short =
-        subst (All (Short kind)) distinct-are
-        (all-distinct (item-discrete kind) (Short kind) (itemsFrom kind t n (Lookup at base)) (noItem kind ∷ []) (none-short kind, tt) short) .1
+  pub pass-short : All (Short kind) (placed kind t (take (pass .items) firsts))
+  pass-short =
+      subst (All (Short kind)) found
+      (all-distinct (item-discrete kind) (Short kind) (itemsFrom kind t n (Lookup at base)) (noItem kind ∷ []) (none-short kind, tt) short) .1
 
 -- ---- without a lookup
 
@@ -210,11 +172,11 @@ tried-again kind t n source room out₀ out₁ out₂ to q r h w p =
     subst (λ (l : List ℕ). Placed kind t n source l out₂ to r) (w .full (omega arith) .0) p
 
 -- the pass did not come to the last glyph
-pub tried-full : (kind : Kind) (t : List ℕ) (n at base : ℕ) (ends places : List ℕ) (pass : Pass) (room : ℕ) (out₀ out : List ℕ) (to : ℕ)
-    → Passed kind t n at base ends places pass → pass .glyph < n → length ends ≡ room → out ≡ out₀ → Tried kind t n (Lookup at base) room out₀ out to 0
-tried-full kind t n at base ends places pass room out₀ out to p h l e =
+pub tried-full : (kind : Kind) (t : List ℕ) (n at base : ℕ) (ends nums firsts : List ℕ) (pass : Pass) (room : ℕ) (out₀ out : List ℕ) (to : ℕ)
+    → Passed kind t n at base ends nums firsts pass → pass .glyph < n → length ends ≡ room → out ≡ out₀ → Tried kind t n (Lookup at base) room out₀ out to 0
+tried-full kind t n at base ends nums firsts pass room out₀ out to p h l e =
     record {
-      full = λ z. (e, omega (arith, p .stops h, l, rise-few (take (pass .count) ends) 0 (pass .glyph) (p .rise), length-take-le (pass .count) ends (p .fits)));
+      full = λ z. (e, omega (arith, p .stops h, l, rise-few (take (pass .stretches) ends) 0 (pass .glyph) (p .rise), length-take-le (pass .stretches) ends (p .fits)));
       done = λ z. absurd (omega arith);
     }
 
@@ -229,6 +191,5 @@ tried-done kind t n source room out₀ out to r firsts ends nums e a b c =
 
 -- fresh rooms for m stretches
 pub fresh : (m : ℕ) → Rooms (length (replicate {A = ℕ} m 0)) (length (replicate {A = ℕ} m 0)) (length (replicate {A = ℕ} m 0)) (length (replicate {A = ℕ} m 0))
-    (length (replicate {A = ℕ} m 0)) (length (replicate {A = ℕ} 1021 0))
-fresh m =
-    record { each = omega arith; numbered = omega arith; distinct = omega arith; links = omega arith; prints = length-replicate {A = ℕ} 1021 0 }
+    (length (replicate {A = ℕ} 1021 0))
+fresh m = record { each = omega arith; distinct = omega arith; listed = omega arith; prints = length-replicate {A = ℕ} 1021 0 }

@@ -34,14 +34,6 @@ pub record Ready (kind : Kind) (t : List ℕ) (n : ℕ) (source : Source) : Type
   pub sound : Sound t n source
   pub short : All (Short kind) (itemsFrom kind t n source)
 
--- rooms for as many stretches as `ends` has elements
-pub record Rooms (ends places nums firsts nexts lasts : ℕ) : Type 0 where
-  pub each : ends ≤ places
-  pub numbered : ends ≤ nums
-  pub distinct : ends ≤ firsts
-  pub links : ends ≤ nexts
-  pub prints : lasts ≡ 1021
-
 -- the two sections stored from `to` on, up to r
 pub record Placed (kind : Kind) (t : List ℕ) (n : ℕ) (source : Source) (out₀ out : List ℕ) (to r : ℕ) : Type 0 where
   pub end : r ≡ to + length (poolBytes kind t n source)

@@ -1,5 +1,5 @@
 // Sections 5 and 6, or 7 and 8, of a sheet for a table (document 01, "The sheet"): the glyphs' clusters or lists are
-// numbered by stretches of glyphs that have one place, and stored from the numbers. What would stand past the end of
+// numbered by stretches of glyphs that have the same, and stored from the numbers. What would stand past the end of
 // the lent bytes is dropped, so that the sections are sized by storing them into nothing.
 ghost use mathlib.Core.Path.{_≡_};
 ghost use mathlib.Core.List.{_++_};
@@ -10,8 +10,9 @@ ghost use Rattle.fields.specs.Field.{be32};
 ghost use Rattle.lists.specs.Codes.{All, many};
 ghost use Rattle.item.specs.Items.{itemCode};
 ghost use Rattle.number.specs.Numbered.{placed, Blank};
+ghost use Rattle.places.specs.Places.{Rooms};
 ghost use Rattle.run_code.specs.Spread.{Stretches};
-ghost use Rattle.pool_code.specs.Pool.{sections, Short, Ready, Rooms, Placed, Tried};
+ghost use Rattle.pool_code.specs.Pool.{sections, Short, Ready, Placed, Tried};
 use places::Source;
 use values::Kind;
 
@@ -54,7 +55,7 @@ fn put_sections(
 }
 
 // Stores the two sections for the lookup at `at`, and answers where they end; or, where the rooms do not hold all
-// stretches of glyphs with one place, stores nothing and answers 0.
+// stretches of glyphs that have the same, stores nothing and answers 0.
 fn put_with(
     table: &[u8],
     glyphs: usize,
@@ -62,25 +63,38 @@ fn put_with(
     at: usize,
     base: usize,
     ends: &mut [u16],
-    places: &mut [u16],
     nums: &mut [u16],
     firsts: &mut [u16],
-    nexts: &mut [u16],
-    lasts: &mut [u16],
+    others: &mut [u16],
+    slots: &mut [u16],
     seen: &mut [u16],
+    blocks: &mut [u8],
     out: &mut [u8],
     to: usize,
 ) -> usize
     requires { ⌜ Ready kind (now table) glyphs (Source.Lookup at base) × (to < 2 ^ 38) ⌝ }
-    requires { ⌜ Rooms (length (now ends)) (length (now places)) (length (now nums)) (length (now firsts)) (length (now nexts)) (length (now lasts)) × (Blank (now lasts) × Blank (now seen)) ⌝ }
+    requires { ⌜ Rooms (length (now ends)) (length (now nums)) (length (now firsts)) (length (now others)) (length (now slots)) × (Blank (now others) × (Blank (now slots) × (Blank (now seen) × Blank (now blocks)))) ⌝ }
     ensures { λ r. ⌜ Tried kind (now (table .entry)) glyphs (Source.Lookup at base) (length (now (ends .entry))) (now (out .entry)) (now (out .exit)) to r ⌝ }
 {
-    let pass = places::place_items(table, glyphs, kind, at, base, ends, places);
+    let pass = places::number_glyphs(
+        table,
+        glyphs,
+        kind,
+        at,
+        base,
+        ends,
+        nums,
+        firsts,
+        others,
+        slots,
+        seen,
+        blocks,
+    );
     if pass.glyph < glyphs {
         return 0;
     }
-    let m = pass.count;
-    let k = number::number_items(table, kind, &places[..m], nums, firsts, nexts, lasts, seen);
+    let k = pass.items;
+    let m = pass.stretches;
     put_sections(table, kind, &firsts[..k], &ends[..m], &nums[..m], out, to)
 }
 
@@ -98,12 +112,12 @@ fn put_small(
     ensures { λ r. ⌜ Tried kind (now (table .entry)) glyphs (Source.Lookup at base) 128 (now (out .entry)) (now (out .exit)) to r ⌝ }
 {
     let mut ends = [0u16; 128];
-    let mut places = [0u16; 128];
     let mut nums = [0u16; 128];
     let mut firsts = [0u16; 128];
-    let mut nexts = [0u16; 128];
-    let mut lasts = [0u16; 1021];
+    let mut others = [0u16; 128];
+    let mut slots = [0u16; 1021];
     let mut seen = [0u16; 512];
+    let mut blocks = [0u8; 32];
     put_with(
         table,
         glyphs,
@@ -111,12 +125,12 @@ fn put_small(
         at,
         base,
         &mut ends,
-        &mut places,
         &mut nums,
         &mut firsts,
-        &mut nexts,
-        &mut lasts,
+        &mut others,
+        &mut slots,
         &mut seen,
+        &mut blocks,
         out,
         to,
     )
@@ -136,12 +150,12 @@ fn put_medium(
     ensures { λ r. ⌜ Tried kind (now (table .entry)) glyphs (Source.Lookup at base) 4096 (now (out .entry)) (now (out .exit)) to r ⌝ }
 {
     let mut ends = [0u16; 4096];
-    let mut places = [0u16; 4096];
     let mut nums = [0u16; 4096];
     let mut firsts = [0u16; 4096];
-    let mut nexts = [0u16; 4096];
-    let mut lasts = [0u16; 1021];
+    let mut others = [0u16; 4096];
+    let mut slots = [0u16; 1021];
     let mut seen = [0u16; 32768];
+    let mut blocks = [0u8; 2048];
     put_with(
         table,
         glyphs,
@@ -149,12 +163,12 @@ fn put_medium(
         at,
         base,
         &mut ends,
-        &mut places,
         &mut nums,
         &mut firsts,
-        &mut nexts,
-        &mut lasts,
+        &mut others,
+        &mut slots,
         &mut seen,
+        &mut blocks,
         out,
         to,
     )
@@ -174,12 +188,12 @@ fn put_large(
     ensures { λ r. ⌜ Tried kind (now (table .entry)) glyphs (Source.Lookup at base) 65536 (now (out .entry)) (now (out .exit)) to r ⌝ }
 {
     let mut ends = [0u16; 65536];
-    let mut places = [0u16; 65536];
     let mut nums = [0u16; 65536];
     let mut firsts = [0u16; 65536];
-    let mut nexts = [0u16; 65536];
-    let mut lasts = [0u16; 1021];
+    let mut others = [0u16; 65536];
+    let mut slots = [0u16; 1021];
     let mut seen = [0u16; 32768];
+    let mut blocks = [0u8; 2048];
     put_with(
         table,
         glyphs,
@@ -187,12 +201,12 @@ fn put_large(
         at,
         base,
         &mut ends,
-        &mut places,
         &mut nums,
         &mut firsts,
-        &mut nexts,
-        &mut lasts,
+        &mut others,
+        &mut slots,
         &mut seen,
+        &mut blocks,
         out,
         to,
     )

@@ -9,6 +9,7 @@ use native.Mathlib.Nat.{add-zero}
 use lib.ListN.{length, drop, getD, set, replicate, length-drop}
 use lib.Seq.{sets, drop-cons, getD-drop, drop-drop}
 use Rattle.fields.specs.Field.{be16, be32}
+use Rattle.fields.specs.Stores.{sets-append}
 use Rattle.lists.specs.Codes.{many, counted}
 use Rattle.lists.specs.Runs.{Run, push, runs, OkRuns}
 use Rattle.lists.specs.Sections.{runCode, runLessCode, runSection}
@@ -65,6 +66,22 @@ module _ (skip : ℕ) where
       go (yes p) rs o = later rs o
       go (no p) rs o = put rs
 
+  -- a list that begins with a stretch of what is skipped, or with the first stretch of a run
+  pub runs-pass : (first past : ℕ) (ys : List ℕ) → first < past → runs ℕ-discrete skip first (replicate (past - first) skip ++ ys) ≡ runs ℕ-discrete skip past ys
+  runs-pass first past ys h =
+      let k : first + (past - first) ≡ past = omega arith in
+      runs-skips ℕ-discrete skip (past - first) first ys ∙ ap (λ (m : ℕ). runs ℕ-discrete skip m ys) k
+
+  pub runs-first : (first past v : ℕ) (ys : List ℕ) → first < past → (v ≡ skip → ⊥) → (0 < length ys → getD ys 0 0 ≡ v → ⊥)
+      → runs ℕ-discrete skip first (replicate (past - first) v ++ ys) ≡ record { first = first; last = past - 1; value = v } ∷ runs ℕ-discrete skip past ys
+  runs-first first past v ys l h other =
+      let k : past - first ≡ suc (past - 1 - first) = omega arith in
+      let m : suc (past - 1) ≡ past = omega arith in
+      ap (λ (q : ℕ). runs ℕ-discrete skip first (replicate q v ++ ys)) k
+      ∙ runs-block ℕ-discrete skip (past - 1 - first) first (past - 1) v ys (omega arith) h
+      (subst (λ (q : ℕ). Apart q v (runs ℕ-discrete skip q ys)) (sym m) (head-apart ys past v h other))
+      ∙ ap (λ (q : ℕ). record { first = first; last = past - 1; value = v } ∷ runs ℕ-discrete skip q ys) m
+
   -- the stretches ends and xs from stretch i on, which begins at index first; those from i to r - 1 have one element
   module _ (ends xs : List ℕ) (i r first n : ℕ) (l : length xs ≡ length ends) (t : RunTo xs i r) (o : Rise first (drop i ends) n) where
     abbrev v : ℕ
@@ -92,27 +109,19 @@ module _ (skip : ℕ) where
         → runs ℕ-discrete skip first (spread first (drop i ends) (drop i xs)) ≡ runs ℕ-discrete skip past (spread past (drop r ends) (drop r xs))
     runs-skipped e =
         let w = run-step in
-        let k : first + (past - first) ≡ past = omega (arith, w .0) in
         ap (runs ℕ-discrete skip first) (w .2 ∙ ap (λ (x : ℕ). replicate (past - first) x ++ spread past (drop r ends) (drop r xs)) e)
-        ∙ runs-skips ℕ-discrete skip (past - first) first (spread past (drop r ends) (drop r xs))
-        ∙ ap (λ (m : ℕ). runs ℕ-discrete skip m (spread past (drop r ends) (drop r xs))) k
+        ∙ runs-pass first past (spread past (drop r ends) (drop r xs)) (w .0)
 
     pub runs-taken : (v ≡ skip → ⊥)
         → runs ℕ-discrete skip first (spread first (drop i ends) (drop i xs))
         ≡ record { first = first; last = past - 1; value = v } ∷ runs ℕ-discrete skip past (spread past (drop r ends) (drop r xs))
     runs-taken h =
         let w = run-step in
-        let k : past - first ≡ suc (past - 1 - first) = omega (arith, w .0) in
-        let m : suc (past - 1) ≡ past = omega (arith, w .0) in
-        let ys = spread past (drop r ends) (drop r xs) in
         let g : getD (drop r xs) 0 0 ≡ getD xs r 0 = getD-drop r xs 0 0 ∙ ap (λ (q : ℕ). getD xs q 0) (add-zero r) in
         let b : length (drop r xs) ≡ length (drop r ends) = omega (arith, l, length-drop r xs, length-drop r ends) in
-        let a : Apart past v (runs ℕ-discrete skip past ys) =
-        head-apart ys past v h (λ z e. let f = spread-first past n (drop r ends) (drop r xs) 0 b (w .1) z in t .3 (omega (arith, f .0, length-drop r xs)) (sym g ∙ sym (f .1) ∙ e)) in
-        ap (runs ℕ-discrete skip first) (w .2 ∙ ap (λ (q : ℕ). replicate q v ++ ys) k)
-        ∙ runs-block ℕ-discrete skip (past - 1 - first) first (past - 1) v ys (omega (arith, w .0)) h
-        (subst (λ (q : ℕ). Apart q v (runs ℕ-discrete skip q ys)) (sym m) a)
-        ∙ ap (λ (q : ℕ). record { first = first; last = past - 1; value = v } ∷ runs ℕ-discrete skip q ys) m
+        ap (runs ℕ-discrete skip first) (w .2)
+        ∙ runs-first first past v (spread past (drop r ends) (drop r xs)) (w .0) h
+        (λ z e. let f = spread-first past n (drop r ends) (drop r xs) 0 b (w .1) z in t .3 (omega (arith, f .0, length-drop r xs)) (sym g ∙ sym (f .1) ∙ e))
 
   pub runs-done : (ends xs : List ℕ) (i first : ℕ) → length xs ≡ length ends → length xs ≤ i → runs ℕ-discrete skip first (spread first (drop i ends) (drop i xs)) ≡ []
   runs-done ends xs i first l h =
@@ -139,6 +148,15 @@ sets-before (x ∷ xs) ys l i j h = ap (λ (m : List ℕ). sets m (suc i) xs) (s
 pub run-bytes : (skip less : ℕ) (xs : List ℕ) → length (runBytes skip less xs) ≡ 4 + 6 * length (runs ℕ-discrete skip 0 xs)
 unfolding runBytes
 run-bytes skip less xs = omega (arith, many-length (lessCode less) 6 (λ r. refl) (runs ℕ-discrete skip 0 xs))
+
+-- a section, its runs stored before its count
+pub section-stored : (skip less : ℕ) (xs out₀ out₁ out₂ : List ℕ) (to count : ℕ) → count ≡ length (runs ℕ-discrete skip 0 xs)
+    → out₁ ≡ sets out₀ (to + 4) (many (lessCode less) (runs ℕ-discrete skip 0 xs)) → out₂ ≡ sets out₁ to (be32 count) → out₂ ≡ sets out₀ to (runBytes skip less xs)
+unfolding runBytes
+section-stored skip less xs out₀ out₁ out₂ to count n e f =
+    let bs = many (lessCode less) (runs ℕ-discrete skip 0 xs) in
+    f ∙ ap (λ (l : List ℕ). sets l to (be32 count)) e ∙ sets-before (be32 count) bs out₀ to (to + 4) (omega arith)
+    ∙ sym (sets-append (be32 count) bs out₀ to) ∙ ap (λ (k : ℕ). sets out₀ to (be32 k ++ bs)) n
 
 many-same : {A : Type 0} (f g : A → List ℕ) → ((x : A) → f x ≡ g x) → (xs : List A) → many f xs ≡ many g xs
 many-same f g e [] = refl

@@ -1,8 +1,8 @@
 -- A list by stretches of equal elements: where each stretch ends, and its element. Glyphs in a row that have one value are handled at once.
-use Prim.Native.Nat.{ℕ, _-_, _<_, _^_}
+use Prim.Native.Nat.{ℕ, _+_, _-_, _≤_, _<_, _^_}
 use mathlib.Core.Path.{_≡_}
 use mathlib.Core.List.{List, [], _∷_, _++_}
-use lib.ListN.{length, replicate}
+use lib.ListN.{length, getD, take, replicate}
 
 -- the list's elements from index i on: each of vs up to, but not with, the index that stands for it in the list of ends
 unfoldable pub spread : {A : Type 0} → ℕ → List ℕ → List A → List A
@@ -21,3 +21,13 @@ pub record Stretches (ends values : List ℕ) : Type 0 where
   pub few : last < 2 ^ 16
   pub rise : Rise 0 ends last
   pub each : length values ≡ length ends
+
+-- what was given by the first m stretches, up to index g, is given up to index e by the first r: a number was added e - g times. A stretch is added only
+-- where the last one has another number
+pub record Extended (ends₀ nums₀ ends nums : List ℕ) (m g e number r : ℕ) : Type 0 where
+  pub rise : Rise 0 (take r ends) e
+  pub all : spread 0 (take r ends) (take r nums) ≡ spread 0 (take m ends₀) (take m nums₀) ++ replicate (e - g) number
+  pub last : getD nums (r - 1) 0 ≡ number
+  pub least : m ≤ r
+  pub most : r ≤ m + 1
+  pub same : r ≡ m → (0 < m) × (getD nums₀ (m - 1) 0 ≡ number)

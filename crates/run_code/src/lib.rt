@@ -1,14 +1,42 @@
 // Maximal runs of equal neighbours as a section of the sheet (document 01, "The sheet", sections 2, 6 and 8): found
-// in a list of numbers, one value left out, and stored.
+// in a list of numbers, which is given by stretches of equal ones, one value left out, and stored.
 ghost use mathlib.Core.Path.{_≡_};
-ghost use Prim.Native.Nat.{ℕ, _+_, _*_, _≤_, _<_, _^_};
+ghost use Prim.Native.Nat.{ℕ, _+_, _-_, _*_, _≤_, _<_, _^_};
 ghost use native.Mathlib.Decide.{ℕ-discrete};
-ghost use lib.ListN.{length};
+ghost use lib.ListN.{length, getD, take};
 ghost use lib.Seq.{sets};
 ghost use Rattle.lists.specs.Codes.{many};
 ghost use Rattle.lists.specs.Runs.{runs};
 ghost use Rattle.run_code.specs.RunCode.{lessCode, runBytes, RunTo};
-ghost use Rattle.run_code.specs.Spread.{spread, Stretches};
+ghost use Rattle.lists.specs.Tests.{Says};
+ghost use Rattle.run_code.specs.Spread.{spread, Rise, Stretches, Extended};
+
+// Whether the last of the first `m` stretches has this number.
+fn goes_on(nums: &[u16], m: usize, number: u16) -> bool
+    requires { ⌜ m ≤ length (now nums) ⌝ }
+    ensures { λ r. ⌜ Says r ((0 < m) × (getD (now (nums .entry)) (m - 1) 0 ≡ number)) ⌝ }
+{
+    if m == 0 {
+        return false;
+    }
+    nums[m - 1] == number
+}
+
+// What stands up to `end` has this number: the last of the first `m` stretches grows if it has the same, else one is
+// added. Answers how many there are then.
+pub fn extend(ends: &mut [u16], nums: &mut [u16], m: usize, end: u16, number: u16) -> usize
+    requires { ⌜ (m < length (now ends)) × (length (now ends) ≤ length (now nums)) ⌝ }
+    ensures { λ r. ⌜ ((g : ℕ) → Rise 0 (take m (now (ends .entry))) g → g < end
+        → Extended (now (ends .entry)) (now (nums .entry)) (now (ends .exit)) (now (nums .exit)) m g end number r) ⌝ }
+{
+    if goes_on(nums, m, number) {
+        ends[m - 1] = end;
+        return m;
+    }
+    ends[m] = end;
+    nums[m] = number;
+    m + 1
+}
 
 // The end of the stretch of equal elements that begins at `first`.
 fn run_end(xs: &[u16], first: usize) -> usize
@@ -28,7 +56,7 @@ fn run_end(xs: &[u16], first: usize) -> usize
 }
 
 // Stores a run.
-fn put_run(out: &mut [u8], to: usize, first: u16, last: u16, value: u16)
+pub fn put_run(out: &mut [u8], to: usize, first: u16, last: u16, value: u16)
     requires { ⌜ to < 2 ^ 62 ⌝ }
     ensures { λ r. ⌜ now (out .exit) ≡ sets (now (out .entry)) to (lessCode 0 (record { first = first; last = last; value = value })) ⌝ }
 {

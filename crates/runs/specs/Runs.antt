@@ -11,9 +11,9 @@ use Rattle.lookup.specs.Find.{unitCount, valueFrom}
 use Rattle.lookup.specs.Pass.{Serves}
 use Rattle.runs.specs.declared.Run.{Run}
 
--- where the value of a glyph stands, `past` after the first of the unit at `p`: a field of the unit (formats 2 and 6), or its place in the unit's array (format 4)
-unfoldable pub unitPlace : List ℕ → ℕ → ℕ → ℕ → ℕ → ℕ
-unitPlace t format at p past = cond (eqb format 2) (p + 4) (cond (eqb format 4) (at + u16At t (p + 4) + 2 * past) (p + 2))
+-- where the value of the first glyph of the unit at `p` stands: a field of the unit (formats 2 and 6), or the first place of the unit's array (format 4)
+unfoldable pub unitPlace : List ℕ → ℕ → ℕ → ℕ → ℕ
+unitPlace t format at p = cond (eqb format 2) (p + 4) (cond (eqb format 4) (at + u16At t (p + 4)) (p + 2))
 
 -- where the value of a glyph of a run stands
 abbrev pub placeOf : Run → ℕ → ℕ

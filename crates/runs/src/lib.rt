@@ -2,8 +2,10 @@
 // glyph): a run of glyphs at a time, upward, whose values are one field or an array. Glyphs without a value cost nothing.
 ghost use mathlib.Core.Path.{_≡_};
 ghost use mathlib.Core.Bool.{false};
-ghost use Prim.Native.Nat.{_<_, _^_, max};
+ghost use Prim.Native.Nat.{ℕ, _+_, _*_, _≤_, _<_, _^_};
+ghost use lib.ListN.{length};
 ghost use Rattle.fields.specs.Field.{u16At};
+ghost use Rattle.lookup.specs.Units.{unitSize};
 ghost use Rattle.lookup.specs.Pass.{Serves};
 ghost use Rattle.runs.specs.Runs.{unitPlace, Follows};
 use lookup::Cursor;
@@ -17,12 +19,6 @@ pub struct Run {
     pub place: usize,
     pub array: bool,
     pub cursor: Cursor,
-}
-
-fn larger(a: usize, b: usize) -> usize
-    ensures { λ r. ⌜ r ≡ max a b ⌝ }
-{
-    if a < b { b } else { a }
 }
 
 // No glyph is left that has a value.
@@ -43,9 +39,9 @@ fn trimmed_run(table: &[u8], at: usize, cursor: Cursor, glyph: usize) -> Run
     requires { ⌜ (at < 2 ^ 32) × ((glyph < 2 ^ 16) × ((u16At (now table) at ≡ 8) × Serves (now table) at glyph cursor)) ⌝ }
     ensures { λ r. ⌜ Follows (now (table .entry)) at glyph r ⌝ }
 {
-    let first = fields::u16_at(table, at + 2);
-    let count = fields::u16_at(table, at + 4);
-    let from = larger(first, glyph);
+    let first = fields::u16_in(table, at + 2);
+    let count = fields::u16_in(table, at + 4);
+    let from = fields::larger(first, glyph);
     if first + count <= from {
         return no_run(cursor);
     }
@@ -58,38 +54,36 @@ fn trimmed_run(table: &[u8], at: usize, cursor: Cursor, glyph: usize) -> Run
     }
 }
 
-// Where the value of a glyph stands, `past` after the first of the unit at `p`.
-fn unit_place(table: &[u8], format: usize, at: usize, p: usize, past: usize) -> usize
-    requires { ⌜ (at < 2 ^ 32) × ((p < 2 ^ 40) × (past < 2 ^ 16)) ⌝ }
-    ensures { λ r. ⌜ (r ≡ unitPlace (now (table .entry)) format at p past) × (r < 2 ^ 41) ⌝ }
+// Where the value of the first glyph of the unit at `p` stands, which is inside the table.
+fn unit_place(table: &[u8], format: usize, at: usize, p: usize) -> usize
+    requires { ⌜ (at < 2 ^ 32) × ((p < 2 ^ 40) × (p + unitSize format ≤ length (now table))) ⌝ }
+    ensures { λ r. ⌜ (r ≡ unitPlace (now (table .entry)) format at p) × (r < 2 ^ 41) ⌝ }
 {
     if format == 2 {
         return p + 4;
     }
     if format == 4 {
-        return at + fields::u16_at(table, p + 4) + 2 * past;
+        return at + fields::u16_in(table, p + 4);
     }
     p + 2
 }
 
-// Formats 2, 4 and 6: the glyphs of the unit at hand from `glyph` on.
-fn units_run(table: &[u8], format: usize, at: usize, cursor: Cursor, glyph: usize) -> Run
-    requires { ⌜ (at < 2 ^ 32) × ((glyph < 2 ^ 16) × ((format ≡ u16At (now table) at) × Serves (now table) at glyph cursor)) ⌝ }
-    requires { ⌜ (format ≡ 0 → ⊥) × (format ≡ 8 → ⊥) ⌝ }
-    ensures { λ r. ⌜ Follows (now (table .entry)) at glyph r ⌝ }
+// Formats 2, 4 and 6: the glyphs of the next unit.
+fn units_run(table: &[u8], format: usize, at: usize, cursor: Cursor) -> Run
+    requires { ⌜ (at < 2 ^ 32) × ((format ≡ u16At (now table) at) × (cursor .at + 6 * cursor .left < 2 ^ 40)) ⌝ }
+    requires { ⌜ (format ≡ 0 → ⊥) × ((format ≡ 8 → ⊥) × (0 < cursor .left → cursor .at + unitSize format ≤ length (now table))) ⌝ }
+    ensures { λ r. ⌜ ((glyph : ℕ) → glyph < 2 ^ 16 → Serves (now (table .entry)) at glyph cursor → Follows (now (table .entry)) at glyph r) ⌝ }
 {
-    let next = lookup::advance(table, at, format, cursor, glyph);
-    let p = next.at;
-    let left = next.left;
+    let p = cursor.at;
+    let left = cursor.left;
     if left == 0 {
-        return no_run(next);
+        return no_run(cursor);
     }
-    let first = lookup::first_of(table, format, p);
-    let from = larger(first, glyph);
-    let place = unit_place(table, format, at, p, from - first);
+    let from = lookup::first_of(table, format, p);
+    let place = unit_place(table, format, at, p);
     Run {
         from,
-        until: fields::u16_at(table, p) + 1,
+        until: fields::u16_in(table, p) + 1,
         place,
         array: format == 4,
         cursor: Cursor {
@@ -116,5 +110,5 @@ pub fn next_run(table: &[u8], format: usize, at: usize, cursor: Cursor, glyph: u
     if format == 8 {
         return trimmed_run(table, at, cursor, glyph);
     }
-    units_run(table, format, at, cursor, glyph)
+    units_run(table, format, at, cursor)
 }

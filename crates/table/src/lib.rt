@@ -4,6 +4,9 @@ ghost use mathlib.Core.Path.{_≡_};
 ghost use Prim.Native.Nat.{ℕ, _+_, _≤_, _<_, _^_};
 ghost use lib.ListN.{length};
 ghost use Rattle.answers.specs.Says.{checkedBy};
+ghost use Rattle.fields.specs.Field.{u16At};
+ghost use Rattle.fields.specs.Faults.{_then_};
+ghost use Rattle.values.specs.Values.{Judged};
 ghost use Rattle.table.specs.Table.{headerFault, offsetsFault, machinePart, actionPart, directionFault, tableFault};
 use answers::Checked;
 use fields::Fault;
@@ -22,14 +25,15 @@ fn machine_part(table: &[u8], glyphs: usize, offset: usize) -> Fault
 }
 
 // The action lookup at an offset, 0 for none, and the lists that its values lead to.
-fn action_part(table: &[u8], glyphs: usize, offset: usize) -> Fault
+fn action_part(table: &[u8], glyphs: usize, offset: usize, judged: &mut [u8]) -> Fault
     requires { ⌜ (offset < 2 ^ 16) × (glyphs < 2 ^ 16) ⌝ }
-    ensures { λ r. ⌜ r ≡ actionPart (now (table .entry)) glyphs offset ⌝ }
+    requires { ⌜ Judged (now table) glyphs (now judged) ⌝ }
+    ensures { λ r. ⌜ (r ≡ actionPart (now (table .entry)) glyphs offset) × Judged (now (table .entry)) glyphs (now (judged .exit)) ⌝ }
 {
     if offset == 0 {
         return Fault::Clear;
     }
-    values::values_fault(table, glyphs, Kind::Lists, offset, offset)
+    values::values_fault(table, glyphs, Kind::Lists, offset, offset, judged)
 }
 
 // The three offsets of the direction at `at`.
@@ -43,10 +47,11 @@ fn offsets_fault(table: &[u8], at: usize) -> Fault
     fields::then(machine_in, fields::then(widths_in, actions_in))
 }
 
-// The first fault of the direction at `at`, 0 for none.
-fn direction_fault(table: &[u8], glyphs: usize, at: usize) -> Fault
+// The first fault of the direction at `at`, 0 for none. What was found without fault is marked in `judged`.
+fn direction_fault(table: &[u8], glyphs: usize, at: usize, judged: &mut [u8]) -> Fault
     requires { ⌜ (at < 2 ^ 16) × (glyphs < 2 ^ 16) ⌝ }
-    ensures { λ r. ⌜ r ≡ directionFault (now (table .entry)) glyphs at ⌝ }
+    requires { ⌜ Judged (now table) glyphs (now judged) ⌝ }
+    ensures { λ r. ⌜ (r ≡ directionFault (now (table .entry)) glyphs at) × Judged (now (table .entry)) glyphs (now (judged .exit)) ⌝ }
 {
     if at == 0 {
         return Fault::Clear;
@@ -60,11 +65,11 @@ fn direction_fault(table: &[u8], glyphs: usize, at: usize) -> Fault
         return machine;
     }
     let base = fields::u16_at(table, at + 2);
-    let widths = values::values_fault(table, glyphs, Kind::Clusters, at + 6, base);
+    let widths = values::values_fault(table, glyphs, Kind::Clusters, at + 6, base, judged);
     if let Fault::Bad { refusal: _, at: _ } = widths {
         return widths;
     }
-    action_part(table, glyphs, fields::u16_at(table, at + 4))
+    action_part(table, glyphs, fields::u16_at(table, at + 4), judged)
 }
 
 // Length, glyph count, version and format.
@@ -82,6 +87,25 @@ fn header_fault(table: &[u8], count: u32) -> Fault
     fields::then(long, fields::then(short, second))
 }
 
+// The first fault of the two directions, horizontal first. What both lead to is judged once, and so is a direction that is
+// both.
+fn directions_fault(table: &[u8], glyphs: usize, judged: &mut [u8]) -> Fault
+    requires { ⌜ glyphs < 2 ^ 16 ⌝ }
+    requires { ⌜ Judged (now table) glyphs (now judged) ⌝ }
+    ensures { λ r. ⌜ r ≡ (directionFault (now (table .entry)) glyphs (u16At (now (table .entry)) 6) then directionFault (now (table .entry)) glyphs (u16At (now (table .entry)) 8)) ⌝ }
+{
+    let first = fields::u16_at(table, 6);
+    let horizontal = direction_fault(table, glyphs, first, judged);
+    if let Fault::Bad { refusal: _, at: _ } = horizontal {
+        return horizontal;
+    }
+    let second = fields::u16_at(table, 8);
+    if second == first {
+        return Fault::Clear;
+    }
+    direction_fault(table, glyphs, second, judged)
+}
+
 // The first fault of a table read with a glyph count.
 pub fn table_fault(table: &[u8], count: u32) -> Fault
     ensures { λ r. ⌜ r ≡ tableFault (now (table .entry)) count ⌝ }
@@ -90,12 +114,18 @@ pub fn table_fault(table: &[u8], count: u32) -> Fault
     if let Fault::Bad { refusal: _, at: _ } = header {
         return header;
     }
+    // A mark for each position of the table, which has at most 32,768 bytes.
     let glyphs = count as usize;
-    let horizontal = direction_fault(table, glyphs, fields::u16_at(table, 6));
-    if let Fault::Bad { refusal: _, at: _ } = horizontal {
-        return horizontal;
+    if table.len() <= 512 {
+        let mut judged = [0u8; 512];
+        return directions_fault(table, glyphs, &mut judged);
     }
-    direction_fault(table, glyphs, fields::u16_at(table, 8))
+    if table.len() <= 4096 {
+        let mut judged = [0u8; 4096];
+        return directions_fault(table, glyphs, &mut judged);
+    }
+    let mut judged = [0u8; 32768];
+    directions_fault(table, glyphs, &mut judged)
 }
 
 // Whether a table is accepted with a glyph count, or the refusal of its first fault.

@@ -3,6 +3,7 @@ use Prim.Native.Nat.{ℕ, zero, suc, _+_, _-_, _*_, _/_, _%_, _≤_, _<_, _^_, m
 use mathlib.Core.Path.{_≡_, refl, sym, ap, ap₂, subst, _∙_}
 use mathlib.Core.List.{List}
 use mathlib.Core.Bool.{Bool, true, false, cond}
+use mathlib.Core.Logic.{_⊎_, inl, inr, ⊎-elim}
 use native.Mathlib.Decide.{ℕ-discrete}
 use native.Mathlib.Omega.{arith}
 use lib.Dec.{ltb}
@@ -23,10 +24,13 @@ use Rattle.runs.specs.Runs.{placeOf, Follows}
 use Rattle.lookup.specs.Find.{valueOf}
 use Rattle.actions.specs.declared.Spot.{Spot}
 use Rattle.actions.specs.declared.Spot.the-variants.{At, Nowhere}
+use Rattle.actions.specs.Faults.{actionFault}
+use Rattle.actions.specs.Marks.{Passing}
+use Rattle.actions.proofs.Marks.{set-here, no-mark, none-passed}
 use Rattle.values.specs.declared.Split.{Split}
 use Rattle.values.specs.declared.Kind.{Kind}
-use Rattle.values.specs.declared.Kind.the-variants.{Lists}
-use Rattle.values.specs.Values.{spotOf, itemFault, spotFault, placeFault, blockPlace, blockFault, glyphFault, Marked, Told, Splits}
+use Rattle.values.specs.declared.Kind.the-variants.{Clusters, Lists}
+use Rattle.values.specs.Values.{spotOf, itemFault, spotFault, placeFault, blockPlace, blockFault, glyphFault, Marked, Tells, besides, Judged, Told, Splits}
 
 -- what was found without fault may be marked
 pub mark : {one : ℕ → Fault} {marks : List ℕ} (at : ℕ) → Marked one marks → one at ≡ Clear → Marked one (set marks at 1)
@@ -43,9 +47,9 @@ unfolding placeFault
 place-of t glyphs kind base p f s = f ∙ ap (spotFault t glyphs kind) s
 
 -- what a value leads to has no fault where that is marked, and where it leads nowhere
-pub told-at : (t : List ℕ) (kind : Kind) (base p : ℕ) (judged : List ℕ) (at : ℕ) → At at ≡ spotOf kind base (Value (u16At t p)) → getD judged at 0 ≡ 1
+pub told-at : (t : List ℕ) (kind : Kind) (base p : ℕ) (judged : List ℕ) (at : ℕ) → At at ≡ spotOf kind base (Value (u16At t p)) → Tells kind (getD judged at 0)
     → Told t kind base judged p
-told-at t kind base p judged at s e = record { clear = λ glyphs m. sym (place-of t glyphs kind base p (sym (m .clear at e)) s) }
+told-at t kind base p judged at s e = record { clear = λ glyphs m. sym (place-of t glyphs kind base p (sym (m .clear kind at e)) s) }
 
 pub told-nowhere : (t : List ℕ) (kind : Kind) (base p : ℕ) (judged : List ℕ) → Nowhere ≡ spotOf kind base (Value (u16At t p)) → Told t kind base judged p
 told-nowhere t kind base p judged s = record { clear = λ glyphs m. sym (place-of t glyphs kind base p refl s) }
@@ -69,12 +73,62 @@ block-of t glyphs kind base block place f e = f ∙ ap (λ (p : ℕ). each (plac
 
 -- nothing is marked at first
 pub none-marked : (one : ℕ → Fault) (n : ℕ) → Marked one (replicate n 0)
-none-marked one n = record { clear = λ i e. let z : _≡_ {A = ℕ} 0 1 = sym (getD-replicate n i) ∙ e in absurd (omega arith) }
+none-marked one n = record { clear = λ i e. absurd (omega (arith, no-mark n i)) }
+
+pub none-judged : (t : List ℕ) (glyphs n : ℕ) → Judged t glyphs (replicate n 0)
+none-judged t glyphs n = record { clear = λ kind i e. absurd (none kind i e); passed = none-passed t glyphs n }
   where
-    getD-replicate : (m i : ℕ) → getD (replicate {A = ℕ} m 0) i 0 ≡ 0
-    getD-replicate zero i = refl
-    getD-replicate (suc m) zero = refl
-    getD-replicate (suc m) (suc i) = getD-replicate m i
+    none : (kind : Kind) (i : ℕ) → Tells kind (getD (replicate {A = ℕ} n 0) i 0) → ⊥
+    none Clusters i e = omega (arith, no-mark n i)
+    none Lists i e = omega (arith, no-mark n i)
+
+-- judging actions keeps what is known of clusters and lists
+pub actions-judged : {t : List ℕ} {glyphs : ℕ} {before after : List ℕ} → Judged t glyphs before → Passing t glyphs before after → Judged t glyphs after
+actions-judged {t} {glyphs} {before} {after} j p = record { clear = clear; passed = p .passed }
+  where
+    clear : (kind : Kind) (i : ℕ) → Tells kind (getD after i 0) → itemFault t glyphs kind i ≡ Clear
+    clear Clusters i e = j .clear Clusters i (omega (arith, p .clusters i))
+    clear Lists i e = j .clear Lists i (omega (arith, p .lists i))
+
+-- what a mark tells besides, it tells of one kind
+besides-told : (kind k : Kind) (mark : ℕ) → Tells k (besides kind mark) → (k ≡ kind) ⊎ Tells k mark
+besides-told Clusters Clusters mark e = inl refl
+besides-told Clusters Lists mark e = inr (omega arith)
+besides-told Lists Clusters mark e = inr (omega arith)
+besides-told Lists Lists mark e = inl refl
+
+besides-passed : (kind : Kind) (mark : ℕ) → 2 ≤ besides kind mark % 4 → 2 ≤ mark % 4
+besides-passed Clusters mark e = omega arith
+besides-passed Lists mark e = omega arith
+
+-- what was found without fault may be marked
+pub item-judged : {t : List ℕ} {glyphs : ℕ} {judged : List ℕ} (kind : Kind) (at byte : ℕ) → Judged t glyphs judged → itemFault t glyphs kind at ≡ Clear
+    → byte ≡ besides kind (getD judged at 0) → Judged t glyphs (set judged at byte)
+item-judged {t} {glyphs} {judged} kind at byte j found e =
+    record { clear = λ k i o. clear k i o (ℕ-discrete i at); passed = record { clear = λ i o. passed i o (ℕ-discrete i at) } }
+  where
+    here : (k : Kind) → Tells k (getD (set judged at byte) at 0) → itemFault t glyphs k at ≡ Clear
+    here k o =
+        ⊎-elim
+        (λ s.
+        ⊎-elim
+        (λ q. ap (λ (x : Kind). itemFault t glyphs x at) q ∙ found)
+        (λ w. j .clear k at w)
+        (besides-told kind k (getD judged at 0) (subst (Tells k) (s ∙ e) o)))
+        (λ s. j .clear k at (subst (Tells k) s o))
+        (set-here judged at byte)
+
+    clear : (k : Kind) (i : ℕ) → Tells k (getD (set judged at byte) i 0) → Dec (i ≡ at) → itemFault t glyphs k i ≡ Clear
+    clear k i o (yes q) = ap (itemFault t glyphs k) q ∙ here k (rw q at o)
+    clear k i o (no n) = j .clear k i (subst (Tells k) (getD-set-other judged at i byte 0 n) o)
+
+    passed-here : 2 ≤ getD (set judged at byte) at 0 % 4 → 2 ≤ getD judged at 0 % 4
+    passed-here o =
+        ⊎-elim (λ s. besides-passed kind (getD judged at 0) (subst (λ (m : ℕ). 2 ≤ m % 4) (s ∙ e) o)) (λ s. omega arith) (set-here judged at byte)
+
+    passed : (i : ℕ) → 2 ≤ getD (set judged at byte) i 0 % 4 → Dec (i ≡ at) → actionFault t glyphs i ≡ Clear
+    passed i o (yes q) = ap (actionFault t glyphs) q ∙ j .passed .clear at (passed-here (rw q at o))
+    passed i o (no n) = j .passed .clear i (omega (arith, getD-set-other judged at i byte 0 n))
 
 -- values that follow each other are judged as two stretches
 each-both : (one : ℕ → Fault) (n m p : ℕ) → each one (λ q. q + 2) (n + m) p ≡ (each one (λ q. q + 2) n p then each one (λ q. q + 2) m (p + 2 * n))
@@ -104,7 +158,7 @@ each-clear one (suc n) p clear = then-go _ (first (clear 0 (omega arith))) ∙ e
     next i e = let q : p + 2 + 2 * i ≡ p + 2 * suc i = omega arith in ap one q ∙ e
 
 -- values of which the marks tell are passed: `rest` are left
-pub each-told : (t : List ℕ) (glyphs : ℕ) (kind : Kind) (base : ℕ) (judged : List ℕ) (left p rest : ℕ) → Marked (itemFault t glyphs kind) judged
+pub each-told : (t : List ℕ) (glyphs : ℕ) (kind : Kind) (base : ℕ) (judged : List ℕ) (left p rest : ℕ) → Judged t glyphs judged
     → (rest ≤ left) × ((i : ℕ) → i < left - rest → Told t kind base judged (p + 2 * i))
     → each (placeFault t glyphs kind base) (λ q. q + 2) left p ≡ each (placeFault t glyphs kind base) (λ q. q + 2) rest (p + 2 * (left - rest))
 each-told t glyphs kind base judged left p rest m told =

@@ -1,6 +1,6 @@
 -- What the values of a direction's two lookups lead to (document 01, "The table"): a width value to a cluster, an action value to an action list; the first
 -- fault of the lookup and of all that its values lead to, glyph by glyph; and what each glyph has.
-use Prim.Native.Nat.{ℕ, _+_, _*_, _/_, _%_, _<_, _^_}
+use Prim.Native.Nat.{ℕ, _+_, _*_, _/_, _%_, _≤_, _<_, _^_}
 use mathlib.Core.Bool.{cond}
 use mathlib.Core.Path.{_≡_}
 use mathlib.Core.List.{List, []}
@@ -23,6 +23,7 @@ use Rattle.actions.specs.declared.Spot.{Spot}
 use Rattle.actions.specs.declared.Spot.the-variants.{At, Nowhere}
 use Rattle.actions.specs.Faults.{listFault}
 use Rattle.actions.specs.Actions.{listAt}
+use Rattle.actions.specs.Marks.{Passed}
 use Rattle.values.specs.declared.Split.{Split}
 use Rattle.values.specs.declared.Kind.{Kind}
 use Rattle.values.specs.declared.Kind.the-variants.{Clusters, Lists}
@@ -82,9 +83,24 @@ listHere t Nowhere = []
 pub record Marked (one : ℕ → Fault) (marks : List ℕ) : Type 0 where
   pub clear : (i : ℕ) → getD marks i 0 ≡ 1 → one i ≡ Clear
 
+-- what a mark tells of a cluster, and of a list
+abbrev pub Tells : Kind → ℕ → Type 0
+Tells Clusters mark = 4 ≤ mark
+Tells Lists mark = mark % 2 ≡ 1
+
+-- a mark that tells it besides what it told
+abbrev pub besides : Kind → ℕ → ℕ
+besides Clusters mark = mark % 4 + 4
+besides Lists mark = mark / 2 * 2 + 1
+
+-- the marks of clusters, lists and actions, one for each position of the table, are true
+pub record Judged (t : List ℕ) (glyphs : ℕ) (judged : List ℕ) : Type 0 where
+  pub clear : (kind : Kind) (i : ℕ) → Tells kind (getD judged i 0) → itemFault t glyphs kind i ≡ Clear
+  pub passed : Passed t glyphs judged
+
 -- the marks in `judged` tell that what the value at `place` leads to has no fault
 pub record Told (t : List ℕ) (kind : Kind) (base : ℕ) (judged : List ℕ) (place : ℕ) : Type 0 where
-  pub clear : (glyphs : ℕ) → Marked (itemFault t glyphs kind) judged → placeFault t glyphs kind base place ≡ Clear
+  pub clear : (glyphs : ℕ) → Judged t glyphs judged → placeFault t glyphs kind base place ≡ Clear
 
 -- a glyph's width records and a glyph's actions
 unfoldable pub clusterOf : List ℕ → ℕ → ℕ → ℕ → ℕ → List Pair

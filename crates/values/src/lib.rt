@@ -9,7 +9,7 @@ ghost use Rattle.fields.specs.Walk.{each};
 ghost use Rattle.lookup.specs.declared.Found.the-variants.{Value};
 ghost use Rattle.lookup.specs.Lookup.{lookupFault};
 ghost use Rattle.actions.specs.Actions.{Below};
-ghost use Rattle.values.specs.Values.{spotOf, itemFault, placeFault, blockPlace, blockFault, glyphFault, valuesFault, Marked, Told, Splits};
+ghost use Rattle.values.specs.Values.{spotOf, itemFault, placeFault, blockPlace, blockFault, glyphFault, valuesFault, Marked, Tells, besides, Judged, Told, Splits};
 use actions::Spot;
 use fields::Fault;
 use lookup::Found;
@@ -57,25 +57,49 @@ pub fn spot_of(kind: Kind, base: usize, found: Found) -> Spot
 }
 
 // The first fault of the cluster or the list at `at`.
-fn item_fault(table: &[u8], glyphs: usize, kind: Kind, at: usize) -> Fault
-    ensures { λ r. ⌜ r ≡ itemFault (now (table .entry)) glyphs kind at ⌝ }
+fn item_fault(table: &[u8], glyphs: usize, kind: Kind, at: usize, judged: &mut [u8]) -> Fault
+    requires { ⌜ Judged (now table) glyphs (now judged) ⌝ }
+    ensures { λ r. ⌜ (r ≡ itemFault (now (table .entry)) glyphs kind at) × Judged (now (table .entry)) glyphs (now (judged .exit)) ⌝ }
 {
     match kind {
         Kind::Clusters => cluster::cluster_fault(table, at),
-        Kind::Lists => actions::list_fault(table, glyphs, at),
+        Kind::Lists => actions::list_fault(table, glyphs, at, judged),
     }
 }
 
-// The same; a position that is found without fault is marked in `judged`, so that it is judged once.
-fn judge(table: &[u8], glyphs: usize, kind: Kind, at: usize, judged: &mut [u8]) -> Fault
-    requires { ⌜ Marked (itemFault (now table) glyphs kind) (now judged) ⌝ }
-    ensures { λ r. ⌜ (r ≡ itemFault (now (table .entry)) glyphs kind at) × Marked (itemFault (now (table .entry)) glyphs kind) (now (judged .exit)) ⌝ }
+// Whether a mark tells that the cluster or the list there has no fault.
+fn tells(kind: Kind, mark: usize) -> bool
+    ensures { λ r. ⌜ (r ≡ true → Tells kind mark) ⌝ }
 {
-    let fault = item_fault(table, glyphs, kind, at);
+    match kind {
+        Kind::Clusters => 4 <= mark,
+        Kind::Lists => mark % 2 == 1,
+    }
+}
+
+// A mark that tells it besides what it told.
+fn mark_of(kind: Kind, mark: usize) -> u8
+    requires { ⌜ mark < 2 ^ 8 ⌝ }
+    ensures { λ r. ⌜ r ≡ besides kind mark ⌝ }
+{
+    match kind {
+        Kind::Clusters => (mark % 4 + 4) as u8,
+        Kind::Lists => (mark / 2 * 2 + 1) as u8,
+    }
+}
+
+// The first fault of the cluster or the list at `at`; where none is found, that is marked in `judged`, so that it is judged
+// once.
+fn judge(table: &[u8], glyphs: usize, kind: Kind, at: usize, judged: &mut [u8]) -> Fault
+    requires { ⌜ Judged (now table) glyphs (now judged) ⌝ }
+    ensures { λ r. ⌜ (r ≡ itemFault (now (table .entry)) glyphs kind at) × Judged (now (table .entry)) glyphs (now (judged .exit)) ⌝ }
+{
+    let fault = item_fault(table, glyphs, kind, at, judged);
     if let Fault::Bad { refusal: _, at: _ } = fault {
         return fault;
     }
-    fields::put_u8(judged, at, 1);
+    let mark = mark_of(kind, fields::u8_at(judged, at));
+    fields::put_u8(judged, at, mark);
     Fault::Clear
 }
 
@@ -101,8 +125,8 @@ fn judge_value(
     judged: &mut [u8],
 ) -> Fault
     requires { ⌜ base < 2 ^ 16 ⌝ }
-    requires { ⌜ Marked (itemFault (now table) glyphs kind) (now judged) ⌝ }
-    ensures { λ r. ⌜ (r ≡ placeFault (now (table .entry)) glyphs kind base place) × Marked (itemFault (now (table .entry)) glyphs kind) (now (judged .exit)) ⌝ }
+    requires { ⌜ Judged (now table) glyphs (now judged) ⌝ }
+    ensures { λ r. ⌜ (r ≡ placeFault (now (table .entry)) glyphs kind base place) × Judged (now (table .entry)) glyphs (now (judged .exit)) ⌝ }
 {
     match spot_at(table, kind, base, place) {
         Spot::At(at) => judge(table, glyphs, kind, at, judged),
@@ -116,7 +140,7 @@ fn is_judged(table: &[u8], kind: Kind, base: usize, place: usize, judged: &[u8])
     ensures { λ r. ⌜ (r ≡ true → Told (now (table .entry)) kind base (now (judged .entry)) place) ⌝ }
 {
     match spot_at(table, kind, base, place) {
-        Spot::At(at) => fields::u8_at(judged, at) == 1,
+        Spot::At(at) => tells(kind, fields::u8_at(judged, at)),
         Spot::Nowhere => true,
     }
 }
@@ -131,8 +155,8 @@ fn value_fault(
     judged: &mut [u8],
 ) -> Fault
     requires { ⌜ base < 2 ^ 16 ⌝ }
-    requires { ⌜ Marked (itemFault (now table) glyphs kind) (now judged) ⌝ }
-    ensures { λ r. ⌜ (r ≡ placeFault (now (table .entry)) glyphs kind base place) × Marked (itemFault (now (table .entry)) glyphs kind) (now (judged .exit)) ⌝ }
+    requires { ⌜ Judged (now table) glyphs (now judged) ⌝ }
+    ensures { λ r. ⌜ (r ≡ placeFault (now (table .entry)) glyphs kind base place) × Judged (now (table .entry)) glyphs (now (judged .exit)) ⌝ }
 {
     if is_judged(table, kind, base, place, judged) {
         return Fault::Clear;
@@ -175,8 +199,8 @@ fn stretch_fault(
     judged: &mut [u8],
 ) -> Fault
     requires { ⌜ (base < 2 ^ 16) × (place + 2 * count < 2 ^ 50) ⌝ }
-    requires { ⌜ Marked (itemFault (now table) glyphs kind) (now judged) ⌝ }
-    ensures { λ r. ⌜ (r ≡ each (placeFault (now (table .entry)) glyphs kind base) (λ p. p + 2) count place) × Marked (itemFault (now (table .entry)) glyphs kind) (now (judged .exit)) ⌝ }
+    requires { ⌜ Judged (now table) glyphs (now judged) ⌝ }
+    ensures { λ r. ⌜ (r ≡ each (placeFault (now (table .entry)) glyphs kind base) (λ p. p + 2) count place) × Judged (now (table .entry)) glyphs (now (judged .exit)) ⌝ }
 {
     let mut p = place;
     let mut left = count;
@@ -206,7 +230,7 @@ fn block_place(block: usize) -> usize
 }
 
 // The block that stands at `place`.
-fn block_at(place: usize) -> usize
+pub fn block_at(place: usize) -> usize
     requires { ⌜ place % 32 < 2 ⌝ }
     ensures { λ r. ⌜ (blockPlace r ≡ place) × (r ≤ place) ⌝ }
 {
@@ -214,7 +238,7 @@ fn block_at(place: usize) -> usize
 }
 
 // How many values, the first at `place`, stand before the first block.
-fn front_of(place: usize) -> usize
+pub fn front_of(place: usize) -> usize
     requires { ⌜ place < 2 ^ 42 ⌝ }
     ensures { λ r. ⌜ (r < 16) × ((place + 2 * r) % 32 < 2) ⌝ }
 {
@@ -233,8 +257,8 @@ fn block_fault(
     blocks: &mut [u8],
 ) -> Fault
     requires { ⌜ (base < 2 ^ 16) × (block < 2 ^ 42) ⌝ }
-    requires { ⌜ Marked (itemFault (now table) glyphs kind) (now judged) × Marked (blockFault (now table) glyphs kind base) (now blocks) ⌝ }
-    ensures { λ r. ⌜ (r ≡ blockFault (now (table .entry)) glyphs kind base block) × (Marked (itemFault (now (table .entry)) glyphs kind) (now (judged .exit)) × Marked (blockFault (now (table .entry)) glyphs kind base) (now (blocks .exit))) ⌝ }
+    requires { ⌜ Judged (now table) glyphs (now judged) × Marked (blockFault (now table) glyphs kind base) (now blocks) ⌝ }
+    ensures { λ r. ⌜ (r ≡ blockFault (now (table .entry)) glyphs kind base block) × (Judged (now (table .entry)) glyphs (now (judged .exit)) × Marked (blockFault (now (table .entry)) glyphs kind base) (now (blocks .exit))) ⌝ }
 {
     if fields::u8_at(blocks, block) == 1 {
         return Fault::Clear;
@@ -259,8 +283,8 @@ fn blocks_fault(
     blocks: &mut [u8],
 ) -> Fault
     requires { ⌜ (base < 2 ^ 16) × (first + 2 * count < 2 ^ 42) ⌝ }
-    requires { ⌜ Marked (itemFault (now table) glyphs kind) (now judged) × Marked (blockFault (now table) glyphs kind base) (now blocks) ⌝ }
-    ensures { λ r. ⌜ (r ≡ each (blockFault (now (table .entry)) glyphs kind base) (λ b. b + 2) count first) × (Marked (itemFault (now (table .entry)) glyphs kind) (now (judged .exit)) × Marked (blockFault (now (table .entry)) glyphs kind base) (now (blocks .exit))) ⌝ }
+    requires { ⌜ Judged (now table) glyphs (now judged) × Marked (blockFault (now table) glyphs kind base) (now blocks) ⌝ }
+    ensures { λ r. ⌜ (r ≡ each (blockFault (now (table .entry)) glyphs kind base) (λ b. b + 2) count first) × (Judged (now (table .entry)) glyphs (now (judged .exit)) × Marked (blockFault (now (table .entry)) glyphs kind base) (now (blocks .exit))) ⌝ }
 {
     let mut block = first;
     let mut left = count;
@@ -304,8 +328,8 @@ fn places_fault(
     blocks: &mut [u8],
 ) -> Fault
     requires { ⌜ (base < 2 ^ 16) × (place + 2 * count < 2 ^ 42) ⌝ }
-    requires { ⌜ Marked (itemFault (now table) glyphs kind) (now judged) × Marked (blockFault (now table) glyphs kind base) (now blocks) ⌝ }
-    ensures { λ r. ⌜ (r ≡ each (placeFault (now (table .entry)) glyphs kind base) (λ p. p + 2) count place) × (Marked (itemFault (now (table .entry)) glyphs kind) (now (judged .exit)) × Marked (blockFault (now (table .entry)) glyphs kind base) (now (blocks .exit))) ⌝ }
+    requires { ⌜ Judged (now table) glyphs (now judged) × Marked (blockFault (now table) glyphs kind base) (now blocks) ⌝ }
+    ensures { λ r. ⌜ (r ≡ each (placeFault (now (table .entry)) glyphs kind base) (λ p. p + 2) count place) × (Judged (now (table .entry)) glyphs (now (judged .exit)) × Marked (blockFault (now (table .entry)) glyphs kind base) (now (blocks .exit))) ⌝ }
 {
     if count < 32 {
         return stretch_fault(table, glyphs, kind, base, place, count, judged);
@@ -346,8 +370,8 @@ fn run_fault(
     blocks: &mut [u8],
 ) -> Fault
     requires { ⌜ (base < 2 ^ 16) × ((glyphs < 2 ^ 16) × ((run .from < run .until) × ((run .from < glyphs) × (run .place < 2 ^ 41)))) ⌝ }
-    requires { ⌜ Marked (itemFault (now table) glyphs kind) (now judged) × Marked (blockFault (now table) glyphs kind base) (now blocks) ⌝ }
-    ensures { λ r. ⌜ (r ≡ each (placeFault (now (table .entry)) glyphs kind base) (λ p. p + 2) (cond (run .array) (min (run .until) glyphs - run .from) 1) (run .place)) × (Marked (itemFault (now (table .entry)) glyphs kind) (now (judged .exit)) × Marked (blockFault (now (table .entry)) glyphs kind base) (now (blocks .exit))) ⌝ }
+    requires { ⌜ Judged (now table) glyphs (now judged) × Marked (blockFault (now table) glyphs kind base) (now blocks) ⌝ }
+    ensures { λ r. ⌜ (r ≡ each (placeFault (now (table .entry)) glyphs kind base) (λ p. p + 2) (cond (run .array) (min (run .until) glyphs - run .from) 1) (run .place)) × (Judged (now (table .entry)) glyphs (now (judged .exit)) × Marked (blockFault (now (table .entry)) glyphs kind base) (now (blocks .exit))) ⌝ }
 {
     if !run.array {
         return value_fault(table, glyphs, kind, base, run.place, judged);
@@ -370,8 +394,8 @@ fn glyphs_fault(
     blocks: &mut [u8],
 ) -> Fault
     requires { ⌜ (at < 2 ^ 32) × ((base < 2 ^ 16) × ((glyphs < 2 ^ 16) × (lookupFault (now table) glyphs at ≡ Clear))) ⌝ }
-    requires { ⌜ Marked (itemFault (now table) glyphs kind) (now judged) × Marked (blockFault (now table) glyphs kind base) (now blocks) ⌝ }
-    ensures { λ r. ⌜ r ≡ each (glyphFault (now (table .entry)) glyphs kind at base) (λ g. g + 1) glyphs 0 ⌝ }
+    requires { ⌜ Judged (now table) glyphs (now judged) × Marked (blockFault (now table) glyphs kind base) (now blocks) ⌝ }
+    ensures { λ r. ⌜ (r ≡ each (glyphFault (now (table .entry)) glyphs kind at base) (λ g. g + 1) glyphs 0) × Judged (now (table .entry)) glyphs (now (judged .exit)) ⌝ }
 {
     let format = fields::u16_at(table, at);
     let mut cursor = lookup::begin(table, at);
@@ -391,28 +415,34 @@ fn glyphs_fault(
     Fault::Clear
 }
 
-// The first fault of the lookup at `at`, and of what its values, offsets from `base`, lead to.
-pub fn values_fault(table: &[u8], glyphs: usize, kind: Kind, at: usize, base: usize) -> Fault
+// The first fault of the lookup at `at`, and of what its values, offsets from `base`, lead to. `judged` is lent, so that
+// what two lookups lead to is judged once: it has a mark for each position of the table, past which nothing without fault
+// stands.
+pub fn values_fault(
+    table: &[u8],
+    glyphs: usize,
+    kind: Kind,
+    at: usize,
+    base: usize,
+    judged: &mut [u8],
+) -> Fault
     requires { ⌜ (at < 2 ^ 32) × ((base < 2 ^ 16) × (glyphs < 2 ^ 16)) ⌝ }
-    ensures { λ r. ⌜ r ≡ valuesFault (now (table .entry)) glyphs kind at base ⌝ }
+    requires { ⌜ Judged (now table) glyphs (now judged) ⌝ }
+    ensures { λ r. ⌜ (r ≡ valuesFault (now (table .entry)) glyphs kind at base) × Judged (now (table .entry)) glyphs (now (judged .exit)) ⌝ }
 {
     let fault = lookup::lookup_fault(table, glyphs, at);
     if let Fault::Bad { refusal: _, at: _ } = fault {
         return fault;
     }
-    // A mark for each position of the table, which has at most 32,768 bytes: no cluster or list without fault stands past
-    // it. And a mark for each block: two of them begin in 32 bytes.
+    // A mark for each block of the table, which has at most 32,768 bytes: two blocks begin in 32 bytes.
     if table.len() <= 1024 {
-        let mut judged = [0u8; 1024];
         let mut blocks = [0u8; 64];
-        return glyphs_fault(table, glyphs, kind, at, base, &mut judged, &mut blocks);
+        return glyphs_fault(table, glyphs, kind, at, base, judged, &mut blocks);
     }
     if table.len() <= 4096 {
-        let mut judged = [0u8; 4096];
         let mut blocks = [0u8; 256];
-        return glyphs_fault(table, glyphs, kind, at, base, &mut judged, &mut blocks);
+        return glyphs_fault(table, glyphs, kind, at, base, judged, &mut blocks);
     }
-    let mut judged = [0u8; 32768];
     let mut blocks = [0u8; 2048];
-    glyphs_fault(table, glyphs, kind, at, base, &mut judged, &mut blocks)
+    glyphs_fault(table, glyphs, kind, at, base, judged, &mut blocks)
 }

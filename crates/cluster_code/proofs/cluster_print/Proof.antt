@@ -10,7 +10,6 @@ use Rattle.cluster_code.proofs.cluster_print.Tie as tie
 use Rattle.cluster_code.proofs.cluster_print.Reads as reads
 use Rattle.cluster_code.proofs.cluster_print.Lts as lts
 use Rattle.cluster_code.proofs.pair_print.Reads as pair-print-reads
-use Rattle.cluster_code.proofs.printed_pairs.Reads as printed-pairs-reads
 use Rattle.fields.proofs.u32_at.Reads as u32-at-reads
 
 abbrev Inv-loop : tie.InvT-loop
@@ -25,8 +24,8 @@ u32-at-requires : tie.Need-u32-at-requires Inv-loop μ-loop
 u32-at-requires c κs = search needs
 
 -- src/lib.rt:149:9
-printed-pairs-requires : tie.Need-printed-pairs-requires Inv-loop μ-loop
-printed-pairs-requires c κs = search needs
+lower-requires : tie.Need-lower-requires Inv-loop μ-loop
+lower-requires c κs = search needs
 
 -- src/lib.rt:150:21
 add-first : tie.Need-add-first Inv-loop μ-loop
@@ -37,7 +36,7 @@ loop-holds : tie.Need-loop-holds Inv-loop μ-loop
 loop-holds c =
     let a = c .before .before .before .args in
     let n = c .before .u32-at in
-    (omega (arith, c .printed-pairs .ensures), omega (arith, n .ensures .1), print-all (a .table .now) (a .at) (n .result) (c .printed-pairs .result) (n .ensures .0) (c .printed-pairs .ensures))
+    (omega (arith, c .lower .ensures), omega (arith, n .ensures .1), print-all (a .table .now) (a .at) (n .result) (c .lower .result) (n .ensures .0) (c .lower .ensures))
 
 -- src/lib.rt:153:18
 mul-print : tie.Need-mul-print Inv-loop μ-loop
@@ -82,7 +81,7 @@ cluster-print-spec =
     Inv-loop
     μ-loop
     u32-at-requires
-    printed-pairs-requires
+    lower-requires
     add-first
     loop-holds
     mul-print

@@ -2,27 +2,33 @@ use Prim.Native.Nat.{_<_, _^_}
 use mathlib.Core.Path.{_≡_, sym, _∙_}
 use native.Mathlib.Omega.{arith}
 use Rattle.actions.specs.Actions.{actionsAt, listAt}
-use Rattle.list_code.specs.Print.{actionsPrint}
+use Rattle.list_code.specs.Print.{actionsPrint, listPrint}
 use Rattle.list_code.proofs.Laws.{near, print-more, print-none, print-all}
 use borrow.Author.Needs.{needs}
 use Rattle.list_code.proofs.list_print.Statement.{statement}
 use Rattle.list_code.proofs.list_print.Tie as tie
 
 abbrev Inv-loop : tie.InvT-loop
-Inv-loop table place at₀ left₀ print₀ at left print =
-    (at < 2 ^ 33) × (print < 4294967296) × (actionsPrint print (actionsAt table left at) ≡ actionsPrint 0 (listAt table place))
+Inv-loop table place count left₀ at₀ print₀ left at print =
+    (at < 2 ^ 33) × (print < 4294967296) × (actionsPrint print (actionsAt table left at) ≡ listPrint (listAt table place))
 
 abbrev μ-loop : tie.MeasureT-loop
-μ-loop table place at₀ left₀ print₀ at left print = left
-
-add-at : tie.Need-add-at Inv-loop μ-loop
-add-at c = search needs
+μ-loop table place count left₀ at₀ print₀ left at print = left
 
 u32-at-requires : tie.Need-u32-at-requires Inv-loop μ-loop
 u32-at-requires c κs = search needs
 
+lower-requires : tie.Need-lower-requires Inv-loop μ-loop
+lower-requires c κs = search needs
+
+add-at : tie.Need-add-at Inv-loop μ-loop
+add-at c = search needs
+
 loop-holds : tie.Need-loop-holds Inv-loop μ-loop
-loop-holds c = (omega arith, omega arith, print-all ((c .before .before .args) .table .now) ((c .before .before .args) .place) ((c .u32-at) .result) ((c .u32-at) .ensures .0))
+loop-holds c =
+    let a = c .before .before .before .args in
+    let n = c .before .u32-at in
+    (omega arith, omega (arith, n .ensures .1), print-all (a .table .now) (a .place) (n .result) (c .lower .result) (n .ensures .0) (c .lower .ensures))
 
 mul-print : tie.Need-mul-print Inv-loop μ-loop
 mul-print c = search needs
@@ -50,16 +56,18 @@ loop-less c = search needs
 
 loop-again : tie.Need-loop-again Inv-loop μ-loop
 loop-again c =
-    let l = (c .before .before .before .loop) in (
-      near ((c .before .before .before .before .before .before .args) .table .now) (l .at) ((c .u32-at2) .result) (c .before .before .before .before .before .before .pre) (l .inv .0) ((c .u32-at2) .ensures .0) ((c .u32-at2) .ensures .1),
+    let l = c .before .before .before .loop in
+    let t = c .before .before .before .before .before .before .before .args .table .now in
+    let n = c .u32-at2 in (
+      near t (l .at) (n .result) (c .before .before .before .before .before .before .before .pre) (l .inv .0) (n .ensures .0) (n .ensures .1),
       omega arith,
-      print-more ((c .before .before .before .before .before .before .args) .table .now) (l .left) (l .at) (l .print) ((c .before .action-print) .result) ((c .u32-at2) .result) (omega arith) ((c .before .action-print) .ensures .0) ((c .u32-at2) .ensures .0) ∙ l .inv .2,
+      print-more t (l .left) (l .at) (l .print) (c .before .action-print .result) (n .result) (omega arith) (c .before .action-print .ensures .0) (n .ensures .0) ∙ l .inv .2,
     )
 
 returns : tie.Need-returns Inv-loop μ-loop
 returns c =
-    let l = (c .before .loop) in
-    (sym (print-none ((c .before .before .before .before .args) .table .now) (l .left) (l .at) (l .print) (omega arith)) ∙ l .inv .2, omega arith)
+    let l = c .before .loop in
+    (sym (print-none (c .before .before .before .before .before .args .table .now) (l .left) (l .at) (l .print) (omega arith)) ∙ l .inv .2, omega arith)
 
 pub list-print-spec : {M : Type 1} → statement M
 list-print-spec =
@@ -67,8 +75,9 @@ list-print-spec =
     (tie.spec
     Inv-loop
     μ-loop
-    add-at
     u32-at-requires
+    lower-requires
+    add-at
     loop-holds
     mul-print
     action-print-requires

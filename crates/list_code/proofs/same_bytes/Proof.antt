@@ -1,9 +1,11 @@
 use borrow.Author.Needs.{needs}
-use Rattle.list_code.proofs.Laws.{bytes-none, same-byte, byte-same}
-use Rattle.actions.specs.Actions.{bytesAt}
-use native.Mathlib.Omega.{arith}
-use mathlib.Core.Path.{_≡_, sym, _∙_}
 use Prim.Native.Nat.{_+_, _<_, _^_}
+use mathlib.Core.Path.{_≡_, sym, _∙_}
+use native.Mathlib.Omega.{arith}
+use Rattle.fields.specs.Field.{Bytes}
+use Rattle.lists.proofs.DictionaryLaws.{says-iff}
+use Rattle.actions.specs.Actions.{bytesAt}
+use Rattle.list_code.proofs.Laws.{same-four, four-same}
 use Rattle.list_code.proofs.same_bytes.Statement.{statement}
 use Rattle.list_code.proofs.same_bytes.Tie as tie
 
@@ -19,11 +21,11 @@ abbrev μ-loop : tie.MeasureT-loop
 loop-holds : tie.Need-loop-holds Inv-loop μ-loop
 loop-holds c = (omega arith, omega arith, (λ e. e), (λ e. e))
 
-u8-at-requires : tie.Need-u8-at-requires Inv-loop μ-loop
-u8-at-requires c κs = search needs
+u32-at-requires : tie.Need-u32-at-requires Inv-loop μ-loop
+u32-at-requires c κs = search needs
 
-u8-at-requires-2 : tie.Need-u8-at-requires-2 Inv-loop μ-loop
-u8-at-requires-2 c κs = search needs
+u32-at-requires-2 : tie.Need-u32-at-requires-2 Inv-loop μ-loop
+u32-at-requires-2 c κs = search needs
 
 add-a : tie.Need-add-a Inv-loop μ-loop
 add-a c = search needs
@@ -39,28 +41,31 @@ loop-less c = search needs
 
 loop-again : tie.Need-loop-again Inv-loop μ-loop
 loop-again c =
-    let l = (c .before .before .before .before .loop) in
-    let t = (c .before .before .before .before .before .before .args .table .now) in
-    let f = sym (c .before .before .u8-at .ensures .0) ∙ (c .if1 .taken) ∙ (c .before .u8-at2 .ensures .0) in
-    let h : 0 < l .left = omega arith in (
+    let l = c .before .before .before .before .loop in
+    let t = c .before .before .before .before .before .before .args .table .now in
+    let bytes : Bytes t = λ i. omega (arith, c .before .before .before .before .before .shared-slice-known .given i) in
+    let e = sym (c .before .before .u32-at .ensures .0) ∙ c .if1 .taken ∙ c .before .u32-at2 .ensures .0 in
+    let h : 3 < l .left = omega arith in (
       omega arith,
       omega arith,
-      (λ g. l .inv .2 (same-byte t (l .left) (l .a) (l .b) h f g)),
-      (λ g. byte-same t (l .left) (l .a) (l .b) h (l .inv .3 g) .1),
+      (λ g. l .inv .2 (same-four t bytes (l .left) (l .a) (l .b) h e g)),
+      (λ g. four-same t (l .left) (l .a) (l .b) h (l .inv .3 g) .1),
     )
 
 returns : tie.Need-returns Inv-loop μ-loop
 returns c =
-    let l = (c .before .before .before .before .loop) in
-    let t = (c .before .before .before .before .before .before .args .table .now) in
-    let h : 0 < l .left = omega arith in
-    λ g. (c .if1 .left) ((c .before .before .u8-at .ensures .0) ∙ byte-same t (l .left) (l .a) (l .b) h (l .inv .3 g) .0 ∙ sym (c .before .u8-at2 .ensures .0))
+    let l = c .before .before .before .before .loop in
+    let t = c .before .before .before .before .before .before .args .table .now in
+    let h : 3 < l .left = omega arith in
+    λ g. c .if1 .left (c .before .before .u32-at .ensures .0 ∙ four-same t (l .left) (l .a) (l .b) h (l .inv .3 g) .0 ∙ sym (c .before .u32-at2 .ensures .0))
+
+same-each-requires : tie.Need-same-each-requires Inv-loop μ-loop
+same-each-requires c κs = search needs
 
 returns-2 : tie.Need-returns-2 Inv-loop μ-loop
 returns-2 c =
-    let l = (c .before .loop) in
-    let t = (c .before .before .before .args .table .now) in
-    l .inv .2 (bytes-none t (l .left) (l .a) (omega arith) ∙ sym (bytes-none t (l .left) (l .b) (omega arith)))
+    let l = c .before .before .loop in
+    says-iff (c .same-each .result) (l .inv .2) (l .inv .3) (c .same-each .ensures)
 
 pub same-bytes-spec : {M : Type 1} → statement M
 same-bytes-spec =
@@ -69,12 +74,13 @@ same-bytes-spec =
     Inv-loop
     μ-loop
     loop-holds
-    u8-at-requires
-    u8-at-requires-2
+    u32-at-requires
+    u32-at-requires-2
     add-a
     add-b
     sub-left
     loop-less
     loop-again
     returns
+    same-each-requires
     returns-2)

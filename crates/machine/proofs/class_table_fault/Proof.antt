@@ -34,8 +34,8 @@ add-u16-at-2 c = search needs
 u16-at-requires-3 : tie.Need-u16-at-requires-3
 u16-at-requires-3 c κs = search needs
 
-smaller-requires : tie.Need-smaller-requires
-smaller-requires c κs = search needs
+lower-requires : tie.Need-lower-requires
+lower-requires c κs = search needs
 
 add-classes-fault : tie.Need-add-classes-fault
 add-classes-fault c = search needs
@@ -55,7 +55,7 @@ returns c =
     let place = c .before .before .before .before .before .before .before .before .before .u16-at .ensures .0 in
     then-of (c .then2 .ensures) (rw place at (c .before .before .before .before .before .before .before .before .in-table .ensures))
     (then-of (c .before .then .ensures) (rw place at (c .before .before .before .before .before .before .before .in-table2 .ensures))
-    (rw (c .before .before .before .smaller .ensures, c .before .before .before .before .u16-at3 .ensures .0, c .before .before .before .before .before .less .ensures, c .before .before .before .before .before .before .u16-at2 .ensures .0, place) at (c .before .before .classes-fault .ensures)))
+    (rw (c .before .before .before .lower .ensures, c .before .before .before .before .u16-at3 .ensures .0, c .before .before .before .before .before .less .ensures, c .before .before .before .before .before .before .u16-at2 .ensures .0, place) at (c .before .before .classes-fault .ensures)))
 
 pub class-table-fault-spec : {M : Type 1} → statement M
 class-table-fault-spec =
@@ -71,7 +71,7 @@ class-table-fault-spec =
     less-requires
     add-u16-at-2
     u16-at-requires-3
-    smaller-requires
+    lower-requires
     add-classes-fault
     classes-fault-requires
     then-requires

@@ -71,7 +71,7 @@ returns-3 c =
     let first = (c .before .before .before .before .before .u16-at2) .result in
     let w = (c .same-count) in
     class-within (a .table .now) (a .here) at first (first + (c .before .before .before .before .u16-at3) .result) (ap (λ (x : ℕ). a .here + x) ((c .before .before .before .before .before .before .u16-at) .ensures .0)) ((c .before .before .before .before .before .u16-at2) .ensures .0) (ap (λ (x : ℕ). first + x) ((c .before .before .before .before .u16-at3) .ensures .0)) (a .glyphs) (a .glyph) ((c .before .before .before .before .before .before .before .before .pre) .1 .0)
-    (w .result) (omega (arith, (c .before .before .if2) .left)) (omega (arith, (c .before .before .before .if1) .left)) (w .ensures .0) (omega (arith, w .ensures .1, (c .before .lower2) .ensures)) (w .ensures .2)
+    (w .result) (omega (arith, (c .before .before .if2) .left)) (omega (arith, (c .before .before .before .if1) .left)) (w .ensures .0) (omega (arith, w .ensures .1, (c .before .lower2) .ensures)) (w .ensures .2) (λ h. w .ensures .3 (omega (arith, h, (c .before .lower2) .ensures)))
 
 pub class-end-spec : {M : Type 1} → statement M
 class-end-spec =

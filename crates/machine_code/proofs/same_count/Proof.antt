@@ -35,10 +35,12 @@ loop-again : tie.Need-loop-again Inv-loop μ-loop
 loop-again c = (omega arith, omega arith, (c .before .before .before .loop) .inv .2, more-bytes ((c .before .before .before .before .before .before .args) .table .now) ((c .before .before .before .before .before .before .args) .at) ((c .before .before .before .loop) .count) (sym ((c .before .u8-at2) .ensures .0) ∙ (c .if1) .taken ∙ (c .before .before .before .loop) .inv .2) ((c .before .before .before .loop) .inv .3))
 
 returns : tie.Need-returns Inv-loop μ-loop
-returns c = ((c .before .before .before .loop) .inv .0, (c .before .before .before .loop) .inv .1, (c .before .before .before .loop) .inv .3)
+returns c =
+    let l = (c .before .before .before .loop) in
+    (l .inv .0, l .inv .1, l .inv .3, λ h e. (c .if1) .left ((c .before .u8-at2) .ensures .0 ∙ e ∙ sym (l .inv .2)))
 
 returns-2 : tie.Need-returns-2 Inv-loop μ-loop
-returns-2 c = ((c .before .loop) .inv .0, (c .before .loop) .inv .1, (c .before .loop) .inv .3)
+returns-2 c = ((c .before .loop) .inv .0, (c .before .loop) .inv .1, (c .before .loop) .inv .3, λ h e. absurd (omega arith))
 
 pub same-count-spec : {M : Type 1} → statement M
 same-count-spec =

@@ -6,7 +6,7 @@ use native.Mathlib.Omega.{arith}
 use lib.ListN.{getD}
 use lib.Seq.{slice}
 use borrow.Author.Needs.{needs}
-use Rattle.order.specs.Order.{Le}
+use Rattle.lists.specs.Dictionary.{Le}
 use Rattle.order.proofs.OrderLaws.{slice-done, turn-ended, turn-less, turn-more, turn-on, turn-back}
 use Rattle.order.proofs.no_later.Statement.{statement}
 use Rattle.order.proofs.no_later.Tie as tie

@@ -1,140 +1,24 @@
-use Prim.Native.Nat.{_≤_}
-use mathlib.Core.Path.{sym, refl}
-use native.Mathlib.Omega.{arith}
+use Rattle.pool_code.proofs.Laws.{pass-few, pass-stretches, pass-sections, pass-short, tried-full, tried-done}
+use Rattle.places.specs.declared.Source.the-variants.{Lookup}
 use lib.Seq.{length-take-le}
 use lib.ListN.{length, take}
-use Rattle.places.specs.declared.Source.the-variants.{Lookup}
-use Rattle.pool_code.proofs.Laws.{pass-held, pass-room, pass-stretches, pass-distinct, pass-sections, pass-most, pass-short, tried-full, tried-done}
+use Prim.Native.Nat.{_≤_}
+use mathlib.Core.Path.{refl, sym}
+use native.Mathlib.Omega.{arith}
 use borrow.Author.Needs.{needs}
 use Rattle.pool_code.proofs.put_with.Statement.{statement}
 use Rattle.pool_code.proofs.put_with.Tie as tie
 
-place-items-requires : tie.Need-place-items-requires
-place-items-requires c κs = (((c .before .before .before .before .before .before .before .before .before .before .before .pre) .0 .0 .sound .0, ((c .before .before .before .before .before .before .before .before .before .before .before .pre) .0 .0 .sound .1, ((c .before .before .before .before .before .before .before .before .before .before .before .pre) .0 .0 .few, (c .before .before .before .before .before .before .before .before .before .before .before .pre) .0 .0 .sound .2))), ((c .before .before .before .before .before .before .before .before .before .before .before .pre) .0 .0 .bytes, (c .before .before .before .before .before .before .before .before .before .before .before .pre) .1 .0 .each))
+number-glyphs-requires : tie.Need-number-glyphs-requires
+number-glyphs-requires c κs =
+    let g = (c .before .before .before .before .before .before .before .before .before .before .before .before .before .before .before .before .pre) .0 .0 in
+    ((g .sound .0, (g .sound .1, (g .few, g .sound .2))), ((g .bytes, (c .before .before .before .before .before .before .before .before .before .before .before .before .before .before .before .before .pre) .1 .0), (c .before .before .before .before .before .before .before .before .before .before .before .before .before .before .before .before .pre) .1 .1))
 
 same-length : tie.Need-same-length
 same-length c = search needs
 
 same-length-2 : tie.Need-same-length-2
 same-length-2 c = search needs
-
-returns : tie.Need-returns
-returns c =
-    let a = (c .before .before .before .before .before .before .before .before .before .before .before .before .before .before .before .before .before .before .args) in
-    let pl = (c .before .before .before .before .before .before .place-items) in
-    tried-full (a .kind) (a .table .now) (a .glyphs) (a .at) (a .base) (pl .last .1 .1 .1 .1 .1 .0) (pl .last .1 .1 .1 .1 .1 .1 .0) (pl .result) (length (a .ends .now)) (a .out .now) (a .out .now) (a .to) (pl .ensures) ((c .if1) .taken) (omega (arith, pl .kept)) refl
-
-slice-reshare-prefix-number-items : tie.Need-slice-reshare-prefix-number-items
-slice-reshare-prefix-number-items c = omega (arith, (c .before .before .before .before .before .before .place-items) .kept, (c .before .before .before .before .before .before .place-items) .ensures .fits, (c .before .before .before .before .before .before .before .before .before .before .before .before .before .before .before .before .before .before .pre) .1 .0 .each)
-
-slice-aggregate-number-items : tie.Need-slice-aggregate-number-items
-slice-aggregate-number-items c =
-    let a = (c .before .before .before .before .before .before .before .before .before .before .before .before .before .before .before .before .before .before .before .args) in
-    let t = a .table .now in
-    let pl = (c .before .before .before .before .before .before .before .place-items) in
-    let es = pl .last .1 .1 .1 .1 .1 .0 in
-    let ps = pl .last .1 .1 .1 .1 .1 .1 .0 in
-    let g = (c .before .before .before .before .before .before .before .before .before .before .before .before .before .before .before .before .before .before .before .pre) .0 .0 in
-    let fits : length es ≤ length ps = omega (arith, pl .kept, (c .before .before .before .before .before .before .before .before .before .before .before .before .before .before .before .before .before .before .before .pre) .1 .0 .each) in
-    let all : a .glyphs ≤ pl .result .glyph = omega (arith, (c .before .if1) .left) in
-    pass-held (a .kind) t (a .glyphs) (a .at) (a .base) es ps (a .nums .now) (a .firsts .now) (pl .result) 0 (g .few) (g .short) (pl .ensures) all fits
-
-number-items-requires : tie.Need-number-items-requires
-number-items-requires c κs =
-    let a = (c .before .before .before .before .before .before .before .before .before .before .before .before .before .before .before .before .before .before .before .before .before .before .before .before .args) in
-    let t = a .table .now in
-    let pl = (c .before .before .before .before .before .before .before .before .before .before .before .before .place-items) in
-    let es = pl .last .1 .1 .1 .1 .1 .0 in
-    let ps = pl .last .1 .1 .1 .1 .1 .1 .0 in
-    let g = (c .before .before .before .before .before .before .before .before .before .before .before .before .before .before .before .before .before .before .before .before .before .before .before .before .pre) .0 .0 in
-    let fits : length es ≤ length ps = omega (arith, pl .kept, (c .before .before .before .before .before .before .before .before .before .before .before .before .before .before .before .before .before .before .before .before .before .before .before .before .pre) .1 .0 .each) in
-    let all : a .glyphs ≤ pl .result .glyph = omega (arith, (c .before .before .before .before .before .before .if1) .left) in
-    let r = (c .before .before .before .before .before .before .before .before .before .before .before .before .before .before .before .before .before .before .before .before .before .before .before .before .pre) .1 .0 in
-    ((g .bytes, pass-room (a .kind) t (a .glyphs) (a .at) (a .base) es ps (a .nums .now) (a .firsts .now) (pl .result) 0 (g .few) (g .short) (pl .ensures) all fits (length (a .nums .now)) (length (a .firsts .now)) (length (a .nexts .now)) (length (a .lasts .now)) (omega (arith, pl .kept, r .numbered)) (omega (arith, pl .kept, r .distinct)) (omega (arith, pl .kept, r .links)) (r .prints)), (c .before .before .before .before .before .before .before .before .before .before .before .before .before .before .before .before .before .before .before .before .before .before .before .before .pre) .1 .1)
-
-slice-reshare-prefix-put-sections : tie.Need-slice-reshare-prefix-put-sections
-slice-reshare-prefix-put-sections c =
-    let a = (c .before .before .before .before .before .before .before .before .before .before .before .before .before .before .before .before .before .before .before .before .before .before .before .before .before .before .before .before .before .before .before .before .before .before .before .args) in
-    let t = a .table .now in
-    let pl = (c .before .before .before .before .before .before .before .before .before .before .before .before .before .before .before .before .before .before .before .before .before .before .before .place-items) in
-    let es = pl .last .1 .1 .1 .1 .1 .0 in
-    let ps = pl .last .1 .1 .1 .1 .1 .1 .0 in
-    let g = (c .before .before .before .before .before .before .before .before .before .before .before .before .before .before .before .before .before .before .before .before .before .before .before .before .before .before .before .before .before .before .before .before .before .before .before .pre) .0 .0 in
-    let fits : length es ≤ length ps = omega (arith, pl .kept, (c .before .before .before .before .before .before .before .before .before .before .before .before .before .before .before .before .before .before .before .before .before .before .before .before .before .before .before .before .before .before .before .before .before .before .before .pre) .1 .0 .each) in
-    let all : a .glyphs ≤ pl .result .glyph = omega (arith, (c .before .before .before .before .before .before .before .before .before .before .before .before .before .before .before .before .before .if1) .left) in
-    let nu = (c .before .before .before .before .before .before .before .before .before .before .number-items) in
-    let ns = nu .last .1 .1 .1 .0 in
-    let fs = nu .last .1 .1 .1 .1 .0 in
-    omega (arith, pass-most (a .kind) t (a .glyphs) (a .at) (a .base) es ps ns fs (pl .result) (nu .result) (g .few) (g .short) (pl .ensures) all fits (nu .ensures), pl .ensures .fits, pl .kept, nu .kept, (c .before .before .before .before .before .before .before .before .before .before .before .before .before .before .before .before .before .before .before .before .before .before .before .before .before .before .before .before .before .before .before .before .before .before .before .pre) .1 .0 .distinct)
-
-slice-aggregate-put-sections : tie.Need-slice-aggregate-put-sections
-slice-aggregate-put-sections c =
-    let a = (c .before .before .before .before .before .before .before .before .before .before .before .before .before .before .before .before .before .before .before .before .before .before .before .before .before .before .before .before .before .before .before .before .before .before .before .before .args) in
-    let t = a .table .now in
-    let pl = (c .before .before .before .before .before .before .before .before .before .before .before .before .before .before .before .before .before .before .before .before .before .before .before .before .place-items) in
-    let es = pl .last .1 .1 .1 .1 .1 .0 in
-    let ps = pl .last .1 .1 .1 .1 .1 .1 .0 in
-    let g = (c .before .before .before .before .before .before .before .before .before .before .before .before .before .before .before .before .before .before .before .before .before .before .before .before .before .before .before .before .before .before .before .before .before .before .before .before .pre) .0 .0 in
-    let fits : length es ≤ length ps = omega (arith, pl .kept, (c .before .before .before .before .before .before .before .before .before .before .before .before .before .before .before .before .before .before .before .before .before .before .before .before .before .before .before .before .before .before .before .before .before .before .before .before .pre) .1 .0 .each) in
-    let all : a .glyphs ≤ pl .result .glyph = omega (arith, (c .before .before .before .before .before .before .before .before .before .before .before .before .before .before .before .before .before .before .if1) .left) in
-    let nu = (c .before .before .before .before .before .before .before .before .before .before .before .number-items) in
-    let ns = nu .last .1 .1 .1 .0 in
-    let fs = nu .last .1 .1 .1 .1 .0 in
-    sym (length-take-le (nu .result) fs (omega (arith, pass-most (a .kind) t (a .glyphs) (a .at) (a .base) es ps ns fs (pl .result) (nu .result) (g .few) (g .short) (pl .ensures) all fits (nu .ensures), pl .ensures .fits, pl .kept, nu .kept, (c .before .before .before .before .before .before .before .before .before .before .before .before .before .before .before .before .before .before .before .before .before .before .before .before .before .before .before .before .before .before .before .before .before .before .before .before .pre) .1 .0 .distinct)))
-
-slice-reshare-prefix-put-sections-2 : tie.Need-slice-reshare-prefix-put-sections-2
-slice-reshare-prefix-put-sections-2 c = omega (arith, (c .before .before .before .before .before .before .before .before .before .before .before .before .before .before .before .before .before .before .before .before .before .before .before .before .place-items) .ensures .fits)
-
-slice-aggregate-put-sections-2 : tie.Need-slice-aggregate-put-sections-2
-slice-aggregate-put-sections-2 c =
-    let pl = (c .before .before .before .before .before .before .before .before .before .before .before .before .before .before .before .before .before .before .before .before .before .before .before .before .before .place-items) in
-    sym (length-take-le (pl .result .count) (pl .last .1 .1 .1 .1 .1 .0) (pl .ensures .fits))
-
-slice-reshare-prefix-put-sections-3 : tie.Need-slice-reshare-prefix-put-sections-3
-slice-reshare-prefix-put-sections-3 c =
-    let a = (c .before .before .before .before .before .before .before .before .before .before .before .before .before .before .before .before .before .before .before .before .before .before .before .before .before .before .before .before .before .before .before .before .before .before .before .before .before .args) in
-    let t = a .table .now in
-    let pl = (c .before .before .before .before .before .before .before .before .before .before .before .before .before .before .before .before .before .before .before .before .before .before .before .before .before .place-items) in
-    let es = pl .last .1 .1 .1 .1 .1 .0 in
-    let ps = pl .last .1 .1 .1 .1 .1 .1 .0 in
-    let g = (c .before .before .before .before .before .before .before .before .before .before .before .before .before .before .before .before .before .before .before .before .before .before .before .before .before .before .before .before .before .before .before .before .before .before .before .before .before .pre) .0 .0 in
-    let fits : length es ≤ length ps = omega (arith, pl .kept, (c .before .before .before .before .before .before .before .before .before .before .before .before .before .before .before .before .before .before .before .before .before .before .before .before .before .before .before .before .before .before .before .before .before .before .before .before .before .pre) .1 .0 .each) in
-    let all : a .glyphs ≤ pl .result .glyph = omega (arith, (c .before .before .before .before .before .before .before .before .before .before .before .before .before .before .before .before .before .before .before .if1) .left) in
-    let nu = (c .before .before .before .before .before .before .before .before .before .before .before .before .number-items) in
-    let ns = nu .last .1 .1 .1 .0 in
-    let fs = nu .last .1 .1 .1 .1 .0 in
-    omega (arith, pl .ensures .fits, pl .kept, nu .kept, (c .before .before .before .before .before .before .before .before .before .before .before .before .before .before .before .before .before .before .before .before .before .before .before .before .before .before .before .before .before .before .before .before .before .before .before .before .before .pre) .1 .0 .numbered)
-
-slice-aggregate-put-sections-3 : tie.Need-slice-aggregate-put-sections-3
-slice-aggregate-put-sections-3 c =
-    let a = (c .before .before .before .before .before .before .before .before .before .before .before .before .before .before .before .before .before .before .before .before .before .before .before .before .before .before .before .before .before .before .before .before .before .before .before .before .before .before .args) in
-    let t = a .table .now in
-    let pl = (c .before .before .before .before .before .before .before .before .before .before .before .before .before .before .before .before .before .before .before .before .before .before .before .before .before .before .place-items) in
-    let es = pl .last .1 .1 .1 .1 .1 .0 in
-    let ps = pl .last .1 .1 .1 .1 .1 .1 .0 in
-    let g = (c .before .before .before .before .before .before .before .before .before .before .before .before .before .before .before .before .before .before .before .before .before .before .before .before .before .before .before .before .before .before .before .before .before .before .before .before .before .before .pre) .0 .0 in
-    let fits : length es ≤ length ps = omega (arith, pl .kept, (c .before .before .before .before .before .before .before .before .before .before .before .before .before .before .before .before .before .before .before .before .before .before .before .before .before .before .before .before .before .before .before .before .before .before .before .before .before .before .pre) .1 .0 .each) in
-    let all : a .glyphs ≤ pl .result .glyph = omega (arith, (c .before .before .before .before .before .before .before .before .before .before .before .before .before .before .before .before .before .before .before .before .if1) .left) in
-    let nu = (c .before .before .before .before .before .before .before .before .before .before .before .before .before .number-items) in
-    let ns = nu .last .1 .1 .1 .0 in
-    let fs = nu .last .1 .1 .1 .1 .0 in
-    sym (length-take-le (pl .result .count) ns (omega (arith, pl .ensures .fits, pl .kept, nu .kept, (c .before .before .before .before .before .before .before .before .before .before .before .before .before .before .before .before .before .before .before .before .before .before .before .before .before .before .before .before .before .before .before .before .before .before .before .before .before .before .pre) .1 .0 .numbered)))
-
-put-sections-requires : tie.Need-put-sections-requires
-put-sections-requires c κs =
-    let a = (c .before .before .before .before .before .before .before .before .before .before .before .before .before .before .before .before .before .before .before .before .before .before .before .before .before .before .before .before .before .before .before .before .before .before .before .before .before .before .before .args) in
-    let t = a .table .now in
-    let pl = (c .before .before .before .before .before .before .before .before .before .before .before .before .before .before .before .before .before .before .before .before .before .before .before .before .before .before .before .place-items) in
-    let es = pl .last .1 .1 .1 .1 .1 .0 in
-    let ps = pl .last .1 .1 .1 .1 .1 .1 .0 in
-    let g = (c .before .before .before .before .before .before .before .before .before .before .before .before .before .before .before .before .before .before .before .before .before .before .before .before .before .before .before .before .before .before .before .before .before .before .before .before .before .before .before .pre) .0 .0 in
-    let fits : length es ≤ length ps = omega (arith, pl .kept, (c .before .before .before .before .before .before .before .before .before .before .before .before .before .before .before .before .before .before .before .before .before .before .before .before .before .before .before .before .before .before .before .before .before .before .before .before .before .before .before .pre) .1 .0 .each) in
-    let all : a .glyphs ≤ pl .result .glyph = omega (arith, (c .before .before .before .before .before .before .before .before .before .before .before .before .before .before .before .before .before .before .before .before .before .if1) .left) in
-    let nu = (c .before .before .before .before .before .before .before .before .before .before .before .before .before .before .number-items) in
-    let ns = nu .last .1 .1 .1 .0 in
-    let fs = nu .last .1 .1 .1 .1 .0 in
-    let few = length-take-le (nu .result) fs (omega (arith, pass-most (a .kind) t (a .glyphs) (a .at) (a .base) es ps ns fs (pl .result) (nu .result) (g .few) (g .short) (pl .ensures) all fits (nu .ensures), pl .ensures .fits, pl .kept, nu .kept, (c .before .before .before .before .before .before .before .before .before .before .before .before .before .before .before .before .before .before .before .before .before .before .before .before .before .before .before .before .before .before .before .before .before .before .before .before .before .before .before .pre) .1 .0 .distinct)) in
-    ((g .bytes, (omega (arith, few, pass-distinct (a .kind) t (a .glyphs) (a .at) (a .base) es ps ns fs (pl .result) (nu .result) (g .few) (g .short) (pl .ensures) all fits (nu .ensures)), pass-short (a .kind) t (a .glyphs) (a .at) (a .base) es ps ns fs (pl .result) (nu .result) (g .few) (g .short) (pl .ensures) all fits (nu .ensures))), (pass-stretches (a .kind) t (a .glyphs) (a .at) (a .base) es ps ns fs (pl .result) (nu .result) (g .few) (g .short) (pl .ensures) all fits (omega (arith, pl .kept, nu .kept, (c .before .before .before .before .before .before .before .before .before .before .before .before .before .before .before .before .before .before .before .before .before .before .before .before .before .before .before .before .before .before .before .before .before .before .before .before .before .before .before .pre) .1 .0 .numbered)), (c .before .before .before .before .before .before .before .before .before .before .before .before .before .before .before .before .before .before .before .before .before .before .before .before .before .before .before .before .before .before .before .before .before .before .before .before .before .before .before .pre) .0 .1))
 
 same-length-3 : tie.Need-same-length-3
 same-length-3 c = search needs
@@ -151,6 +35,81 @@ same-length-6 c = search needs
 same-length-7 : tie.Need-same-length-7
 same-length-7 c = search needs
 
+returns : tie.Need-returns
+returns c =
+    let a = (c .before .before .before .before .before .before .before .before .before .before .before .before .before .before .before .before .before .before .before .before .before .before .before .before .before .before .before .before .before .before .before .before .before .args) in
+    let t = a .table .now in
+    let nb = (c .before .before .before .before .before .before .before .before .before .before .before .before .before .before .before .before .number-glyphs) in
+    let es = nb .last .1 .1 .1 .1 .1 .0 in
+    let ns = nb .last .1 .1 .1 .1 .1 .1 .0 in
+    let fs = nb .last .1 .1 .1 .1 .1 .1 .1 .0 in
+    let g = (c .before .before .before .before .before .before .before .before .before .before .before .before .before .before .before .before .before .before .before .before .before .before .before .before .before .before .before .before .before .before .before .before .before .pre) .0 .0 in
+    let o = (c .before .before .before .before .before .before .before .before .before .before .before .before .before .before .before .before .before .before .before .before .before .before .before .before .before .before .before .before .before .before .before .before .before .pre) .1 .0 in
+    tried-full (a .kind) t (a .glyphs) (a .at) (a .base) es ns fs (nb .result) (length (a .ends .now)) (a .out .now) (a .out .now) (a .to) (nb .ensures) ((c .if1) .taken) (omega (arith, nb .kept)) refl
+
+slice-reshare-prefix-put-sections : tie.Need-slice-reshare-prefix-put-sections
+slice-reshare-prefix-put-sections c =
+    let nb = (c .before .before .before .before .before .before .before .before .before .before .before .before .before .before .before .before .number-glyphs) in
+    omega (arith, nb .ensures .few, nb .ensures .fits, nb .kept, (c .before .before .before .before .before .before .before .before .before .before .before .before .before .before .before .before .before .before .before .before .before .before .before .before .before .before .before .before .before .before .before .before .before .pre) .1 .0 .distinct)
+
+slice-aggregate-put-sections : tie.Need-slice-aggregate-put-sections
+slice-aggregate-put-sections c =
+    let a = (c .before .before .before .before .before .before .before .before .before .before .before .before .before .before .before .before .before .before .before .before .before .before .before .before .before .before .before .before .before .before .before .before .before .before .args) in
+    let t = a .table .now in
+    let nb = (c .before .before .before .before .before .before .before .before .before .before .before .before .before .before .before .before .before .number-glyphs) in
+    let es = nb .last .1 .1 .1 .1 .1 .0 in
+    let ns = nb .last .1 .1 .1 .1 .1 .1 .0 in
+    let fs = nb .last .1 .1 .1 .1 .1 .1 .1 .0 in
+    let g = (c .before .before .before .before .before .before .before .before .before .before .before .before .before .before .before .before .before .before .before .before .before .before .before .before .before .before .before .before .before .before .before .before .before .before .pre) .0 .0 in
+    let o = (c .before .before .before .before .before .before .before .before .before .before .before .before .before .before .before .before .before .before .before .before .before .before .before .before .before .before .before .before .before .before .before .before .before .before .pre) .1 .0 in
+    sym (length-take-le (nb .result .items) fs (omega (arith, nb .ensures .few, nb .ensures .fits, nb .kept, o .distinct)))
+
+slice-reshare-prefix-put-sections-2 : tie.Need-slice-reshare-prefix-put-sections-2
+slice-reshare-prefix-put-sections-2 c = omega (arith, (c .before .before .before .before .before .before .before .before .before .before .before .before .before .before .before .before .before .number-glyphs) .ensures .fits)
+
+slice-aggregate-put-sections-2 : tie.Need-slice-aggregate-put-sections-2
+slice-aggregate-put-sections-2 c =
+    let a = (c .before .before .before .before .before .before .before .before .before .before .before .before .before .before .before .before .before .before .before .before .before .before .before .before .before .before .before .before .before .before .before .before .before .before .before .args) in
+    let t = a .table .now in
+    let nb = (c .before .before .before .before .before .before .before .before .before .before .before .before .before .before .before .before .before .before .number-glyphs) in
+    let es = nb .last .1 .1 .1 .1 .1 .0 in
+    let ns = nb .last .1 .1 .1 .1 .1 .1 .0 in
+    let fs = nb .last .1 .1 .1 .1 .1 .1 .1 .0 in
+    let g = (c .before .before .before .before .before .before .before .before .before .before .before .before .before .before .before .before .before .before .before .before .before .before .before .before .before .before .before .before .before .before .before .before .before .before .before .pre) .0 .0 in
+    let o = (c .before .before .before .before .before .before .before .before .before .before .before .before .before .before .before .before .before .before .before .before .before .before .before .before .before .before .before .before .before .before .before .before .before .before .before .pre) .1 .0 in
+    sym (length-take-le (nb .result .stretches) es (nb .ensures .fits))
+
+slice-reshare-prefix-put-sections-3 : tie.Need-slice-reshare-prefix-put-sections-3
+slice-reshare-prefix-put-sections-3 c =
+    let nb = (c .before .before .before .before .before .before .before .before .before .before .before .before .before .before .before .before .before .before .number-glyphs) in
+    omega (arith, nb .ensures .fits, nb .kept, (c .before .before .before .before .before .before .before .before .before .before .before .before .before .before .before .before .before .before .before .before .before .before .before .before .before .before .before .before .before .before .before .before .before .before .before .pre) .1 .0 .each)
+
+slice-aggregate-put-sections-3 : tie.Need-slice-aggregate-put-sections-3
+slice-aggregate-put-sections-3 c =
+    let a = (c .before .before .before .before .before .before .before .before .before .before .before .before .before .before .before .before .before .before .before .before .before .before .before .before .before .before .before .before .before .before .before .before .before .before .before .before .args) in
+    let t = a .table .now in
+    let nb = (c .before .before .before .before .before .before .before .before .before .before .before .before .before .before .before .before .before .before .before .number-glyphs) in
+    let es = nb .last .1 .1 .1 .1 .1 .0 in
+    let ns = nb .last .1 .1 .1 .1 .1 .1 .0 in
+    let fs = nb .last .1 .1 .1 .1 .1 .1 .1 .0 in
+    let g = (c .before .before .before .before .before .before .before .before .before .before .before .before .before .before .before .before .before .before .before .before .before .before .before .before .before .before .before .before .before .before .before .before .before .before .before .before .pre) .0 .0 in
+    let o = (c .before .before .before .before .before .before .before .before .before .before .before .before .before .before .before .before .before .before .before .before .before .before .before .before .before .before .before .before .before .before .before .before .before .before .before .before .pre) .1 .0 in
+    sym (length-take-le (nb .result .stretches) ns (omega (arith, nb .ensures .fits, nb .kept, o .each)))
+
+put-sections-requires : tie.Need-put-sections-requires
+put-sections-requires c κs =
+    let a = (c .before .before .before .before .before .before .before .before .before .before .before .before .before .before .before .before .before .before .before .before .before .before .before .before .before .before .before .before .before .before .before .before .before .before .before .before .before .args) in
+    let t = a .table .now in
+    let nb = (c .before .before .before .before .before .before .before .before .before .before .before .before .before .before .before .before .before .before .before .before .number-glyphs) in
+    let es = nb .last .1 .1 .1 .1 .1 .0 in
+    let ns = nb .last .1 .1 .1 .1 .1 .1 .0 in
+    let fs = nb .last .1 .1 .1 .1 .1 .1 .1 .0 in
+    let g = (c .before .before .before .before .before .before .before .before .before .before .before .before .before .before .before .before .before .before .before .before .before .before .before .before .before .before .before .before .before .before .before .before .before .before .before .before .before .pre) .0 .0 in
+    let o = (c .before .before .before .before .before .before .before .before .before .before .before .before .before .before .before .before .before .before .before .before .before .before .before .before .before .before .before .before .before .before .before .before .before .before .before .before .before .pre) .1 .0 in
+    let all : a .glyphs ≤ nb .result .glyph = omega (arith, (c .before .before .before .before .if1) .left) in
+    let few = length-take-le (nb .result .items) fs (omega (arith, nb .ensures .few, nb .ensures .fits, nb .kept, o .distinct)) in
+    ((g .bytes, (omega (arith, few, nb .ensures .few, pass-few (a .kind) t (a .glyphs) (a .at) (a .base) es ns fs (nb .result) (g .few) (g .short) (nb .ensures) all), pass-short (a .kind) t (a .glyphs) (a .at) (a .base) es ns fs (nb .result) (g .few) (g .short) (nb .ensures) all)), (pass-stretches (a .kind) t (a .glyphs) (a .at) (a .base) es ns fs (nb .result) (g .few) (g .short) (nb .ensures) all (omega (arith, nb .kept, o .each)), (c .before .before .before .before .before .before .before .before .before .before .before .before .before .before .before .before .before .before .before .before .before .before .before .before .before .before .before .before .before .before .before .before .before .before .before .before .before .pre) .0 .1))
+
 same-length-8 : tie.Need-same-length-8
 same-length-8 c = search needs
 
@@ -160,33 +119,49 @@ same-length-9 c = search needs
 same-length-10 : tie.Need-same-length-10
 same-length-10 c = search needs
 
+same-length-11 : tie.Need-same-length-11
+same-length-11 c = search needs
+
+same-length-12 : tie.Need-same-length-12
+same-length-12 c = search needs
+
+same-length-13 : tie.Need-same-length-13
+same-length-13 c = search needs
+
+same-length-14 : tie.Need-same-length-14
+same-length-14 c = search needs
+
+same-length-15 : tie.Need-same-length-15
+same-length-15 c = search needs
+
 returns-2 : tie.Need-returns-2
 returns-2 c =
-    let a = (c .before .before .before .before .before .before .before .before .before .before .before .before .before .before .before .before .before .before .before .before .before .before .before .before .before .before .before .before .before .before .before .before .before .before .before .before .before .before .before .before .before .before .args) in
+    let a = (c .before .before .before .before .before .before .before .before .before .before .before .before .before .before .before .before .before .before .before .before .before .before .before .before .before .before .before .before .before .before .before .before .before .before .before .before .before .before .before .before .args) in
     let t = a .table .now in
-    let pl = (c .before .before .before .before .before .before .before .before .before .before .before .before .before .before .before .before .before .before .before .before .before .before .before .before .before .before .before .before .before .before .place-items) in
-    let es = pl .last .1 .1 .1 .1 .1 .0 in
-    let ps = pl .last .1 .1 .1 .1 .1 .1 .0 in
-    let g = (c .before .before .before .before .before .before .before .before .before .before .before .before .before .before .before .before .before .before .before .before .before .before .before .before .before .before .before .before .before .before .before .before .before .before .before .before .before .before .before .before .before .before .pre) .0 .0 in
-    let fits : length es ≤ length ps = omega (arith, pl .kept, (c .before .before .before .before .before .before .before .before .before .before .before .before .before .before .before .before .before .before .before .before .before .before .before .before .before .before .before .before .before .before .before .before .before .before .before .before .before .before .before .before .before .before .pre) .1 .0 .each) in
-    let all : a .glyphs ≤ pl .result .glyph = omega (arith, (c .before .before .before .before .before .before .before .before .before .before .before .before .before .before .before .before .before .before .before .before .before .before .before .before .if1) .left) in
-    let nu = (c .before .before .before .before .before .before .before .before .before .before .before .before .before .before .before .before .before .number-items) in
-    let ns = nu .last .1 .1 .1 .0 in
-    let fs = nu .last .1 .1 .1 .1 .0 in
+    let nb = (c .before .before .before .before .before .before .before .before .before .before .before .before .before .before .before .before .before .before .before .before .before .before .before .number-glyphs) in
+    let es = nb .last .1 .1 .1 .1 .1 .0 in
+    let ns = nb .last .1 .1 .1 .1 .1 .1 .0 in
+    let fs = nb .last .1 .1 .1 .1 .1 .1 .1 .0 in
+    let g = (c .before .before .before .before .before .before .before .before .before .before .before .before .before .before .before .before .before .before .before .before .before .before .before .before .before .before .before .before .before .before .before .before .before .before .before .before .before .before .before .before .pre) .0 .0 in
+    let o = (c .before .before .before .before .before .before .before .before .before .before .before .before .before .before .before .before .before .before .before .before .before .before .before .before .before .before .before .before .before .before .before .before .before .before .before .before .before .before .before .before .pre) .1 .0 in
+    let all : a .glyphs ≤ nb .result .glyph = omega (arith, (c .before .before .before .before .before .before .before .if1) .left) in
     let w = (c .before .before .put-sections) .ensures in
-    tried-done (a .kind) t (a .glyphs) (Lookup (a .at) (a .base)) (length (a .ends .now)) (a .out .now) ((c .before .before .put-sections) .last .1 .1 .1 .1 .1 .0) (a .to) ((c .before .before .put-sections) .result) (take (nu .result) fs) (take (pl .result .count) es) (take (pl .result .count) ns) (pass-sections (a .kind) t (a .glyphs) (a .at) (a .base) es ps ns fs (pl .result) (nu .result) (g .few) (g .short) (pl .ensures) all fits (nu .ensures)) (w .0) (w .1) (w .2)
+    tried-done (a .kind) t (a .glyphs) (Lookup (a .at) (a .base)) (length (a .ends .now)) (a .out .now) ((c .before .before .put-sections) .last .1 .1 .1 .1 .1 .0) (a .to) ((c .before .before .put-sections) .result) (take (nb .result .items) fs) (take (nb .result .stretches) es) (take (nb .result .stretches) ns)
+    (pass-sections (a .kind) t (a .glyphs) (a .at) (a .base) es ns fs (nb .result) (g .few) (g .short) (nb .ensures) all) (w .0) (w .1) (w .2)
 
 pub put-with-spec : {M : Type 1} → statement M
 put-with-spec =
     tie.close
     (tie.spec
-    place-items-requires
+    number-glyphs-requires
     same-length
     same-length-2
+    same-length-3
+    same-length-4
+    same-length-5
+    same-length-6
+    same-length-7
     returns
-    slice-reshare-prefix-number-items
-    slice-aggregate-number-items
-    number-items-requires
     slice-reshare-prefix-put-sections
     slice-aggregate-put-sections
     slice-reshare-prefix-put-sections-2
@@ -194,12 +169,12 @@ put-with-spec =
     slice-reshare-prefix-put-sections-3
     slice-aggregate-put-sections-3
     put-sections-requires
-    same-length-3
-    same-length-4
-    same-length-5
-    same-length-6
-    same-length-7
     same-length-8
     same-length-9
     same-length-10
+    same-length-11
+    same-length-12
+    same-length-13
+    same-length-14
+    same-length-15
     returns-2)

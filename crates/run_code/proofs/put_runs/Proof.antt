@@ -1,16 +1,6 @@
-use Prim.Native.Nat.{ℕ, _+_}
-use mathlib.Core.Path.{ap, sym, _∙_}
-use mathlib.Core.List.{List, _++_}
 use native.Mathlib.Omega.{arith}
-use native.Mathlib.Decide.{ℕ-discrete}
-use lib.Seq.{sets}
-use Rattle.fields.specs.Field.{be32}
-use Rattle.fields.specs.Stores.{sets-append}
-use Rattle.lists.specs.Codes.{many}
-use Rattle.lists.specs.Runs.{runs}
 use Rattle.run_code.specs.Spread.{spread}
-use Rattle.run_code.specs.RunCode.{lessCode, runBytes}
-use Rattle.run_code.proofs.Laws.{run-bytes, sets-before}
+use Rattle.run_code.proofs.Laws.{run-bytes, section-stored}
 use borrow.Author.Needs.{needs}
 use Rattle.run_code.proofs.put_runs.Statement.{statement}
 use Rattle.run_code.proofs.put_runs.Tie as tie
@@ -40,19 +30,13 @@ same-length : tie.Need-same-length
 same-length c = search needs
 
 returns : tie.Need-returns
-unfolding runBytes
 returns c =
     let a = (c .before .before .before .before .before .before .before .before .before .before .before .args) in
     let xs = spread 0 (a .ends .now) (a .nums .now) in
-    let rs = runs ℕ-discrete (a .skip) 0 xs in
-    let n = (c .before .before .before .before .before .before .put-each) in
-    let bs = many (lessCode (a .less)) rs in (
+    let n = (c .before .before .before .before .before .before .put-each) in (
       omega (arith, n .ensures .0, run-bytes (a .skip) (a .less) xs),
       omega (arith, n .ensures .1),
-      (c .before .before .put-u32) .ensures ∙ ap (λ (l : List ℕ). sets l (a .to) (be32 (n .result))) (n .ensures .2)
-          ∙ sets-before (be32 (n .result)) bs (a .out .now) (a .to) (a .to + 4) (omega arith)
-          ∙ sym (sets-append (be32 (n .result)) bs (a .out .now) (a .to))
-          ∙ ap (λ (k : ℕ). sets (a .out .now) (a .to) (be32 k ++ bs)) (n .ensures .0),
+      section-stored (a .skip) (a .less) xs (a .out .now) (n .last .1 .1 .1 .1 .0) _ (a .to) (n .result) (n .ensures .0) (n .ensures .2) ((c .before .before .put-u32) .ensures),
     )
 
 pub put-runs-spec : {M : Type 1} → statement M

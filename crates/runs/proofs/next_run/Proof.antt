@@ -1,4 +1,5 @@
 use mathlib.Core.Path.{sym, _∙_}
+use Rattle.lookup.proofs.Pass.{serves-inside}
 use Rattle.runs.proofs.Laws.{every-follows}
 use borrow.Author.Needs.{needs}
 use Rattle.runs.proofs.next_run.Statement.{statement}
@@ -23,10 +24,13 @@ returns-2 : tie.Need-returns-2
 returns-2 c = search needs
 
 units-run-requires : tie.Need-units-run-requires
-units-run-requires c κs = search needs
+units-run-requires c κs =
+    let k = c .before .before .before .pre in
+    let s = k .1 .1 .1 in
+    ((k .0, (k .1 .1 .0, s .near)), (c .before .if1 .left, (c .if2 .left, serves-inside _ _ _ (k .1 .1 .0) s)))
 
 returns-3 : tie.Need-returns-3
-returns-3 c = search needs
+returns-3 c = let k = c .before .before .before .before .pre in c .units-run .ensures _ (k .1 .0) (k .1 .1 .1)
 
 pub next-run-spec : {M : Type 1} → statement M
 next-run-spec =

@@ -1,3 +1,4 @@
+use native.Mathlib.Omega.{arith}
 use mathlib.Core.Path.{sym, subst}
 use denote.Ref.{now}
 use Rattle.runs.specs.Runs.{Follows}
@@ -7,17 +8,17 @@ use borrow.Author.Needs.{needs}
 use Rattle.runs.proofs.trimmed_run.Statement.{statement}
 use Rattle.runs.proofs.trimmed_run.Tie as tie
 
-add-u16-at : tie.Need-add-u16-at
-add-u16-at c = search needs
+add-u16-in : tie.Need-add-u16-in
+add-u16-in c = search needs
 
-u16-at-requires : tie.Need-u16-at-requires
-u16-at-requires c κs = search needs
+u16-in-requires : tie.Need-u16-in-requires
+u16-in-requires c κs = omega (arith, c .before .pre .1 .1 .1 .trimmed (c .before .pre .1 .1 .0))
 
-add-u16-at-2 : tie.Need-add-u16-at-2
-add-u16-at-2 c = search needs
+add-u16-in-2 : tie.Need-add-u16-in-2
+add-u16-in-2 c = search needs
 
-u16-at-requires-2 : tie.Need-u16-at-requires-2
-u16-at-requires-2 c κs = search needs
+u16-in-requires-2 : tie.Need-u16-in-requires-2
+u16-in-requires-2 c κs = omega (arith, c .before .before .pre .1 .1 .1 .trimmed (c .before .before .pre .1 .1 .0))
 
 larger-requires : tie.Need-larger-requires
 larger-requires c κs = search needs
@@ -33,7 +34,7 @@ returns c =
     let a = c .before .before .before .before .before .before .args in
     let k = c .before .before .before .before .before .before .pre in
     subst (λ (r : Run). Follows (now (a .table)) (a .at) (a .glyph) r) (sym (c .no-run .ensures))
-    (trimmed-ends _ _ _ _ (k .1 .1 .1) (k .1 .0) (k .0) _ _ (k .1 .1 .0) (c .before .before .before .before .u16-at .ensures .0) (c .before .before .before .u16-at2 .ensures .0) _ (c .before .before .larger .ensures) (c .before .if1 .taken))
+    (trimmed-ends _ _ _ _ (k .1 .1 .1) (k .1 .0) (k .0) _ _ (k .1 .1 .0) (c .before .before .before .before .u16-in .ensures .0) (c .before .before .before .u16-in2 .ensures .0) _ (c .before .before .larger .ensures) (c .before .if1 .taken))
 
 add-t8 : tie.Need-add-t8
 add-t8 c = search needs
@@ -53,16 +54,16 @@ add-t13 c = search needs
 returns-2 : tie.Need-returns-2
 returns-2 c =
     let k = c .before .before .before .before .before .pre in
-    trimmed-follows _ _ _ _ (k .1 .1 .1) (k .1 .0) (k .0) _ _ (k .1 .1 .0) (c .before .before .before .u16-at .ensures .0) (c .before .before .u16-at2 .ensures .0) _ (c .before .larger .ensures) (c .if1 .left) (c .before .before .before .u16-at .ensures .1)
+    trimmed-follows _ _ _ _ (k .1 .1 .1) (k .1 .0) (k .0) _ _ (k .1 .1 .0) (c .before .before .before .u16-in .ensures .0) (c .before .before .u16-in2 .ensures .0) _ (c .before .larger .ensures) (c .if1 .left) (c .before .before .before .u16-in .ensures .1)
 
 pub trimmed-run-spec : {M : Type 1} → statement M
 trimmed-run-spec =
     tie.close
     (tie.spec
-    add-u16-at
-    u16-at-requires
-    add-u16-at-2
-    u16-at-requires-2
+    add-u16-in
+    u16-in-requires
+    add-u16-in-2
+    u16-in-requires-2
     larger-requires
     add-if1
     no-run-requires

@@ -1,8 +1,9 @@
-use native.Mathlib.Omega.{arith}
-use Rattle.table.specs.Table.{tableFault}
-use Rattle.fields.specs.Laws.{then-stop, then-go}
+use mathlib.Core.Path.{sym, _∙_}
+use Rattle.values.proofs.Laws.{none-judged}
 use Rattle.table.proofs.Laws.{few-glyphs}
-use mathlib.Core.Path.{_≡_, refl, sym, ap, _∙_}
+use Rattle.fields.specs.Laws.{then-stop, then-go}
+use Rattle.table.specs.Table.{tableFault}
+use native.Mathlib.Omega.{arith}
 use borrow.Author.Needs.{needs}
 use Rattle.table.proofs.table_fault.Statement.{statement}
 use Rattle.table.proofs.table_fault.Tie as tie
@@ -20,31 +21,35 @@ returns c = let h = c .before .before .header-fault .ensures in h ∙ sym (then-
 enum-told-2 : tie.Need-enum-told-2
 enum-told-2 c = search needs
 
-u16-at-requires : tie.Need-u16-at-requires
-u16-at-requires c κs = search needs
+slice-aggregate-directions-fault : tie.Need-slice-aggregate-directions-fault
+slice-aggregate-directions-fault c = search needs
 
-direction-fault-requires : tie.Need-direction-fault-requires
-direction-fault-requires c κs = (search needs, omega (arith, few-glyphs _ _ (sym (c .before .before .before .header-fault .ensures) ∙ c .before .enum-told2 .given .1)))
-
-enum-told-3 : tie.Need-enum-told-3
-enum-told-3 c = search needs
+directions-fault-requires : tie.Need-directions-fault-requires
+directions-fault-requires c κs = (omega (arith, few-glyphs _ _ (sym (c .before .before .before .before .header-fault .ensures) ∙ c .before .before .enum-told2 .given .1)), none-judged _ _ 512)
 
 returns-2 : tie.Need-returns-2
 unfolding tableFault
-returns-2 c = let d = rw (c .before .before .before .u16-at .ensures .0) at (c .before .before .direction-fault .ensures) in d ∙ sym (then-go _ (sym (c .before .before .before .before .before .before .header-fault .ensures) ∙ c .before .before .before .before .enum-told2 .given .1) ∙ then-stop _ (sym d ∙ c .enum-told3 .given .1))
+returns-2 c = c .before .directions-fault .ensures ∙ sym (then-go _ (sym (c .before .before .before .before .before .before .header-fault .ensures) ∙ c .before .before .before .before .enum-told2 .given .1))
 
-enum-told-4 : tie.Need-enum-told-4
-enum-told-4 c = search needs
+slice-aggregate-directions-fault-2 : tie.Need-slice-aggregate-directions-fault-2
+slice-aggregate-directions-fault-2 c = search needs
 
-u16-at-requires-2 : tie.Need-u16-at-requires-2
-u16-at-requires-2 c κs = search needs
-
-direction-fault-requires-2 : tie.Need-direction-fault-requires-2
-direction-fault-requires-2 c κs = (search needs, omega (arith, few-glyphs _ _ (sym (c .before .before .before .before .before .before .before .header-fault .ensures) ∙ c .before .before .before .before .before .enum-told2 .given .1)))
+directions-fault-requires-2 : tie.Need-directions-fault-requires-2
+directions-fault-requires-2 c κs = (omega (arith, few-glyphs _ _ (sym (c .before .before .before .before .before .header-fault .ensures) ∙ c .before .before .before .enum-told2 .given .1)), none-judged _ _ 4096)
 
 returns-3 : tie.Need-returns-3
 unfolding tableFault
-returns-3 c = let d = rw (c .before .before .before .before .before .u16-at .ensures .0) at (c .before .before .before .before .direction-fault .ensures) in rw (c .before .u16-at2 .ensures .0) at (c .direction-fault2 .ensures) ∙ sym (then-go _ (sym (c .before .before .before .before .before .before .before .before .header-fault .ensures) ∙ c .before .before .before .before .before .before .enum-told2 .given .1) ∙ then-go _ (sym d ∙ c .before .before .enum-told4 .given .1))
+returns-3 c = c .before .directions-fault2 .ensures ∙ sym (then-go _ (sym (c .before .before .before .before .before .before .before .header-fault .ensures) ∙ c .before .before .before .before .before .enum-told2 .given .1))
+
+slice-aggregate-directions-fault-3 : tie.Need-slice-aggregate-directions-fault-3
+slice-aggregate-directions-fault-3 c = search needs
+
+directions-fault-requires-3 : tie.Need-directions-fault-requires-3
+directions-fault-requires-3 c κs = (omega (arith, few-glyphs _ _ (sym (c .before .before .before .before .before .header-fault .ensures) ∙ c .before .before .before .enum-told2 .given .1)), none-judged _ _ 32768)
+
+returns-4 : tie.Need-returns-4
+unfolding tableFault
+returns-4 c = c .before .directions-fault3 .ensures ∙ sym (then-go _ (sym (c .before .before .before .before .before .before .before .header-fault .ensures) ∙ c .before .before .before .before .before .enum-told2 .given .1))
 
 pub table-fault-spec : {M : Type 1} → statement M
 table-fault-spec =
@@ -54,11 +59,12 @@ table-fault-spec =
     enum-told
     returns
     enum-told-2
-    u16-at-requires
-    direction-fault-requires
-    enum-told-3
+    slice-aggregate-directions-fault
+    directions-fault-requires
     returns-2
-    enum-told-4
-    u16-at-requires-2
-    direction-fault-requires-2
-    returns-3)
+    slice-aggregate-directions-fault-2
+    directions-fault-requires-2
+    returns-3
+    slice-aggregate-directions-fault-3
+    directions-fault-requires-3
+    returns-4)

@@ -4,7 +4,7 @@ use native.Mathlib.Omega.{arith}
 use Rattle.fields.specs.Walk.{each, walk-stop, walk-next, walk-none}
 use Prim.Native.Nat.{_+_, _*_, _<_, _^_}
 use denote.Ref.{now}
-use Rattle.values.specs.Values.{itemFault, blockFault, Marked}
+use Rattle.values.specs.Values.{blockFault, Marked, Judged}
 use mathlib.Core.Path.{_≡_, refl, sym, _∙_}
 use Rattle.values.proofs.blocks_fault.Statement.{statement}
 use Rattle.values.proofs.blocks_fault.Tie as tie
@@ -12,7 +12,7 @@ use Rattle.values.proofs.blocks_fault.Tie as tie
 abbrev Inv-loop : tie.InvT-loop
 Inv-loop table glyphs kind base first count judged₀ blocks₀ block₀ left₀ judged blocks block left =
     (each (blockFault table glyphs kind base) (λ b. b + 2) count first ≡ each (blockFault table glyphs kind base) (λ b. b + 2) left block)
-    × (Marked (itemFault table glyphs kind) judged × Marked (blockFault table glyphs kind base) blocks)
+    × (Judged table glyphs judged × Marked (blockFault table glyphs kind base) blocks)
     × (length judged ≡ length judged₀)
     × (length blocks ≡ length blocks₀)
     × (block + 2 * left < 2 ^ 42)

@@ -6,7 +6,7 @@ use Rattle.fields.specs.Laws.{then-stop, then-go}
 use Rattle.fields.specs.Walk.{each, walk-none}
 use Prim.Native.Nat.{_+_, _-_}
 use denote.Ref.{now}
-use Rattle.values.specs.Values.{itemFault, blockFault, glyphFault, Marked}
+use Rattle.values.specs.Values.{blockFault, glyphFault, Marked, Judged}
 use Rattle.values.proofs.Laws.{run-end, run-judged, all-left}
 use mathlib.Core.Path.{_≡_, refl, sym, _∙_}
 use Rattle.values.proofs.glyphs_fault.Statement.{statement}
@@ -16,7 +16,7 @@ abbrev Inv-loop : tie.InvT-loop
 Inv-loop table glyphs kind at base judged₀ blocks₀ format cursor₀ glyph₀ judged blocks cursor glyph =
     (each (glyphFault table glyphs kind at base) (λ g. g + 1) glyphs 0 ≡ each (glyphFault table glyphs kind at base) (λ g. g + 1) (glyphs - glyph) glyph)
     × Serves table at glyph cursor
-    × (Marked (itemFault table glyphs kind) judged × Marked (blockFault table glyphs kind base) blocks)
+    × (Judged table glyphs judged × Marked (blockFault table glyphs kind base) blocks)
     × (length judged ≡ length judged₀)
     × (length blocks ≡ length blocks₀)
 
@@ -44,7 +44,7 @@ same-length-2 c = search needs
 returns : tie.Need-returns Inv-loop μ-loop
 returns c =
     let a = c .before .before .before .before .before .before .before .before .before .before .args in
-    sym (c .before .before .before .before .loop .inv .0 ∙ run-end (now (a .table)) (a .glyphs) (a .kind) (a .at) (a .base) (c .before .before .before .before .loop .glyph) _ (c .before .before .next-run .ensures) (c .before .before .before .before .before .before .before .before .before .before .pre .0 .1 .1 .0) (c .if1 .taken))
+    (sym (c .before .before .before .before .loop .inv .0 ∙ run-end (now (a .table)) (a .glyphs) (a .kind) (a .at) (a .base) (c .before .before .before .before .loop .glyph) _ (c .before .before .next-run .ensures) (c .before .before .before .before .before .before .before .before .before .before .pre .0 .1 .1 .0) (c .if1 .taken)), c .before .before .before .before .loop .inv .2 .0)
 
 run-fault-requires : tie.Need-run-fault-requires Inv-loop μ-loop
 run-fault-requires c κs =
@@ -62,11 +62,13 @@ same-length-4 c = search needs
 
 returns-2 : tie.Need-returns-2 Inv-loop μ-loop
 returns-2 c =
-    let a = c .before .before .before .before .before .before .before .before .before .before .before .before .before .before .before .before .before .before .before .args in
-    sym
-    (c .before .before .before .before .before .before .before .before .before .before .before .before .before .loop .inv .0
-    ∙ run-judged (now (a .table)) (a .glyphs) (a .kind) (a .at) (a .base) (c .before .before .before .before .before .before .before .before .before .before .before .before .before .loop .glyph) _ (c .before .before .before .before .before .before .before .before .before .before .before .next-run .ensures) (c .before .before .before .before .before .before .before .before .before .before .before .before .before .before .before .before .before .before .before .pre .0 .1 .1 .0) (c .before .before .before .before .before .before .before .before .before .if1 .left) _ (c .before .before .before .before .before .before .run-fault .ensures .0)
-    ∙ then-stop _ (c .enum-told .given .1))
+    let a = c .before .before .before .before .before .before .before .before .before .before .before .before .before .before .before .before .before .before .before .args in (
+      sym
+          (c .before .before .before .before .before .before .before .before .before .before .before .before .before .loop .inv .0
+          ∙ run-judged (now (a .table)) (a .glyphs) (a .kind) (a .at) (a .base) (c .before .before .before .before .before .before .before .before .before .before .before .before .before .loop .glyph) _ (c .before .before .before .before .before .before .before .before .before .before .before .next-run .ensures) (c .before .before .before .before .before .before .before .before .before .before .before .before .before .before .before .before .before .before .before .pre .0 .1 .1 .0) (c .before .before .before .before .before .before .before .before .before .if1 .left) _ (c .before .before .before .before .before .before .run-fault .ensures .0)
+          ∙ then-stop _ (c .enum-told .given .1)),
+      c .before .before .before .before .before .before .run-fault .ensures .1 .0,
+    )
 
 enum-told-2 : tie.Need-enum-told-2 Inv-loop μ-loop
 enum-told-2 c = search needs
@@ -96,7 +98,7 @@ same-length-6 c = search needs
 returns-3 : tie.Need-returns-3 Inv-loop μ-loop
 returns-3 c =
     let a = c .before .before .before .before .before .before .before .args in
-    sym (c .before .loop .inv .0 ∙ walk-none (λ p _. glyphFault (now (a .table)) (a .glyphs) (a .kind) (a .at) (a .base) p) (λ g. g + 1) (λ p. 0) _ _ _ (omega arith))
+    (sym (c .before .loop .inv .0 ∙ walk-none (λ p _. glyphFault (now (a .table)) (a .glyphs) (a .kind) (a .at) (a .base) p) (λ g. g + 1) (λ p. 0) _ _ _ (omega arith)), c .before .loop .inv .2 .0)
 
 pub glyphs-fault-spec : {M : Type 1} → statement M
 glyphs-fault-spec =

@@ -4,7 +4,7 @@ use native.Mathlib.Omega.{arith}
 use Rattle.fields.specs.Walk.{each, walk-stop, walk-next, walk-none}
 use Prim.Native.Nat.{_+_, _*_, _<_, _^_}
 use denote.Ref.{now}
-use Rattle.values.specs.Values.{itemFault, placeFault, Marked}
+use Rattle.values.specs.Values.{placeFault, Judged}
 use Rattle.values.proofs.Laws.{each-told}
 use mathlib.Core.Path.{_≡_, refl, sym, _∙_}
 use Rattle.values.proofs.stretch_fault.Statement.{statement}
@@ -13,7 +13,7 @@ use Rattle.values.proofs.stretch_fault.Tie as tie
 abbrev Inv-loop : tie.InvT-loop
 Inv-loop table glyphs kind base place count judged₀ p₀ left₀ judged p left =
     (each (placeFault table glyphs kind base) (λ q. q + 2) count place ≡ each (placeFault table glyphs kind base) (λ q. q + 2) left p)
-    × Marked (itemFault table glyphs kind) judged
+    × Judged table glyphs judged
     × (length judged ≡ length judged₀)
     × (p + 2 * left < 2 ^ 50)
 

@@ -1,7 +1,7 @@
-use mathlib.Core.Path.{sym, _∙_}
-use Rattle.values.proofs.Laws.{none-marked}
-use Rattle.fields.specs.Laws.{then-stop, then-go}
 use Rattle.values.specs.Values.{valuesFault}
+use Rattle.fields.specs.Laws.{then-stop, then-go}
+use Rattle.values.proofs.Laws.{none-marked}
+use mathlib.Core.Path.{sym, _∙_}
 use borrow.Author.Needs.{needs}
 use Rattle.values.proofs.values_fault.Statement.{statement}
 use Rattle.values.proofs.values_fault.Tie as tie
@@ -14,7 +14,7 @@ enum-told c = search needs
 
 returns : tie.Need-returns
 unfolding valuesFault
-returns c = let f = c .before .before .lookup-fault .ensures in f ∙ sym (then-stop _ (sym f ∙ c .enum-told .given .1))
+returns c = let f = c .before .before .lookup-fault .ensures in (f ∙ sym (then-stop _ (sym f ∙ c .enum-told .given .1)), c .before .before .before .before .before .pre .1)
 
 enum-told-2 : tie.Need-enum-told-2
 enum-told-2 c = search needs
@@ -22,41 +22,41 @@ enum-told-2 c = search needs
 slice-aggregate-glyphs-fault : tie.Need-slice-aggregate-glyphs-fault
 slice-aggregate-glyphs-fault c = search needs
 
-slice-aggregate-glyphs-fault-2 : tie.Need-slice-aggregate-glyphs-fault-2
-slice-aggregate-glyphs-fault-2 c = search needs
-
 glyphs-fault-requires : tie.Need-glyphs-fault-requires
-glyphs-fault-requires c κs = ((c .before .before .before .before .before .before .before .pre .0, (c .before .before .before .before .before .before .before .pre .1 .0, (c .before .before .before .before .before .before .before .pre .1 .1, sym (c .before .before .before .before .before .lookup-fault .ensures) ∙ c .before .before .before .enum-told2 .given .1))), (none-marked _ 1024, none-marked _ 64))
+glyphs-fault-requires c κs = ((c .before .before .before .before .before .before .before .before .pre .0 .0, (c .before .before .before .before .before .before .before .before .pre .0 .1 .0, (c .before .before .before .before .before .before .before .before .pre .0 .1 .1, sym (c .before .before .before .before .before .lookup-fault .ensures) ∙ c .before .before .before .enum-told2 .given .1))), (c .before .before .before .before .before .before .before .before .pre .1, none-marked _ 64))
+
+same-length : tie.Need-same-length
+same-length c = search needs
 
 returns-2 : tie.Need-returns-2
 unfolding valuesFault
-returns-2 c = c .before .before .glyphs-fault .ensures ∙ sym (then-go _ (sym (c .before .before .before .before .before .before .before .before .lookup-fault .ensures) ∙ c .before .before .before .before .before .before .enum-told2 .given .1))
+returns-2 c = (c .before .before .before .glyphs-fault .ensures .0 ∙ sym (then-go _ (sym (c .before .before .before .before .before .before .before .before .before .lookup-fault .ensures) ∙ c .before .before .before .before .before .before .before .enum-told2 .given .1)), c .before .before .before .glyphs-fault .ensures .1)
+
+slice-aggregate-glyphs-fault-2 : tie.Need-slice-aggregate-glyphs-fault-2
+slice-aggregate-glyphs-fault-2 c = search needs
+
+glyphs-fault-requires-2 : tie.Need-glyphs-fault-requires-2
+glyphs-fault-requires-2 c κs = ((c .before .before .before .before .before .before .before .before .before .pre .0 .0, (c .before .before .before .before .before .before .before .before .before .pre .0 .1 .0, (c .before .before .before .before .before .before .before .before .before .pre .0 .1 .1, sym (c .before .before .before .before .before .before .lookup-fault .ensures) ∙ c .before .before .before .before .enum-told2 .given .1))), (c .before .before .before .before .before .before .before .before .before .pre .1, none-marked _ 256))
+
+same-length-2 : tie.Need-same-length-2
+same-length-2 c = search needs
+
+returns-3 : tie.Need-returns-3
+unfolding valuesFault
+returns-3 c = (c .before .before .before .glyphs-fault2 .ensures .0 ∙ sym (then-go _ (sym (c .before .before .before .before .before .before .before .before .before .before .lookup-fault .ensures) ∙ c .before .before .before .before .before .before .before .before .enum-told2 .given .1)), c .before .before .before .glyphs-fault2 .ensures .1)
 
 slice-aggregate-glyphs-fault-3 : tie.Need-slice-aggregate-glyphs-fault-3
 slice-aggregate-glyphs-fault-3 c = search needs
 
-slice-aggregate-glyphs-fault-4 : tie.Need-slice-aggregate-glyphs-fault-4
-slice-aggregate-glyphs-fault-4 c = search needs
-
-glyphs-fault-requires-2 : tie.Need-glyphs-fault-requires-2
-glyphs-fault-requires-2 c κs = ((c .before .before .before .before .before .before .before .before .pre .0, (c .before .before .before .before .before .before .before .before .pre .1 .0, (c .before .before .before .before .before .before .before .before .pre .1 .1, sym (c .before .before .before .before .before .before .lookup-fault .ensures) ∙ c .before .before .before .before .enum-told2 .given .1))), (none-marked _ 4096, none-marked _ 256))
-
-returns-3 : tie.Need-returns-3
-unfolding valuesFault
-returns-3 c = c .before .before .glyphs-fault2 .ensures ∙ sym (then-go _ (sym (c .before .before .before .before .before .before .before .before .before .lookup-fault .ensures) ∙ c .before .before .before .before .before .before .before .enum-told2 .given .1))
-
-slice-aggregate-glyphs-fault-5 : tie.Need-slice-aggregate-glyphs-fault-5
-slice-aggregate-glyphs-fault-5 c = search needs
-
-slice-aggregate-glyphs-fault-6 : tie.Need-slice-aggregate-glyphs-fault-6
-slice-aggregate-glyphs-fault-6 c = search needs
-
 glyphs-fault-requires-3 : tie.Need-glyphs-fault-requires-3
-glyphs-fault-requires-3 c κs = ((c .before .before .before .before .before .before .before .before .pre .0, (c .before .before .before .before .before .before .before .before .pre .1 .0, (c .before .before .before .before .before .before .before .before .pre .1 .1, sym (c .before .before .before .before .before .before .lookup-fault .ensures) ∙ c .before .before .before .before .enum-told2 .given .1))), (none-marked _ 32768, none-marked _ 2048))
+glyphs-fault-requires-3 c κs = ((c .before .before .before .before .before .before .before .before .before .pre .0 .0, (c .before .before .before .before .before .before .before .before .before .pre .0 .1 .0, (c .before .before .before .before .before .before .before .before .before .pre .0 .1 .1, sym (c .before .before .before .before .before .before .lookup-fault .ensures) ∙ c .before .before .before .before .enum-told2 .given .1))), (c .before .before .before .before .before .before .before .before .before .pre .1, none-marked _ 2048))
+
+same-length-3 : tie.Need-same-length-3
+same-length-3 c = search needs
 
 returns-4 : tie.Need-returns-4
 unfolding valuesFault
-returns-4 c = c .before .before .glyphs-fault3 .ensures ∙ sym (then-go _ (sym (c .before .before .before .before .before .before .before .before .before .lookup-fault .ensures) ∙ c .before .before .before .before .before .before .before .enum-told2 .given .1))
+returns-4 c = (c .before .before .before .glyphs-fault3 .ensures .0 ∙ sym (then-go _ (sym (c .before .before .before .before .before .before .before .before .before .before .lookup-fault .ensures) ∙ c .before .before .before .before .before .before .before .before .enum-told2 .given .1)), c .before .before .before .glyphs-fault3 .ensures .1)
 
 pub values-fault-spec : {M : Type 1} → statement M
 values-fault-spec =
@@ -67,14 +67,14 @@ values-fault-spec =
     returns
     enum-told-2
     slice-aggregate-glyphs-fault
-    slice-aggregate-glyphs-fault-2
     glyphs-fault-requires
+    same-length
     returns-2
-    slice-aggregate-glyphs-fault-3
-    slice-aggregate-glyphs-fault-4
+    slice-aggregate-glyphs-fault-2
     glyphs-fault-requires-2
+    same-length-2
     returns-3
-    slice-aggregate-glyphs-fault-5
-    slice-aggregate-glyphs-fault-6
+    slice-aggregate-glyphs-fault-3
     glyphs-fault-requires-3
+    same-length-3
     returns-4)

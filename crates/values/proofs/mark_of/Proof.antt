@@ -1,0 +1,47 @@
+use mathlib.Core.Path.{ap, sym}
+use Rattle.values.specs.Values.{besides}
+use Rattle.values.specs.declared.Kind.{Kind}
+use borrow.Author.Needs.{needs}
+use Rattle.values.proofs.mark_of.Statement.{statement}
+use Rattle.values.proofs.mark_of.Tie as tie
+
+enum-told : tie.Need-enum-told
+enum-told c = search needs
+
+add-result : tie.Need-add-result
+add-result c = search needs
+
+cast-result : tie.Need-cast-result
+cast-result c = search needs
+
+enum-told-2 : tie.Need-enum-told-2
+enum-told-2 c = search needs
+
+mul-result : tie.Need-mul-result
+mul-result c = search needs
+
+add-result-2 : tie.Need-add-result-2
+add-result-2 c = search needs
+
+cast-result-2 : tie.Need-cast-result-2
+cast-result-2 c = search needs
+
+returns : tie.Need-returns
+returns c = ap (λ (k : Kind). besides k (c .before .before .args .mark)) (sym (c .enum-told .given .1))
+
+returns-2 : tie.Need-returns-2
+returns-2 c = ap (λ (k : Kind). besides k (c .before .before .args .mark)) (sym (c .enum-told2 .given .1))
+
+pub mark-of-spec : {M : Type 1} → statement M
+mark-of-spec =
+    tie.close
+    (tie.spec
+    enum-told
+    add-result
+    cast-result
+    enum-told-2
+    mul-result
+    add-result-2
+    cast-result-2
+    returns
+    returns-2)
