@@ -93,6 +93,21 @@ fn with_lists(values: &[u16]) -> Fields {
     head.ws(&[8, 0, values.len() as u16]).ws(values)
 }
 
+/// `units` units of format 2, ten glyphs apart, that lead in turn to `distinct` lists of three actions: a ligature of three
+/// components, a glyph that is added, and one that is added or substituted.
+pub fn lists(units: u16, distinct: u16) -> Vec<u8> {
+    let head = Fields::new().l(0x0001_0000).ws(&[0, 10, 0]).ws(&[0, 0, 22]).ws(&[8, 0, 0]);
+    let mut fields = head.ws(&[2, 6, units, 0, 0, 0]);
+    for unit in 0..units {
+        fields = fields.ws(&[10 * unit + 8, 10 * unit, 12 + 6 * units + 60 * (unit % distinct)]);
+    }
+    for number in 0..distinct {
+        fields = fields.l(3).ws(&[0, 0]).l(28).ls(&[0, 0x8000]).ws(&[1, 3, number, 1, 2, 0]);
+        fields = fields.ws(&[1, 1]).l(12).ws(&[number, 0]).ws(&[2, 2]).l(16).l(0x4000).ws(&[3, number]);
+    }
+    fields.done()
+}
+
 /// Lists of 64 actions that begin at each eighth byte, one to a glyph. The first 504 differ from each other and from the
 /// rest, after a long common beginning; the rest are all alike.
 pub fn alike_lists(count: u16) -> Vec<u8> {
@@ -102,6 +117,41 @@ pub fn alike_lists(count: u16) -> Vec<u8> {
     let words = with_lists(&values);
     // Each length, 64, is also the count of the list that begins there.
     (0..count + 8 * 64).fold(words, |fields, number| fields.l(64).ws(&[class(number), 4])).l(64).done()
+}
+
+/// Lists of 64 actions that begin at each eighth byte, one to a glyph, all alike.
+pub fn equal_lists(count: u16) -> Vec<u8> {
+    let values: Vec<u16> = (0..count).map(|number| 6 + 2 * count + 8 * number).collect();
+    (0..count + 8 * 64).fold(with_lists(&values), |fields, _| fields.l(64).ws(&[0, 3])).l(64).done()
+}
+
+/// Lists of 32 ligatures with 32 components each that begin at each twentieth byte, one to a glyph, all alike: five words
+/// that are by turns a class and type 0, a length, two limits, and the count of components or of a list's actions.
+pub fn ligature_lists(count: u16) -> Vec<u8> {
+    let values: Vec<u16> = (0..count).map(|number| 6 + 2 * count + 20 * number).collect();
+    (0..count + 160).fold(with_lists(&values), |fields, _| fields.ls(&[32, 0, 100, 0, 0])).l(32).done()
+}
+
+/// Units of format 4 that cover every glyph and share one array, for clusters and for lists: the action lookup is the width
+/// lookup. All values are one, which leads to a cluster from one base and to a list from the other.
+pub fn shared_lookup(width: u16) -> Vec<u8> {
+    let units = u16::MAX / width;
+    let array = 12 + 6 * units;
+    let value = array + 2 * width;
+    // After the list, of one action, the cluster.
+    let head = Fields::new().l(0x0001_0000).ws(&[0, 10, 0]).ws(&[0, 16 + 12, 16]);
+    let mut fields = head.ws(&[4, 6, units, 0, 0, 0]);
+    for unit in 0..units {
+        fields = fields.ws(&[unit * width + (width - 1), unit * width, array]);
+    }
+    let fields = (0..width).fold(fields, |fields, _| fields.w(value));
+    cluster(fields.l(1).ws(&[0, 3]).l(8), 7).done()
+}
+
+/// The same table with the vertical direction that the horizontal one is.
+pub fn both_ways(mut table: Vec<u8>) -> Vec<u8> {
+    table.copy_within(6..8, 8);
+    table
 }
 
 /// A table with a list of 64 actions for each of its glyphs, and an unlimited record.
@@ -137,10 +187,10 @@ pub fn line(table: Vec<u8>, n: u32, count: usize) -> LineCase {
     }
 }
 
-/// A meaning in which each glyph has a cluster, of `distinct` in turn; no table could hold many.
+/// A meaning in which each glyph has a cluster of one record, these in turn; no table could hold many.
 struct Spread {
     glyphs: u32,
-    distinct: u32,
+    records: Vec<WidthRecord>,
 }
 
 impl Parts for Spread {
@@ -162,7 +212,7 @@ impl Parts for Spread {
 
     fn width_record(&self, direction: Direction, glyph: u32, class: u32) -> Option<WidthRecord> {
         let asked = direction == Direction::Horizontal && class == 0;
-        asked.then(|| drafts::grows(0x1000, glyph % self.distinct, 0))
+        asked.then(|| self.records[glyph as usize % self.records.len()])
     }
 
     fn action(&self, _: Direction, _: u32, _: u32) -> Option<Action> {
@@ -172,5 +222,23 @@ impl Parts for Spread {
 
 /// The sheet of a meaning with so many glyphs and distinct clusters.
 pub fn sheet(glyphs: u32, distinct: u32) -> Vec<u8> {
-    sheet_of(&Spread { glyphs, distinct })
+    let records = (0..distinct).map(|number| drafts::grows(0x1000, number, 0)).collect();
+    sheet_of(&Spread { glyphs, records })
+}
+
+/// The sheet of a meaning whose clusters, one to a glyph and all different, find one slot when the library's reader tells
+/// them apart: it mixes a cluster's seven words by adding and multiplying, and a slot is the upper 17 bits. Given the fourth
+/// word, the after grow limit, the after shrink limit is one that leads there.
+pub fn one_slot(count: u32) -> Vec<u8> {
+    const FACTOR: u32 = 2_654_435_761;
+    let inverse = (0..5).fold(FACTOR, |x, _| x.wrapping_mul(2u32.wrapping_sub(FACTOR.wrapping_mul(x))));
+    let mixed = |words: &[u32]| words.iter().fold(0u32, |sum, word| sum.wrapping_add(*word).wrapping_mul(FACTOR));
+    let record = |after: u32| {
+        let before = mixed(&[1, 0, 0, 0, after]);
+        let lead = |last: u32| last.wrapping_mul(inverse).wrapping_mul(inverse).wrapping_sub(before);
+        let shrink = (0..1 << 15).map(lead).find(|&shrink| shrink <= 0x10_0000)?;
+        Some(WidthRecord { after_shrink: shrink, ..drafts::grows(0, after, 0) })
+    };
+    let records: Vec<WidthRecord> = (0..).filter_map(record).take(count as usize).collect();
+    sheet_of(&Spread { glyphs: count, records })
 }

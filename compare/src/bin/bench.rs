@@ -71,11 +71,16 @@ fn print_group(title: &str, cases: Vec<Case>) {
     cases.into_iter().filter(|case| case.name.contains(&words)).for_each(print_case);
 }
 
+/// The bytes of a table and of its sheet.
+fn bytes(table: &[u8], n: u32) -> usize {
+    table.len() + reference::sheet_length(table, n).expect("an accepted table")
+}
+
 fn check(name: &str, table: &[u8], n: u32) -> Case {
     let [ours, theirs] = [table.to_vec(), table.to_vec()];
     let library = move || Table { bytes: black_box(&ours), glyph_count: n }.check();
     let second = move || reference::check_table(black_box(&theirs), n);
-    Case::new(format!("check_table: {name}"), table.len(), library, second)
+    Case::new(format!("check_table: {name}"), bytes(table, n), library, second)
 }
 
 fn write(name: &str, table: &[u8], n: u32) -> Case {
@@ -84,14 +89,14 @@ fn write(name: &str, table: &[u8], n: u32) -> Case {
     let mut room = vec![0; length];
     let library = move || Table { bytes: black_box(&ours), glyph_count: n }.write_sheet(black_box(&mut room));
     let second = move || reference::write_sheet(black_box(&theirs), n);
-    Case::new(format!("write_sheet: {name}, sheet of {length} bytes"), table.len() + length, library, second)
+    Case::new(format!("write_sheet: {name}, sheet of {length} bytes"), bytes(table, n), library, second)
 }
 
 fn length(name: &str, table: &[u8], n: u32) -> Case {
     let [ours, theirs] = [table.to_vec(), table.to_vec()];
     let library = move || Table { bytes: black_box(&ours), glyph_count: n }.sheet_length();
     let second = move || reference::sheet_length(black_box(&theirs), n);
-    Case::new(format!("sheet_length: {name}"), table.len(), library, second)
+    Case::new(format!("sheet_length: {name}"), bytes(table, n), library, second)
 }
 
 fn sheet(name: &str, sheet: &[u8]) -> Case {
@@ -114,7 +119,7 @@ fn record(name: &str, sheet: &[u8], glyph: u16) -> Case {
 
 /// The whole call, with the table's check.
 fn line(name: &str, table: Vec<u8>, n: u32, count: usize) -> Case {
-    let bytes = table.len();
+    let bytes = bytes(&table, n);
     let ours = cases::line(table, n, count);
     let theirs = ours.clone();
     assert!(ours.justify().is_ok(), "{name} is refused");
@@ -136,13 +141,13 @@ fn sheet_by_reference(table: &[u8], n: u32) -> Vec<u8> {
 
 fn ordinary() -> Vec<Case> {
     let (apple, units, spread) = (complex(), cases::ranges(5_000, 13, 8), cases::ranges(1_500, 40, 500));
-    let (shared, rows) = (cases::shared_array(255, 1), cases::nested_rows());
+    let (rows, lists) = (cases::nested_rows(), cases::lists(600, 300));
     vec![
         check("Apple's simple example, N 280", &simple(), 280),
         check("Apple's complex example, N 280", &apple, 280),
         check("5,000 format 2 units, N 65,000", &units, 65_000),
         check("1,500 units, 500 distinct clusters, N 60,000", &spread, 60_000),
-        check("format 4 units that share one array, N 65,535", &shared, 65_535),
+        check("600 units, 300 distinct lists, N 6,000", &lists, 6_000),
         line("Apple's complex example", apple.clone(), 280, 60),
         line("Apple's complex example", apple.clone(), 280, 1_024),
         line("the same without its machine", cases::without_machine(), 280, 60),
@@ -151,6 +156,7 @@ fn ordinary() -> Vec<Case> {
         write("Apple's simple example, N 280", &simple(), 280),
         write("Apple's complex example, N 280", &apple, 280),
         write("1,500 units, 500 distinct clusters, N 60,000", &spread, 60_000),
+        write("600 units, 300 distinct lists, N 6,000", &lists, 6_000),
         write("clusters inside each other, N 1,200", &rows, 1_200),
         sheet("Apple's complex example", &sheet_by_reference(&apple, 280)),
         sheet("1,500 units, 500 distinct clusters", &sheet_by_reference(&spread, 60_000)),
@@ -162,16 +168,35 @@ fn ordinary() -> Vec<Case> {
 
 fn hostile() -> Vec<Case> {
     let (pairs, lists) = (cases::overlapping_pairs(3_200), cases::alike_lists(2_800));
+    let (equal, ligatures, shared) =
+        (cases::equal_lists(2_800), cases::ligature_lists(1_330), cases::shared_lookup(148));
+    let [equal_both, ligatures_both, shared_both] =
+        [&equal, &ligatures, &shared].map(|table| cases::both_ways(table.clone()));
+    let rows = cases::nested_rows();
     vec![
         check("3,200 clusters at each eighth byte", &pairs, 3_200),
+        check("clusters inside each other", &rows, 1_152),
+        check("clusters inside each other, both directions", &cases::both_ways(rows.clone()), 1_152),
         check("2,800 lists at each eighth byte", &lists, 2_800),
-        check("clusters inside each other", &cases::nested_rows(), 1_200),
+        check("2,800 equal lists at each eighth byte", &equal, 2_800),
+        check("2,800 equal lists at each eighth byte, both directions", &equal_both, 2_800),
+        check("1,330 equal lists of ligatures", &ligatures, 1_330),
+        check("1,330 equal lists of ligatures, both directions", &ligatures_both, 1_330),
+        check("one lookup for clusters and lists, N 65,535", &shared, 65_535),
+        check("one lookup for clusters and lists, both directions, N 65,535", &shared_both, 65_535),
         write("the empty table, N 65,535", &drafts::empty(), 65_535),
         write("one cluster, N 65,535", &cases::shared_array(255, 1), 65_535),
         write("one cluster at two places in turn, N 65,535", &cases::shared_array(255, 2), 65_535),
+        write("one lookup for clusters and lists, N 65,535", &shared, 65_535),
+        write("one lookup for clusters and lists, both directions, N 65,535", &shared_both, 65_535),
         write("3,200 clusters at each eighth byte, all different", &pairs, 3_200),
         write("3,200 clusters at each eighth byte, all with one print", &cases::one_print(3_200), 3_200),
         write("2,800 lists at each eighth byte with long common beginnings", &lists, 2_800),
+        write("2,800 equal lists at each eighth byte", &equal, 2_800),
+        write("2,800 equal lists at each eighth byte, both directions", &equal_both, 2_800),
+        write("1,330 equal lists of ligatures", &ligatures, 1_330),
+        write("1,330 equal lists of ligatures, both directions", &ligatures_both, 1_330),
+        sheet("20,000 clusters that find one slot", &cases::one_slot(20_000)),
         sheet("lists with long common beginnings", &sheet_by_reference(&lists, 2_800)),
         line("64 actions a glyph, all fire", cases::many_actions(), 4, 1_024),
         line("256 entries a glyph", cases::long_walk(), 1, 1_024),
