@@ -1,4 +1,4 @@
--- An item is none exactly where its count is read as 0.
+-- An item is none exactly where its count is read as 0; and an empty list says nothing of places that hold the same.
 use Prim.Native.Nat.{ℕ, _≤_}
 use mathlib.Core.Path.{_≡_, refl, sym, ap, _∙_}
 use mathlib.Core.List.{List, [], _∷_}
@@ -10,7 +10,7 @@ use Rattle.cluster.proofs.Laws.{cluster-length}
 use Rattle.actions.proofs.Laws.{list-length}
 use Rattle.values.specs.declared.Kind.{Kind}
 use Rattle.values.specs.declared.Kind.the-variants.{Clusters, Lists}
-use Rattle.item.specs.Items.{noItem, itemAt}
+use Rattle.item.specs.Items.{noItem, itemAt, Twins}
 
 empty : {A : Type 0} (l : List A) → length l ≡ 0 → l ≡ []
 empty [] h = refl
@@ -29,3 +29,6 @@ item-some Lists t at h e = h (sym (list-length t at) ∙ ap length (sym e))
 -- nothing stands past the table
 pub item-past : (kind : Kind) (t : List ℕ) (at : ℕ) → length t ≤ at → itemAt kind t at ≡ noItem kind
 item-past kind t at h = sym (item-none kind t at (u32At-past t at h))
+
+pub twins-none : (kind : Kind) (t : List ℕ) → Twins kind t []
+twins-none kind t = record { same = λ p h. absurd (h refl) }

@@ -5,10 +5,10 @@ use mathlib.Core.Bool.{Bool, true, false, cond}
 use mathlib.Core.List.{List, _∷_, map}
 use native.Mathlib.Omega.{arith}
 use native.Mathlib.Decide.{ℕ-discrete, decLt}
-use lib.Dec.{ltb}
+use lib.Dec.{eqb, ltb}
 use lib.ListN.{length, getD, set}
 use lib.Seq.{getD-set-other}
-use borrow.Author.Tests.{lt-ltb, le-ltb, ltb-true, ltb-false}
+use borrow.Author.Tests.{eq-eqb, ne-eqb, lt-ltb, le-ltb, ltb-true, ltb-false}
 use Rattle.fields.specs.Field.{u16At}
 use Rattle.lists.specs.Upto.{from}
 use Rattle.lookup.specs.declared.Found.{Found}
@@ -20,10 +20,10 @@ use Rattle.runs.specs.declared.Run.{Run}
 use Rattle.runs.specs.Runs.{placeOf, Follows}
 use Rattle.values.specs.declared.Kind.{Kind}
 use Rattle.values.specs.Values.{spotOf, blockPlace}
-use Rattle.item.specs.Items.{itemAt}
+use Rattle.item.specs.Items.{itemAt, Twins}
 use Rattle.item.proofs.Laws.{item-past}
 use Rattle.number.specs.Numbered.{Marked, Blank}
-use Rattle.places.specs.Places.{itemHere, glyphItem, spotPlace, valuePlace, runPlace, Agree, Carries, Lead, OneItem, Alike}
+use Rattle.places.specs.Places.{itemHere, glyphItem, spotPlace, valuePlace, runPlace, twinOf, Agree, Carries, Lead, OneItem, Alike}
 
 -- ---- what stands at a place
 
@@ -83,6 +83,26 @@ run-item kind t n at base glyph x r short few w h u l = go (ltb x (r .from)) ref
         let among : r .from ≤ x = ltb-false x (r .from) e in
         ap (itemAt kind t) (place-in kind t base (r .from) (r .place) (r .array) x among) ∙ value-there kind t base short (placeOf r x)
         ∙ sym (ap (λ (f : Found). itemHere kind t (spotOf kind base f)) (value-in t n at x l ∙ w .some x among u (omega arith)))
+
+-- ---- places that hold the same
+
+module _ (twins : List ℕ) (place : ℕ) where
+  pub twin-none : getD twins place 0 ≡ 0 → twinOf twins place ≡ place
+  unfolding twinOf
+  twin-none e = simp (eq-eqb (getD twins place 0) 0 e)
+
+  pub twin-some : (getD twins place 0 ≡ 0 → ⊥) → twinOf twins place ≡ getD twins place 0 - 1
+  unfolding twinOf
+  twin-some e = simp (ne-eqb (getD twins place 0) 0 e)
+
+  pub twin-item : (kind : Kind) (t : List ℕ) → Twins kind t twins → itemAt kind t (twinOf twins place) ≡ itemAt kind t place
+  twin-item kind t w = go (ℕ-discrete (getD twins place 0) 0)
+    where
+      go : Dec (getD twins place 0 ≡ 0) → itemAt kind t (twinOf twins place) ≡ itemAt kind t place
+      go (yes e) = ap (itemAt kind t) (twin-none e)
+      go (no e) = ap (itemAt kind t) (twin-some e) ∙ w .same place e
+
+-- ---- values
 
 -- one more value that is known to lead to the same
 pub marked-more : (kind : Kind) (t : List ℕ) (base : ℕ) (seen : List ℕ) (place number i q : ℕ)

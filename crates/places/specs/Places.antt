@@ -4,7 +4,7 @@ use Prim.Native.Nat.{ℕ, _+_, _-_, _*_, _≤_, _<_, _^_, min}
 use mathlib.Core.Path.{_≡_}
 use mathlib.Core.Bool.{Bool, cond}
 use mathlib.Core.List.{List, _∷_, _++_}
-use lib.Dec.{ltb}
+use lib.Dec.{eqb, ltb}
 use lib.ListN.{length, getD, take, replicate}
 use Rattle.fields.specs.declared.Fault.the-variants.{Clear}
 use Rattle.fields.specs.Field.{u16At}
@@ -56,6 +56,10 @@ valuePlace kind t base p = spotPlace (spotOf kind base (Value (u16At t p)))
 unfoldable pub runPlace : Kind → List ℕ → ℕ → ℕ → ℕ → Bool → ℕ → ℕ
 runPlace kind t base start place array glyph =
     cond (ltb glyph start) 65535 (valuePlace kind t base (cond array (place + 2 * (glyph - start)) place))
+
+-- the place that stands for a place in `twins`; the place itself where none does
+unfoldable pub twinOf : List ℕ → ℕ → ℕ
+twinOf twins place = cond (eqb (getD twins place 0) 0) place (getD twins place 0 - 1)
 
 -- places that are marked with one number have one item
 pub record Agree (kind : Kind) (t seen : List ℕ) : Type 0 where

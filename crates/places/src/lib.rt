@@ -6,10 +6,11 @@ ghost use lib.ListN.{length};
 ghost use Rattle.fields.specs.declared.Fault.the-variants.{Clear};
 ghost use Rattle.fields.specs.Field.{u16At};
 ghost use Rattle.lookup.specs.Lookup.{lookupFault};
+ghost use Rattle.item.specs.Items.{Twins};
 ghost use Rattle.number.specs.Numbered.{Marked, Blank};
 ghost use Rattle.lookup.specs.Pass.{Serves};
 ghost use Rattle.values.specs.Values.{blockPlace};
-ghost use Rattle.places.specs.Places.{glyphItem, valuePlace, runPlace, Agree, Lead, OneItem, Alike, Rooms, Stands, Passed};
+ghost use Rattle.places.specs.Places.{glyphItem, valuePlace, runPlace, twinOf, Agree, Lead, OneItem, Alike, Rooms, Stands, Passed};
 use actions::Spot;
 use lookup::Cursor;
 use lookup::Found;
@@ -58,6 +59,21 @@ fn run_place(
         return value_place(table, kind, base, place + 2 * (glyph - from));
     }
     value_place(table, kind, base, place)
+}
+
+// The place that `twins` has for a place, less 1, and whose item is the same; the place itself where it has none.
+fn twin_of(twins: &[u16], place: u16) -> u16
+    ensures { λ r. ⌜ r ≡ twinOf (now (twins .entry)) place ⌝ }
+{
+    let at = place as usize;
+    if twins.len() <= at {
+        return place;
+    }
+    let twin = twins[at];
+    if twin == 0 {
+        return place;
+    }
+    twin - 1
 }
 
 // How many of `count` values from `place` on lead, one after the other, to places that are known to have the item with
@@ -244,6 +260,7 @@ fn number_run(
     format: usize,
     at: usize,
     base: usize,
+    twins: &[u16],
     start: Way,
     ends: &mut [u16],
     nums: &mut [u16],
@@ -255,6 +272,7 @@ fn number_run(
 ) -> Way
     requires { ⌜ (at < 2 ^ 32) × ((base < 2 ^ 16) × ((glyphs < 2 ^ 16) × (format ≡ u16At (now table) at))) ⌝ }
     requires { ⌜ (length (now table) ≤ 2 ^ 15) × Rooms (length (now ends)) (length (now nums)) (length (now firsts)) (length (now others)) (length (now slots)) ⌝ }
+    requires { ⌜ Twins kind (now table) (now twins) ⌝ }
     requires { ⌜ Stands kind (now table) (glyphItem kind (now table) glyphs at base) glyphs (now ends) (now nums) (now firsts) (now others) (now slots) (now seen) (start .stretches) (start .items) (start .glyph) ⌝ }
     requires { ⌜ OneItem kind (now table) base (now blocks) ⌝ }
     requires { ⌜ (start .glyph < glyphs) × ((start .stretches < length (now ends)) × Serves (now table) at (start .glyph) (start .cursor)) ⌝ }
@@ -279,7 +297,8 @@ fn number_run(
             };
         }
         let place = run_place(table, kind, base, run.from, run.place, run.array, glyph);
-        let number = number::number_of(table, kind, firsts, others, slots, seen, items, place);
+        let twin = twin_of(twins, place);
+        let number = number::number_of(table, kind, firsts, others, slots, seen, items, twin);
         let end = stretch_end(
             table,
             kind,
@@ -306,14 +325,15 @@ fn number_run(
 }
 
 // Numbers what the lookup at `at`, which has no fault, gives the glyphs: `ends` and `nums` say by stretches of glyphs where
-// each ends and the number of its item, 0 for none; `firsts` has the places of the distinct items. The pass stops where
-// the room for stretches is full.
+// each ends and the number of its item, 0 for none; `firsts` has the places of the distinct items. Where `twins` has
+// another place for the same item, the item is looked at there only. The pass stops where the room for stretches is full.
 pub fn number_glyphs(
     table: &[u8],
     glyphs: usize,
     kind: Kind,
     at: usize,
     base: usize,
+    twins: &[u16],
     ends: &mut [u16],
     nums: &mut [u16],
     firsts: &mut [u16],
@@ -324,6 +344,7 @@ pub fn number_glyphs(
 ) -> Pass
     requires { ⌜ (at < 2 ^ 32) × ((base < 2 ^ 16) × ((glyphs < 2 ^ 16) × (lookupFault (now table) glyphs at ≡ Clear))) ⌝ }
     requires { ⌜ (length (now table) ≤ 2 ^ 15) × Rooms (length (now ends)) (length (now nums)) (length (now firsts)) (length (now others)) (length (now slots)) ⌝ }
+    requires { ⌜ Twins kind (now table) (now twins) ⌝ }
     requires { ⌜ Blank (now others) × (Blank (now slots) × (Blank (now seen) × Blank (now blocks))) ⌝ }
     ensures { λ r. ⌜ Passed kind (now (table .entry)) glyphs at base (now (ends .exit)) (now (nums .exit)) (now (firsts .exit)) r ⌝ }
 {
@@ -349,6 +370,7 @@ pub fn number_glyphs(
             format,
             at,
             base,
+            twins,
             way,
             ends,
             nums,

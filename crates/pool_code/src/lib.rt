@@ -8,7 +8,7 @@ ghost use lib.ListN.{length};
 ghost use lib.Seq.{sets};
 ghost use Rattle.fields.specs.Field.{be32};
 ghost use Rattle.lists.specs.Codes.{All, many};
-ghost use Rattle.item.specs.Items.{itemCode};
+ghost use Rattle.item.specs.Items.{itemCode, Twins};
 ghost use Rattle.number.specs.Numbered.{placed, Blank};
 ghost use Rattle.places.specs.Places.{Rooms};
 ghost use Rattle.run_code.specs.Spread.{Stretches};
@@ -55,13 +55,15 @@ fn put_sections(
 }
 
 // Stores the two sections for the lookup at `at`, and answers where they end; or, where the rooms do not hold all
-// stretches of glyphs that have the same, stores nothing and answers 0.
+// stretches of glyphs that have the same, stores nothing and answers 0. `twins`, here and below, tells of some places that
+// they hold the same as another.
 fn put_with(
     table: &[u8],
     glyphs: usize,
     kind: Kind,
     at: usize,
     base: usize,
+    twins: &[u16],
     ends: &mut [u16],
     nums: &mut [u16],
     firsts: &mut [u16],
@@ -72,7 +74,7 @@ fn put_with(
     out: &mut [u8],
     to: usize,
 ) -> usize
-    requires { ⌜ Ready kind (now table) glyphs (Source.Lookup at base) × (to < 2 ^ 38) ⌝ }
+    requires { ⌜ Ready kind (now table) glyphs (Source.Lookup at base) × (Twins kind (now table) (now twins) × (to < 2 ^ 38)) ⌝ }
     requires { ⌜ Rooms (length (now ends)) (length (now nums)) (length (now firsts)) (length (now others)) (length (now slots)) × (Blank (now others) × (Blank (now slots) × (Blank (now seen) × Blank (now blocks)))) ⌝ }
     ensures { λ r. ⌜ Tried kind (now (table .entry)) glyphs (Source.Lookup at base) (length (now (ends .entry))) (now (out .entry)) (now (out .exit)) to r ⌝ }
 {
@@ -82,6 +84,7 @@ fn put_with(
         kind,
         at,
         base,
+        twins,
         ends,
         nums,
         firsts,
@@ -105,10 +108,11 @@ fn put_small(
     kind: Kind,
     at: usize,
     base: usize,
+    twins: &[u16],
     out: &mut [u8],
     to: usize,
 ) -> usize
-    requires { ⌜ Ready kind (now table) glyphs (Source.Lookup at base) × (to < 2 ^ 38) ⌝ }
+    requires { ⌜ Ready kind (now table) glyphs (Source.Lookup at base) × (Twins kind (now table) (now twins) × (to < 2 ^ 38)) ⌝ }
     ensures { λ r. ⌜ Tried kind (now (table .entry)) glyphs (Source.Lookup at base) 128 (now (out .entry)) (now (out .exit)) to r ⌝ }
 {
     let mut ends = [0u16; 128];
@@ -124,6 +128,7 @@ fn put_small(
         kind,
         at,
         base,
+        twins,
         &mut ends,
         &mut nums,
         &mut firsts,
@@ -143,10 +148,11 @@ fn put_medium(
     kind: Kind,
     at: usize,
     base: usize,
+    twins: &[u16],
     out: &mut [u8],
     to: usize,
 ) -> usize
-    requires { ⌜ Ready kind (now table) glyphs (Source.Lookup at base) × (to < 2 ^ 38) ⌝ }
+    requires { ⌜ Ready kind (now table) glyphs (Source.Lookup at base) × (Twins kind (now table) (now twins) × (to < 2 ^ 38)) ⌝ }
     ensures { λ r. ⌜ Tried kind (now (table .entry)) glyphs (Source.Lookup at base) 4096 (now (out .entry)) (now (out .exit)) to r ⌝ }
 {
     let mut ends = [0u16; 4096];
@@ -162,6 +168,7 @@ fn put_medium(
         kind,
         at,
         base,
+        twins,
         &mut ends,
         &mut nums,
         &mut firsts,
@@ -181,10 +188,11 @@ fn put_large(
     kind: Kind,
     at: usize,
     base: usize,
+    twins: &[u16],
     out: &mut [u8],
     to: usize,
 ) -> usize
-    requires { ⌜ Ready kind (now table) glyphs (Source.Lookup at base) × (to < 2 ^ 38) ⌝ }
+    requires { ⌜ Ready kind (now table) glyphs (Source.Lookup at base) × (Twins kind (now table) (now twins) × (to < 2 ^ 38)) ⌝ }
     ensures { λ r. ⌜ Tried kind (now (table .entry)) glyphs (Source.Lookup at base) 65536 (now (out .entry)) (now (out .exit)) to r ⌝ }
 {
     let mut ends = [0u16; 65536];
@@ -200,6 +208,7 @@ fn put_large(
         kind,
         at,
         base,
+        twins,
         &mut ends,
         &mut nums,
         &mut firsts,
@@ -219,17 +228,18 @@ fn put_looked(
     kind: Kind,
     at: usize,
     base: usize,
+    twins: &[u16],
     out: &mut [u8],
     to: usize,
 ) -> usize
-    requires { ⌜ Ready kind (now table) glyphs (Source.Lookup at base) × (to < 2 ^ 38) ⌝ }
+    requires { ⌜ Ready kind (now table) glyphs (Source.Lookup at base) × (Twins kind (now table) (now twins) × (to < 2 ^ 38)) ⌝ }
     ensures { λ r. ⌜ Placed kind (now (table .entry)) glyphs (Source.Lookup at base) (now (out .entry)) (now (out .exit)) to r ⌝ }
 {
-    let end = put_medium(table, glyphs, kind, at, base, out, to);
+    let end = put_medium(table, glyphs, kind, at, base, twins, out, to);
     if 0 < end {
         return end;
     }
-    put_large(table, glyphs, kind, at, base, out, to)
+    put_large(table, glyphs, kind, at, base, twins, out, to)
 }
 
 // With small rooms if they are large enough.
@@ -239,17 +249,18 @@ fn put_lookup(
     kind: Kind,
     at: usize,
     base: usize,
+    twins: &[u16],
     out: &mut [u8],
     to: usize,
 ) -> usize
-    requires { ⌜ Ready kind (now table) glyphs (Source.Lookup at base) × (to < 2 ^ 38) ⌝ }
+    requires { ⌜ Ready kind (now table) glyphs (Source.Lookup at base) × (Twins kind (now table) (now twins) × (to < 2 ^ 38)) ⌝ }
     ensures { λ r. ⌜ Placed kind (now (table .entry)) glyphs (Source.Lookup at base) (now (out .entry)) (now (out .exit)) to r ⌝ }
 {
-    let end = put_small(table, glyphs, kind, at, base, out, to);
+    let end = put_small(table, glyphs, kind, at, base, twins, out, to);
     if 0 < end {
         return end;
     }
-    put_looked(table, glyphs, kind, at, base, out, to)
+    put_looked(table, glyphs, kind, at, base, twins, out, to)
 }
 
 // Stores two counts of 0.
@@ -267,10 +278,11 @@ pub fn put_pool(
     glyphs: usize,
     kind: Kind,
     source: Source,
+    twins: &[u16],
     out: &mut [u8],
     to: usize,
 ) -> usize
-    requires { ⌜ Ready kind (now table) glyphs source × (to < 2 ^ 38) ⌝ }
+    requires { ⌜ Ready kind (now table) glyphs source × (Twins kind (now table) (now twins) × (to < 2 ^ 38)) ⌝ }
     ensures { λ r. ⌜ Placed kind (now (table .entry)) glyphs source (now (out .entry)) (now (out .exit)) to r ⌝ }
 {
     let Source::Lookup { at, base } = source else {
@@ -278,7 +290,7 @@ pub fn put_pool(
         return to + 8;
     };
     if 512 < table.len() {
-        return put_looked(table, glyphs, kind, at, base, out, to);
+        return put_looked(table, glyphs, kind, at, base, twins, out, to);
     }
-    put_lookup(table, glyphs, kind, at, base, out, to)
+    put_lookup(table, glyphs, kind, at, base, twins, out, to)
 }

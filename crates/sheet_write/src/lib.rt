@@ -6,10 +6,12 @@ ghost use Prim.Native.Nat.{_≤_, _<_, _^_};
 ghost use lib.ListN.{length, take, drop};
 ghost use lib.Seq.{sets};
 ghost use Rattle.fields.specs.declared.Fault.the-variants.{Clear};
+ghost use Rattle.item.specs.Items.{Twins};
 ghost use Rattle.table.specs.Table.{tableFault};
 ghost use Rattle.sheet_write.specs.Written.{sheetOf, saysLength, saysWritten, sheetLength, Outcome, stored, written, Draft};
 use fields::Fault;
 use fields::Refusal;
+use values::Kind;
 
 // How long the sheet is, in bytes.
 pub enum LengthAnswer {
@@ -23,26 +25,27 @@ pub enum WriteAnswer {
     Refused(Refusal),
 }
 
-// Stores the sheet of an accepted table, and answers where it ends; what would stand past the room is dropped.
-fn put_sheet(table: &[u8], glyphs: usize, room: &mut [u8]) -> usize
-    requires { ⌜ tableFault (now table) glyphs ≡ Clear ⌝ }
+// Stores the sheet of an accepted table, and answers where it ends; what would stand past the room is dropped. `lists`, here
+// and below, tells of some places of lists that they hold the same as another.
+fn put_sheet(table: &[u8], glyphs: usize, lists: &[u16], room: &mut [u8]) -> usize
+    requires { ⌜ (tableFault (now table) glyphs ≡ Clear) × Twins Kind.Lists (now table) (now lists) ⌝ }
     ensures { λ r. ⌜ (r ≡ length (sheetOf (now (table .entry)) glyphs)) × (r < 2 ^ 32)
         × (now (room .exit) ≡ sets (now (room .entry)) 0 (sheetOf (now (table .entry)) glyphs)) ⌝ }
 {
     fields::put_u32(room, 0, glyphs as u32);
     let first = fields::u16_at(table, 6);
-    let end = side_write::put_side(table, glyphs, first, room, 4);
+    let end = side_write::put_side(table, glyphs, first, lists, room, 4);
     let second = fields::u16_at(table, 8);
-    side_write::put_side(table, glyphs, second, room, end)
+    side_write::put_side(table, glyphs, second, lists, room, end)
 }
 
 // The length of the sheet of an accepted table: where it ends in a room of no length.
-fn length_accepted(table: &[u8], glyphs: usize) -> usize
-    requires { ⌜ tableFault (now table) glyphs ≡ Clear ⌝ }
+fn length_accepted(table: &[u8], glyphs: usize, lists: &[u16]) -> usize
+    requires { ⌜ (tableFault (now table) glyphs ≡ Clear) × Twins Kind.Lists (now table) (now lists) ⌝ }
     ensures { λ r. ⌜ (r ≡ length (sheetOf (now (table .entry)) glyphs)) × (r < 2 ^ 32) ⌝ }
 {
     let mut none = [0u8; 0];
-    put_sheet(table, glyphs, &mut none)
+    put_sheet(table, glyphs, lists, &mut none)
 }
 
 // Stores the first `count` bytes of a list from the start of the room on.
@@ -58,57 +61,63 @@ fn copy(bytes: &[u8], count: usize, room: &mut [u8])
 }
 
 // Stores the sheet, which is `size` bytes long, into a room that is long enough: from the draft, if it fits there.
-fn put_again(table: &[u8], glyphs: usize, draft: &[u8], size: usize, room: &mut [u8])
+fn put_again(table: &[u8], glyphs: usize, lists: &[u16], draft: &[u8], size: usize, room: &mut [u8])
     requires { ⌜ (tableFault (now table) glyphs ≡ Clear) × ((size ≡ length (sheetOf (now table) glyphs)) × (size ≤ length (now room))) ⌝ }
-    requires { ⌜ Draft (sheetOf (now table) glyphs) (now draft) ⌝ }
+    requires { ⌜ Twins Kind.Lists (now table) (now lists) × Draft (sheetOf (now table) glyphs) (now draft) ⌝ }
     ensures { λ r. ⌜ now (room .exit) ≡ sheetOf (now (table .entry)) glyphs ++ drop size (now (room .entry)) ⌝ }
 {
     if size <= draft.len() {
         copy(draft, size, room);
     } else {
-        put_sheet(table, glyphs, room);
+        put_sheet(table, glyphs, lists, room);
     }
 }
 
 // Writes the sheet of an accepted table where the room is long enough. It is stored into `draft` first, which tells its
 // length before a byte of the room is changed.
-fn write_by(table: &[u8], glyphs: usize, draft: &mut [u8], room: &mut [u8]) -> WriteAnswer
-    requires { ⌜ tableFault (now table) glyphs ≡ Clear ⌝ }
+fn write_by(
+    table: &[u8],
+    glyphs: usize,
+    lists: &[u16],
+    draft: &mut [u8],
+    room: &mut [u8],
+) -> WriteAnswer
+    requires { ⌜ (tableFault (now table) glyphs ≡ Clear) × Twins Kind.Lists (now table) (now lists) ⌝ }
     ensures { λ r. ⌜ record { said = saysWritten r; room = now (room .exit) } ≡ stored (sheetOf (now (table .entry)) glyphs) (now (room .entry)) ⌝ }
 {
-    let size = put_sheet(table, glyphs, draft);
+    let size = put_sheet(table, glyphs, lists, draft);
     if room.len() < size {
         return WriteAnswer::Refused(Refusal::ShortRoom);
     }
-    put_again(table, glyphs, draft, size, room);
+    put_again(table, glyphs, lists, draft, size, room);
     WriteAnswer::Written(size as u32)
 }
 
 // With a draft for a small sheet, and for a larger one.
-fn write_small(table: &[u8], glyphs: usize, room: &mut [u8]) -> WriteAnswer
-    requires { ⌜ tableFault (now table) glyphs ≡ Clear ⌝ }
+fn write_small(table: &[u8], glyphs: usize, lists: &[u16], room: &mut [u8]) -> WriteAnswer
+    requires { ⌜ (tableFault (now table) glyphs ≡ Clear) × Twins Kind.Lists (now table) (now lists) ⌝ }
     ensures { λ r. ⌜ record { said = saysWritten r; room = now (room .exit) } ≡ stored (sheetOf (now (table .entry)) glyphs) (now (room .entry)) ⌝ }
 {
     let mut draft = [0u8; 1024];
-    write_by(table, glyphs, &mut draft, room)
+    write_by(table, glyphs, lists, &mut draft, room)
 }
 
-fn write_large(table: &[u8], glyphs: usize, room: &mut [u8]) -> WriteAnswer
-    requires { ⌜ tableFault (now table) glyphs ≡ Clear ⌝ }
+fn write_large(table: &[u8], glyphs: usize, lists: &[u16], room: &mut [u8]) -> WriteAnswer
+    requires { ⌜ (tableFault (now table) glyphs ≡ Clear) × Twins Kind.Lists (now table) (now lists) ⌝ }
     ensures { λ r. ⌜ record { said = saysWritten r; room = now (room .exit) } ≡ stored (sheetOf (now (table .entry)) glyphs) (now (room .entry)) ⌝ }
 {
     let mut draft = [0u8; 32768];
-    write_by(table, glyphs, &mut draft, room)
+    write_by(table, glyphs, lists, &mut draft, room)
 }
 
-fn write_accepted(table: &[u8], glyphs: usize, room: &mut [u8]) -> WriteAnswer
-    requires { ⌜ tableFault (now table) glyphs ≡ Clear ⌝ }
+fn write_accepted(table: &[u8], glyphs: usize, lists: &[u16], room: &mut [u8]) -> WriteAnswer
+    requires { ⌜ (tableFault (now table) glyphs ≡ Clear) × Twins Kind.Lists (now table) (now lists) ⌝ }
     ensures { λ r. ⌜ record { said = saysWritten r; room = now (room .exit) } ≡ stored (sheetOf (now (table .entry)) glyphs) (now (room .entry)) ⌝ }
 {
     if table.len() <= 512 {
-        return write_small(table, glyphs, room);
+        return write_small(table, glyphs, lists, room);
     }
-    write_large(table, glyphs, room)
+    write_large(table, glyphs, lists, room)
 }
 
 // The length of a table's sheet, without writing it, or the table's refusal.
@@ -119,7 +128,8 @@ pub fn sheet_length(table: &[u8], count: u32) -> LengthAnswer
     if let Fault::Bad { refusal, at: _ } = fault {
         return LengthAnswer::Refused(refusal);
     }
-    let length = length_accepted(table, count as usize);
+    let lists = [0u16; 0];
+    let length = length_accepted(table, count as usize, &lists);
     LengthAnswer::Length(length as u32)
 }
 
@@ -131,5 +141,6 @@ pub fn write_sheet(table: &[u8], count: u32, room: &mut [u8]) -> WriteAnswer
     if let Fault::Bad { refusal, at: _ } = fault {
         return WriteAnswer::Refused(refusal);
     }
-    write_accepted(table, count as usize, room)
+    let lists = [0u16; 0];
+    write_accepted(table, count as usize, &lists, room)
 }

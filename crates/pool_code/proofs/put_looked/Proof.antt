@@ -21,9 +21,9 @@ same-length-2 c = search needs
 
 returns-2 : tie.Need-returns-2
 returns-2 c =
-    let a = (c .before .before .before .before .before .before .before .before .before .before .before .args) in
-    tried-again (a .kind) (a .table .now) (a .glyphs) (Lookup (a .at) (a .base)) 4096 (a .out .now) ((c .before .before .before .before .before .before .before .put-medium) .last .1 .1 .1 .1 .1 .0) ((c .before .before .put-large) .last .1 .1 .1 .1 .1 .0) (a .to) ((c .before .before .before .before .before .before .before .put-medium) .result) ((c .before .before .put-large) .result) ((c .before .before .before .before .if1) .left) ((c .before .before .before .before .before .before .before .put-medium) .ensures)
-    (tried-all (a .kind) (a .table .now) (a .glyphs) (Lookup (a .at) (a .base)) ((c .before .before .before .before .before .before .before .put-medium) .last .1 .1 .1 .1 .1 .0) ((c .before .before .put-large) .last .1 .1 .1 .1 .1 .0) (a .to) ((c .before .before .put-large) .result) ((c .before .before .before .before .before .before .before .before .before .before .before .pre) .0 .few) ((c .before .before .put-large) .ensures))
+    let a = (c .before .before .before .before .before .before .before .before .before .before .before .before .args) in
+    tried-again (a .kind) (a .table .now) (a .glyphs) (Lookup (a .at) (a .base)) 4096 (a .out .now) ((c .before .before .before .before .before .before .before .put-medium) .last .1 .1 .1 .1 .1 .1 .0) ((c .before .before .put-large) .last .1 .1 .1 .1 .1 .1 .0) (a .to) ((c .before .before .before .before .before .before .before .put-medium) .result) ((c .before .before .put-large) .result) ((c .before .before .before .before .if1) .left) ((c .before .before .before .before .before .before .before .put-medium) .ensures)
+    (tried-all (a .kind) (a .table .now) (a .glyphs) (Lookup (a .at) (a .base)) ((c .before .before .before .before .before .before .before .put-medium) .last .1 .1 .1 .1 .1 .1 .0) ((c .before .before .put-large) .last .1 .1 .1 .1 .1 .1 .0) (a .to) ((c .before .before .put-large) .result) ((c .before .before .before .before .before .before .before .before .before .before .before .before .pre) .0 .few) ((c .before .before .put-large) .ensures))
 
 pub put-looked-spec : {M : Type 1} → statement M
 put-looked-spec =

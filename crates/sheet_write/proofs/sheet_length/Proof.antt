@@ -1,3 +1,5 @@
+use Rattle.values.specs.declared.Kind.the-variants.{Lists}
+use Rattle.item.proofs.Laws.{twins-none}
 use Rattle.sheet_write.proofs.Laws.{length-bad, length-clear}
 use mathlib.Core.Path.{sym, _∙_}
 use borrow.Author.Needs.{needs}
@@ -16,14 +18,17 @@ returns c = length-bad (c .before .before .before .before .before .args .table .
 enum-told : tie.Need-enum-told
 enum-told c = search needs
 
-length-accepted-requires : tie.Need-length-accepted-requires
-length-accepted-requires c κs = sym (c .before .before .table-fault .ensures) ∙ (c .enum-told .given .1)
+slice-aggregate-length-accepted : tie.Need-slice-aggregate-length-accepted
+slice-aggregate-length-accepted c = search needs
 
-cast-t7 : tie.Need-cast-t7
-cast-t7 c = search needs
+length-accepted-requires : tie.Need-length-accepted-requires
+length-accepted-requires c κs = (sym (c .before .before .before .table-fault .ensures) ∙ (c .before .enum-told .given .1), twins-none Lists _)
+
+cast-t10 : tie.Need-cast-t10
+cast-t10 c = search needs
 
 returns-2 : tie.Need-returns-2
-returns-2 c = length-clear (c .before .before .before .before .before .args .table .now) (c .before .before .before .before .before .args .count) (c .length-accepted .result) (sym (c .before .before .before .table-fault .ensures) ∙ (c .before .enum-told .given .1)) (c .length-accepted .ensures .0)
+returns-2 c = length-clear (c .before .before .before .before .before .before .args .table .now) (c .before .before .before .before .before .before .args .count) (c .length-accepted .result) (sym (c .before .before .before .before .table-fault .ensures) ∙ (c .before .before .enum-told .given .1)) (c .length-accepted .ensures .0)
 
 pub sheet-length-spec : {M : Type 1} → statement M
 sheet-length-spec =
@@ -33,6 +38,7 @@ sheet-length-spec =
     enum-known-fault
     returns
     enum-told
+    slice-aggregate-length-accepted
     length-accepted-requires
-    cast-t7
+    cast-t10
     returns-2)
