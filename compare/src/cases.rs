@@ -125,6 +125,33 @@ pub fn equal_lists(count: u16) -> Vec<u8> {
     (0..count + 8 * 64).fold(with_lists(&values), |fields, _| fields.l(64).ws(&[0, 3])).l(64).done()
 }
 
+/// Lists of 64 actions that begin at each eighth byte, of which each `period`-th of a chain has class 1: so many lists differ, after
+/// a common beginning that may be long.
+pub fn phased_lists(count: u16, period: u16) -> Vec<u8> {
+    let values: Vec<u16> = (0..count).map(|number| 6 + 2 * count + 8 * number).collect();
+    let class = |number: u16| u16::from(number / 8 % period == period - 1);
+    (0..count + 8 * 64).fold(with_lists(&values), |fields, number| fields.l(64).ws(&[class(number), 4])).l(64).done()
+}
+
+/// The same lists, all alike, in an order that leaps over the table, or only each second of a chain.
+pub fn leaping_lists(count: u16) -> Vec<u8> {
+    let place = |number: u16| 6 + 2 * count + 8 * (u32::from(number) * 1_009 % u32::from(count)) as u16;
+    let values: Vec<u16> = (0..count).map(place).collect();
+    (0..count + 8 * 64).fold(with_lists(&values), |fields, _| fields.l(64).ws(&[0, 4])).l(64).done()
+}
+
+/// Lists of 64 actions, all alike, that begin at each eighth byte, led to by two lookups: each direction has its own.
+pub fn twice_lists(count: u16) -> Vec<u8> {
+    let size = 6 + 2 * count;
+    let second = 22 + size;
+    let lists = second + 12 + size;
+    let values = |base: u16| (0..count).map(move |number| lists - base + 8 * number).collect::<Vec<u16>>();
+    let head = Fields::new().l(0x0001_0000).ws(&[0, 10, second]).ws(&[0, 0, 22]).ws(&[8, 0, 0]);
+    let first = head.ws(&[8, 0, count]).ws(&values(22)).ws(&[0, 0, second + 12]).ws(&[8, 0, 0]);
+    let fields = first.ws(&[8, 0, count]).ws(&values(second + 12));
+    (0..count + 8 * 64).fold(fields, |fields, _| fields.l(64).ws(&[0, 3])).l(64).done()
+}
+
 /// Lists of 32 ligatures with 32 components each that begin at each twentieth byte, one to a glyph, all alike: five words
 /// that are by turns a class and type 0, a length, two limits, and the count of components or of a list's actions.
 pub fn ligature_lists(count: u16) -> Vec<u8> {
@@ -146,6 +173,19 @@ pub fn shared_lookup(width: u16) -> Vec<u8> {
     }
     let fields = (0..width).fold(fields, |fields, _| fields.w(value));
     cluster(fields.l(1).ws(&[0, 3]).l(8), 7).done()
+}
+
+/// Units of format 4 that cover every glyph, each with an array of `width` values that begins `shift` values after that of the unit
+/// before it. All values lead to one cluster.
+pub fn shifted_arrays(width: u16, shift: u16) -> Vec<u8> {
+    let units = u16::MAX / width;
+    let array = 12 + 6 * units;
+    let values = width + shift * units;
+    let mut fields = head(16 + array + 2 * values).ws(&[4, 6, units, 0, 0, 0]);
+    for unit in 0..units {
+        fields = fields.ws(&[unit * width + (width - 1), unit * width, array + 2 * shift * unit]);
+    }
+    cluster((0..values).fold(fields, |fields, _| fields.w(0)), 7).done()
 }
 
 /// The same table with the vertical direction that the horizontal one is.

@@ -173,7 +173,17 @@ fn hostile() -> Vec<Case> {
     let [equal_both, ligatures_both, shared_both] =
         [&equal, &ligatures, &shared].map(|table| cases::both_ways(table.clone()));
     let rows = cases::nested_rows();
+    let (phased, leaping, twice) = (cases::phased_lists(2_800, 32), cases::leaping_lists(2_800), cases::twice_lists(2_300));
+    let shifted = cases::shifted_arrays(148, 1);
     vec![
+        check("2,800 lists in 32 phases", &phased, 2_800),
+        check("2,800 equal lists in another order", &leaping, 2_800),
+        check("2,300 equal lists, two lookups", &twice, 2_300),
+        check("format 4 arrays one after the other", &shifted, 65_416),
+        write("2,800 lists in 32 phases", &phased, 2_800),
+        write("2,800 equal lists in another order", &leaping, 2_800),
+        write("2,300 equal lists, two lookups", &twice, 2_300),
+        write("format 4 arrays one after the other", &shifted, 65_416),
         check("3,200 clusters at each eighth byte", &pairs, 3_200),
         check("clusters inside each other", &rows, 1_152),
         check("clusters inside each other, both directions", &cases::both_ways(rows.clone()), 1_152),

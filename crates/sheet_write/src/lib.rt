@@ -7,6 +7,7 @@ ghost use lib.ListN.{length, take, drop};
 ghost use lib.Seq.{sets};
 ghost use Rattle.fields.specs.declared.Fault.the-variants.{Clear};
 ghost use Rattle.item.specs.Items.{Twins};
+ghost use Rattle.values.specs.Values.{Judged};
 ghost use Rattle.table.specs.Table.{tableFault};
 ghost use Rattle.sheet_write.specs.Written.{sheetOf, saysLength, saysWritten, sheetLength, Outcome, stored, written, Draft};
 use fields::Fault;
@@ -93,15 +94,7 @@ fn write_by(
     WriteAnswer::Written(size as u32)
 }
 
-// With a draft for a small sheet, and for a larger one.
-fn write_small(table: &[u8], glyphs: usize, lists: &[u16], room: &mut [u8]) -> WriteAnswer
-    requires { ⌜ (tableFault (now table) glyphs ≡ Clear) × Twins Kind.Lists (now table) (now lists) ⌝ }
-    ensures { λ r. ⌜ record { said = saysWritten r; room = now (room .exit) } ≡ stored (sheetOf (now (table .entry)) glyphs) (now (room .entry)) ⌝ }
-{
-    let mut draft = [0u8; 1024];
-    write_by(table, glyphs, lists, &mut draft, room)
-}
-
+// With a draft for larger sheets. The lists are told apart where the marks say that they are crowded.
 fn write_large(table: &[u8], glyphs: usize, lists: &[u16], room: &mut [u8]) -> WriteAnswer
     requires { ⌜ (tableFault (now table) glyphs ≡ Clear) × Twins Kind.Lists (now table) (now lists) ⌝ }
     ensures { λ r. ⌜ record { said = saysWritten r; room = now (room .exit) } ≡ stored (sheetOf (now (table .entry)) glyphs) (now (room .entry)) ⌝ }
@@ -110,37 +103,108 @@ fn write_large(table: &[u8], glyphs: usize, lists: &[u16], room: &mut [u8]) -> W
     write_by(table, glyphs, lists, &mut draft, room)
 }
 
-fn write_accepted(table: &[u8], glyphs: usize, lists: &[u16], room: &mut [u8]) -> WriteAnswer
-    requires { ⌜ (tableFault (now table) glyphs ≡ Clear) × Twins Kind.Lists (now table) (now lists) ⌝ }
+// Where lists overlap much, those that hold the same are found first.
+fn write_crowded(table: &[u8], glyphs: usize, marks: &[u8], room: &mut [u8]) -> WriteAnswer
+    requires { ⌜ tableFault (now table) glyphs ≡ Clear ⌝ }
     ensures { λ r. ⌜ record { said = saysWritten r; room = now (room .exit) } ≡ stored (sheetOf (now (table .entry)) glyphs) (now (room .entry)) ⌝ }
 {
-    if table.len() <= 512 {
-        return write_small(table, glyphs, lists, room);
-    }
-    write_large(table, glyphs, lists, room)
+    let mut lists = [0u16; 32768];
+    twins::find_twins(table, marks, &mut lists);
+    write_large(table, glyphs, &lists, room)
 }
 
-// The length of a table's sheet, without writing it, or the table's refusal.
-pub fn sheet_length(table: &[u8], count: u32) -> LengthAnswer
-    ensures { λ r. ⌜ saysLength r ≡ sheetLength (now (table .entry)) count ⌝ }
+// Writes the sheet of a table that is judged by the marks which are lent.
+fn write_marked(table: &[u8], count: u32, marks: &mut [u8], room: &mut [u8]) -> WriteAnswer
+    requires { ⌜ Judged (now table) count (now marks) ⌝ }
+    ensures { λ r. ⌜ record { said = saysWritten r; room = now (room .exit) } ≡ written (now (table .entry)) count (now (room .entry)) ⌝ }
 {
-    let fault = table::table_fault(table, count);
+    let fault = table::fault_by(table, count, marks);
     if let Fault::Bad { refusal, at: _ } = fault {
-        return LengthAnswer::Refused(refusal);
+        return WriteAnswer::Refused(refusal);
     }
-    let lists = [0u16; 0];
-    let length = length_accepted(table, count as usize, &lists);
-    LengthAnswer::Length(length as u32)
+    let glyphs = count as usize;
+    if twins::is_crowded(table, marks) {
+        return write_crowded(table, glyphs, marks, room);
+    }
+    let none = [0u16; 0];
+    write_large(table, glyphs, &none, room)
 }
 
-// Writes a table's sheet into the first bytes of the room, or answers a refusal and changes nothing.
-pub fn write_sheet(table: &[u8], count: u32, room: &mut [u8]) -> WriteAnswer
+// Writes the sheet of a table of at most 512 bytes, whose lists are few.
+fn write_small(table: &[u8], count: u32, room: &mut [u8]) -> WriteAnswer
     ensures { λ r. ⌜ record { said = saysWritten r; room = now (room .exit) } ≡ written (now (table .entry)) count (now (room .entry)) ⌝ }
 {
     let fault = table::table_fault(table, count);
     if let Fault::Bad { refusal, at: _ } = fault {
         return WriteAnswer::Refused(refusal);
     }
-    let lists = [0u16; 0];
-    write_accepted(table, count as usize, &lists, room)
+    let none = [0u16; 0];
+    let mut draft = [0u8; 1024];
+    write_by(table, count as usize, &none, &mut draft, room)
+}
+
+// Writes a table's sheet into the first bytes of the room, or answers a refusal and changes nothing.
+pub fn write_sheet(table: &[u8], count: u32, room: &mut [u8]) -> WriteAnswer
+    ensures { λ r. ⌜ record { said = saysWritten r; room = now (room .exit) } ≡ written (now (table .entry)) count (now (room .entry)) ⌝ }
+{
+    if table.len() <= 512 {
+        return write_small(table, count, room);
+    }
+    if table.len() <= 4096 {
+        let mut marks = [0u8; 4096];
+        return write_marked(table, count, &mut marks, room);
+    }
+    let mut marks = [0u8; 32768];
+    write_marked(table, count, &mut marks, room)
+}
+
+// The length of the sheet of an accepted table whose lists overlap much.
+fn length_crowded(table: &[u8], glyphs: usize, marks: &[u8]) -> usize
+    requires { ⌜ tableFault (now table) glyphs ≡ Clear ⌝ }
+    ensures { λ r. ⌜ (r ≡ length (sheetOf (now (table .entry)) glyphs)) × (r < 2 ^ 32) ⌝ }
+{
+    let mut lists = [0u16; 32768];
+    twins::find_twins(table, marks, &mut lists);
+    length_accepted(table, glyphs, &lists)
+}
+
+// The length of the sheet of a table of at most 512 bytes, whose lists are few.
+fn length_small(table: &[u8], count: u32) -> LengthAnswer
+    ensures { λ r. ⌜ saysLength r ≡ sheetLength (now (table .entry)) count ⌝ }
+{
+    let fault = table::table_fault(table, count);
+    if let Fault::Bad { refusal, at: _ } = fault {
+        return LengthAnswer::Refused(refusal);
+    }
+    let none = [0u16; 0];
+    let length = length_accepted(table, count as usize, &none);
+    LengthAnswer::Length(length as u32)
+}
+
+// The length of the sheet of an accepted table whose lists are marked.
+fn length_marked(table: &[u8], glyphs: usize, marks: &[u8]) -> usize
+    requires { ⌜ tableFault (now table) glyphs ≡ Clear ⌝ }
+    ensures { λ r. ⌜ (r ≡ length (sheetOf (now (table .entry)) glyphs)) × (r < 2 ^ 32) ⌝ }
+{
+    if twins::is_crowded(table, marks) {
+        return length_crowded(table, glyphs, marks);
+    }
+    let none = [0u16; 0];
+    length_accepted(table, glyphs, &none)
+}
+
+// The length of a table's sheet, without writing it, or the table's refusal.
+pub fn sheet_length(table: &[u8], count: u32) -> LengthAnswer
+    ensures { λ r. ⌜ saysLength r ≡ sheetLength (now (table .entry)) count ⌝ }
+{
+    if table.len() <= 512 {
+        return length_small(table, count);
+    }
+    let mut marks = [0u8; 32768];
+    let fault = table::fault_by(table, count, &mut marks);
+    if let Fault::Bad { refusal, at: _ } = fault {
+        return LengthAnswer::Refused(refusal);
+    }
+    let length = length_marked(table, count as usize, &marks);
+    LengthAnswer::Length(length as u32)
 }

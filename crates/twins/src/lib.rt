@@ -1,0 +1,303 @@
+// Lists of actions that hold the same, found before they are numbered (document 01, "The sheet", section 7). Lists can
+// overlap, so that a table of 32 KB has thousands of them with up to 64 actions each, and comparing each with another one
+// action by action would cost far more than the table's bytes. Here eight actions that follow each other are named by one place
+// where the same eight stand, and lists are compared by these names. What is found is true; what is not found, as where
+// two numbers that tell where to look are the same, is left to whoever numbers the lists.
+ghost use mathlib.Core.Path.{_≡_};
+ghost use mathlib.Core.Bool.{true};
+ghost use Prim.Native.Nat.{_+_, _≤_, _<_, _^_};
+ghost use lib.ListN.{length, getD, set};
+ghost use Rattle.actions.specs.Actions.{actionsAt, listAt, placeAfter};
+ghost use Rattle.item.specs.Items.{Twins};
+ghost use Rattle.twins.specs.Eights.{Names, Eights};
+use values::Kind;
+
+const FACTOR: usize = 2654435761;
+
+// How far a way over actions goes: a number for those passed, and where the next one stands.
+struct Way {
+    print: usize,
+    at: usize,
+}
+
+// A number mixed with another.
+fn mixed(print: usize, word: usize) -> usize
+    requires { ⌜ (print < 2 ^ 32) × (word < 2 ^ 62) ⌝ }
+    ensures { λ r. ⌜ r < 2 ^ 32 ⌝ }
+{
+    (print + word) % 4294967296 * FACTOR % 4294967296
+}
+
+// The running sums of the words in `size` bytes, added up.
+fn weigh(table: &[u8], first: usize, size: usize) -> usize
+    requires { ⌜ (first < 2 ^ 60) × (size ≤ 76) ⌝ }
+    ensures { λ r. ⌜ r < 2 ^ 62 ⌝ }
+{
+    let mut at = first;
+    let mut left = size;
+    let mut sum: usize = 0;
+    let mut total: usize = 0;
+    while 3 < left {
+        sum += fields::u32_at(table, at);
+        total += sum;
+        at += 4;
+        left -= 4;
+    }
+    if left < 2 {
+        return total;
+    }
+    total + fields::u16_at(table, at)
+}
+
+// A number for the action at `at`, by its class, type and data, mixed with `print`.
+fn action_mixed(table: &[u8], at: usize, print: usize) -> usize
+    requires { ⌜ (at < 2 ^ 59) × (print < 2 ^ 32) ⌝ }
+    ensures { λ r. ⌜ r < 2 ^ 32 ⌝ }
+{
+    let head = fields::u32_at(table, at);
+    let kind = head % 65536;
+    let with = mixed(print, head);
+    if kind == 3 {
+        return with;
+    }
+    // the flags are ignored
+    if kind == 5 {
+        return mixed(with, fields::u16_at(table, at + 10));
+    }
+    let size = fields::lower(list_code::content_size(table, at, kind), 76);
+    mixed(with, weigh(table, at + 8, size))
+}
+
+// Past `count` actions from `first` on.
+fn pass(table: &[u8], first: usize, count: usize, before: usize) -> Way
+    requires { ⌜ (length (now table) ≤ 2 ^ 15) × ((first < 2 ^ 33) × (before < 2 ^ 32)) ⌝ }
+    ensures { λ r. ⌜ (r .print < 2 ^ 32) × (r .at ≡ placeAfter (now (table .entry)) count first) ⌝ }
+{
+    let mut at = first;
+    let mut left = count;
+    let mut print = before;
+    while 0 < left {
+        print = action_mixed(table, at, print);
+        at += fields::u32_at(table, at + 4);
+        left -= 1;
+    }
+    Way { print, at }
+}
+
+// What is known of the eight actions from `at` on, 0 past the end.
+fn eight_at(eights: &[u32], at: usize) -> usize
+    ensures { λ r. ⌜ (r ≡ getD (now (eights .entry)) at 0) × (r < 2 ^ 32) ⌝ }
+{
+    if at < eights.len() {
+        return eights[at] as usize;
+    }
+    0
+}
+
+// Keeps it; nothing past the end.
+fn put_eight(eights: &mut [u32], at: usize, number: u32)
+    ensures { λ r. ⌜ now (eights .exit) ≡ set (now (eights .entry)) at number ⌝ }
+{
+    if at < eights.len() {
+        eights[at] = number;
+    }
+}
+
+// A place where the same eight actions stand as from `first` on: the one that has the slot, or `first`, which then has it.
+fn place_by(table: &[u8], first: usize, slot: usize, slots: &mut [u16]) -> usize
+    requires { ⌜ (length (now table) ≤ 2 ^ 15) × ((first < 2 ^ 16) × (slot < length (now slots))) ⌝ }
+    ensures { λ r. ⌜ (actionsAt (now (table .entry)) 8 r ≡ actionsAt (now (table .entry)) 8 first) × (r < 2 ^ 16) ⌝ }
+{
+    let other = slots[slot] as usize;
+    if list_code::same_actions(table, other, first, 8) {
+        return other;
+    }
+    slots[slot] = first as u16;
+    first
+}
+
+// The number that tells of the eight actions from `first` on, 0 where they go too far past the table.
+fn name_of(table: &[u8], first: usize, eights: &mut [u32], slots: &mut [u16]) -> usize
+    requires { ⌜ (length (now table) ≤ 2 ^ 15) × ((first < 2 ^ 16) × (length (now slots) ≡ 8192)) ⌝ }
+    requires { ⌜ Eights (now table) (now eights) ⌝ }
+    ensures { λ r. ⌜ ((r ≡ 0 → ⊥) → Names (now (table .entry)) first r) × (r < 2 ^ 32) × Eights (now (table .entry)) (now (eights .exit)) ⌝ }
+{
+    let known = eight_at(eights, first);
+    if known != 0 {
+        return known;
+    }
+    let passed = pass(table, first, 8, 0);
+    if 65535 < passed.at {
+        return 0;
+    }
+    let place = place_by(table, first, passed.print / 1048576, slots);
+    let number = place * 65536 + passed.at;
+    put_eight(eights, first, number as u32);
+    number
+}
+
+// Where to look for the list at `place`: by the names of its eights and its last actions. 0 where that is not known.
+fn slot_of(table: &[u8], place: usize, eights: &mut [u32], slots: &mut [u16]) -> usize
+    requires { ⌜ (length (now table) ≤ 2 ^ 15) × ((place < 2 ^ 15) × (length (now slots) ≡ 8192)) ⌝ }
+    requires { ⌜ Eights (now table) (now eights) ⌝ }
+    ensures { λ r. ⌜ (r < 8192) × Eights (now (table .entry)) (now (eights .exit)) ⌝ }
+{
+    let count = fields::u32_at(table, place);
+    if 64 < count {
+        return 0;
+    }
+    let mut at = place + 4;
+    let mut left = count;
+    let mut print = count;
+    while 7 < left {
+        let number = name_of(table, at, eights, slots);
+        if number == 0 {
+            return 0;
+        }
+        print = mixed(print, number / 65536);
+        at = number % 65536;
+        left -= 8;
+    }
+    let passed = pass(table, at, left, print);
+    4096 + passed.print / 1048576
+}
+
+// Whether the lists at two places are seen to be the same: by the names of their eights, the last actions one by one.
+fn same_lists(table: &[u8], first: usize, second: usize, eights: &[u32]) -> bool
+    requires { ⌜ (length (now table) ≤ 2 ^ 15) × ((first < 2 ^ 16) × ((second < 2 ^ 16) × Eights (now table) (now eights))) ⌝ }
+    ensures { λ r. ⌜ (r ≡ true → listAt (now (table .entry)) first ≡ listAt (now (table .entry)) second) ⌝ }
+{
+    let count = fields::u32_at(table, first);
+    if count != fields::u32_at(table, second) {
+        return false;
+    }
+    let mut a = first + 4;
+    let mut b = second + 4;
+    let mut left = count;
+    while 7 < left {
+        let one = eight_at(eights, a);
+        let other = eight_at(eights, b);
+        if one == 0 {
+            return false;
+        }
+        if other == 0 {
+            return false;
+        }
+        if one / 65536 != other / 65536 {
+            return false;
+        }
+        a = one % 65536;
+        b = other % 65536;
+        left -= 8;
+    }
+    list_code::same_actions(table, a, b, left)
+}
+
+// Keeps that two places hold the same list; nothing past the end.
+fn put_twin(twins: &mut [u16], place: usize, other: u16)
+    requires { ⌜ other < 65535 ⌝ }
+    ensures { λ r. ⌜ now (twins .exit) ≡ set (now (twins .entry)) place (other + 1) ⌝ }
+{
+    if place < twins.len() {
+        twins[place] = other + 1;
+    }
+}
+
+// Looks for a place that holds the same list as `place`.
+fn find_twin(table: &[u8], place: usize, eights: &mut [u32], slots: &mut [u16], twins: &mut [u16])
+    requires { ⌜ (length (now table) ≤ 2 ^ 15) × ((place < 2 ^ 15) × (length (now slots) ≡ 8192)) ⌝ }
+    requires { ⌜ Eights (now table) (now eights) × Twins Kind.Lists (now table) (now twins) ⌝ }
+    ensures { λ r. ⌜ Eights (now (table .entry)) (now (eights .exit)) × Twins Kind.Lists (now (table .entry)) (now (twins .exit)) ⌝ }
+{
+    let slot = slot_of(table, place, eights, slots);
+    if slot == 0 {
+        return;
+    }
+    let other = slots[slot];
+    if other == 65535 {
+        return;
+    }
+    if same_lists(table, other as usize, place, eights) {
+        put_twin(twins, place, other);
+        return;
+    }
+    slots[slot] = place as u16;
+}
+
+// Which of four marks, read as one number, is the first that is odd; 4 where none is.
+fn first_odd(word: usize) -> usize
+    ensures { λ r. ⌜ r ≤ 4 ⌝ }
+{
+    if word == 0 {
+        return 4;
+    }
+    if word / 16777216 % 2 == 1 {
+        return 0;
+    }
+    if word / 65536 % 2 == 1 {
+        return 1;
+    }
+    if word / 256 % 2 == 1 {
+        return 2;
+    }
+    4 - word % 2
+}
+
+// The next position from `from` on at which a mark is odd, or a position past the marks.
+fn next_list(marks: &[u8], from: usize) -> usize
+    ensures { λ r. ⌜ from ≤ r ⌝ }
+{
+    let mut at = from;
+    while at < marks.len() {
+        let ahead = first_odd(fields::u32_at(marks, at));
+        if ahead < 4 {
+            return at + ahead;
+        }
+        at += 4;
+    }
+    at
+}
+
+// How many actions the lists have that are marked, an action of several lists counted for each.
+fn all_actions(table: &[u8], marks: &[u8]) -> usize
+    requires { ⌜ length (now table) ≤ 2 ^ 15 ⌝ }
+    ensures { λ r. ⌜ r < 2 ^ 62 ⌝ }
+{
+    let mut all: usize = 0;
+    let mut at = next_list(marks, 0);
+    while at < table.len() {
+        all += fields::lower(fields::u32_at(table, at), 64);
+        at = next_list(marks, at + 1);
+    }
+    all
+}
+
+// Looks for the twins of all lists that are marked.
+fn find_all(table: &[u8], marks: &[u8], eights: &mut [u32], slots: &mut [u16], twins: &mut [u16])
+    requires { ⌜ (length (now table) ≤ 2 ^ 15) × (length (now slots) ≡ 8192) ⌝ }
+    requires { ⌜ Eights (now table) (now eights) × Twins Kind.Lists (now table) (now twins) ⌝ }
+    ensures { λ r. ⌜ Twins Kind.Lists (now (table .entry)) (now (twins .exit)) ⌝ }
+{
+    let mut at = next_list(marks, 0);
+    while at < table.len() {
+        find_twin(table, at, eights, slots, twins);
+        at = next_list(marks, at + 1);
+    }
+}
+
+// Whether the lists that odd marks tell of overlap much: an action has at least eight bytes.
+pub fn is_crowded(table: &[u8], marks: &[u8]) -> bool
+    requires { ⌜ length (now table) ≤ 2 ^ 15 ⌝ }
+{
+    table.len() < 2 * all_actions(table, marks)
+}
+
+// Places that hold the same list, of the lists that odd marks tell of.
+pub fn find_twins(table: &[u8], marks: &[u8], twins: &mut [u16])
+    requires { ⌜ (length (now table) ≤ 2 ^ 15) × Twins Kind.Lists (now table) (now twins) ⌝ }
+    ensures { λ r. ⌜ Twins Kind.Lists (now (table .entry)) (now (twins .exit)) ⌝ }
+{
+    let mut eights = [0u32; 32768];
+    let mut slots = [0u16; 8192];
+    find_all(table, marks, &mut eights, &mut slots, twins);
+}
