@@ -1,8 +1,8 @@
 -- What stands at the places, the places of a run, and how far an item goes.
-use Prim.Native.Nat.{ℕ, zero, suc, _+_, _-_, _*_, _≤_, _<_, _^_, min}
+use Prim.Native.Nat.{ℕ, zero, suc, _+_, _-_, _*_, _≤_, _<_, _^_, min, max}
 use mathlib.Core.Path.{_≡_, refl, sym, ap, ap₂, _∙_, subst}
 use mathlib.Core.Bool.{Bool, true, false, cond}
-use mathlib.Core.List.{List, _∷_, map}
+use mathlib.Core.List.{List, [], _∷_, map}
 use native.Mathlib.Omega.{arith}
 use native.Mathlib.Decide.{ℕ-discrete, decLt}
 use lib.Dec.{eqb, ltb}
@@ -19,11 +19,11 @@ use Rattle.actions.specs.declared.Spot.the-variants.{At, Nowhere}
 use Rattle.runs.specs.declared.Run.{Run}
 use Rattle.runs.specs.Runs.{placeOf, Follows}
 use Rattle.values.specs.declared.Kind.{Kind}
-use Rattle.values.specs.Values.{spotOf, blockPlace}
+use Rattle.values.specs.Values.{spotOf}
 use Rattle.item.specs.Items.{itemAt, Twins}
 use Rattle.item.proofs.Laws.{item-past}
 use Rattle.number.specs.Numbered.{Marked, Blank}
-use Rattle.places.specs.Places.{itemHere, glyphItem, spotPlace, valuePlace, runPlace, twinOf, Agree, Carries, Lead, OneItem, Alike}
+use Rattle.places.specs.Places.{itemHere, glyphItem, spotPlace, valuePlace, runPlace, twinOf, Agree, Carries, Lead, Same, OneItem, Noted, Alike}
 
 -- ---- what stands at a place
 
@@ -104,23 +104,11 @@ module _ (twins : List ℕ) (place : ℕ) where
 
 -- ---- values
 
--- one more value that is known to lead to the same
-pub marked-more : (kind : Kind) (t : List ℕ) (base : ℕ) (seen : List ℕ) (place number i q : ℕ)
-    → ((j : ℕ) → j < i → Marked t seen (valuePlace kind t base (place + 2 * j)) number) → q ≡ valuePlace kind t base (place + 2 * i) → Marked t seen q number
-    → (j : ℕ) → j < i + 1 → Marked t seen (valuePlace kind t base (place + 2 * j)) number
-marked-more kind t base seen place number i q before e here j l = go (ℕ-discrete j i)
-  where
-    go : Dec (j ≡ i) → Marked t seen (valuePlace kind t base (place + 2 * j)) number
-    go (yes s) = subst (λ (p : ℕ). Marked t seen p number) (e ∙ ap (λ (k : ℕ). valuePlace kind t base (place + 2 * k)) (sym s)) here
-    go (no s) = before j (omega (arith, s))
-
--- a marked place carries its own number
-pub carries-own : (kind : Kind) (t seen : List ℕ) (p number : ℕ) → Marked t seen p number → Carries kind t seen p number
-carries-own kind t seen p number m = record { twin = p; item = refl; marked = m }
-
-pub lead-own : (kind : Kind) (t : List ℕ) (base : ℕ) (seen : List ℕ) (place number n : ℕ)
-    → ((i : ℕ) → i < n → Marked t seen (valuePlace kind t base (place + 2 * i)) number) → Lead kind t base seen place number n
-lead-own kind t base seen place number n m i l = carries-own kind t seen _ number (m i l)
+-- a place whose twin is marked with a number carries it
+pub carries-twin : (kind : Kind) (t twins seen : List ℕ) (p place twin number : ℕ) → Twins kind t twins → place ≡ p → twin ≡ twinOf twins place
+    → Marked t seen twin number → Carries kind t seen p number
+carries-twin kind t twins seen p place twin number w here e m =
+    record { twin = twin; item = sym (ap (itemAt kind t) e ∙ twin-item twins place kind t w ∙ ap (itemAt kind t) here); marked = m }
 
 -- values that lead to an item, and more of them after those
 pub lead-more : (kind : Kind) (t : List ℕ) (base : ℕ) (seen : List ℕ) (place number n more p : ℕ) → p ≡ place + 2 * n
@@ -133,42 +121,64 @@ lead-more kind t base seen place number n more p e before after i l = go (decLt 
         let z : p + 2 * (i - n) ≡ place + 2 * i = omega (arith, b) in
         subst (λ (q : ℕ). Carries kind t seen (valuePlace kind t base q) number) z (after (i - n) (omega (arith, b)))
 
--- ---- blocks
+-- values that are known to lead to one item, which the first is known to lead to
+pub lead-alike : (kind : Kind) (t : List ℕ) (base : ℕ) (seen alike : List ℕ) (p number n : ℕ) → OneItem kind t base alike
+    → Carries kind t seen (valuePlace kind t base p) number → n ≤ max 1 (getD alike p 0) → Lead kind t base seen p number n
+lead-alike kind t base seen alike p number n o c h i l = go (ℕ-discrete i 0)
+  where
+    go : Dec (i ≡ 0) → Carries kind t seen (valuePlace kind t base (p + 2 * i)) number
+    go (yes e) =
+        let z : p ≡ p + 2 * i = omega (arith, e) in
+        subst (λ (q : ℕ). Carries kind t seen (valuePlace kind t base q) number) z c
+    go (no e) = record { twin = c .twin; item = o .same p i (omega (arith, e)) ∙ c .item; marked = c .marked }
 
--- none is marked at first
-pub blocks-none : (kind : Kind) (t : List ℕ) (base : ℕ) (blocks : List ℕ) → Blank blocks → OneItem kind t base blocks
-blocks-none kind t base blocks b = record { same = λ block i e l. let z : _≡_ {A = ℕ} 0 1 = sym (b block) ∙ e in absurd (omega arith) }
+-- values that lead to the item that has one number lead to one item
+pub lead-same : (kind : Kind) (t : List ℕ) (base : ℕ) (seen : List ℕ) (place number n : ℕ) → Agree kind t seen → Lead kind t base seen place number n
+    → Same kind t base place n
+lead-same kind t base seen place number n a f i l =
+    let x = f i l in
+    let y = f 0 (omega arith) in
+    let z : place + 2 * 0 ≡ place = omega arith in
+    x .item ∙ a .same (x .twin) (y .twin) number (x .marked) (y .marked) ∙ sym (y .item) ∙ ap (λ (p : ℕ). itemAt kind t (valuePlace kind t base p)) z
 
-module _ (kind : Kind) (t : List ℕ) (base : ℕ) (seen blocks : List ℕ) (place block number : ℕ) (here : blockPlace block ≡ place) where
-  -- a marked block whose first value is known to lead to an item
-  pub block-known : getD blocks block 0 ≡ 1 → OneItem kind t base blocks → (q : ℕ) → q ≡ valuePlace kind t base place → Marked t seen q number
-      → Lead kind t base seen place number 16
-  block-known e o q here′ m i l =
-      let y : blockPlace block + 2 * i ≡ place + 2 * i = omega (arith, here) in
-      record {
-        twin = q;
-        item =
-            ap (λ (x : ℕ). itemAt kind t (valuePlace kind t base x)) (sym y)
-            ∙ o .same block i e l
-            ∙ ap (λ (x : ℕ). itemAt kind t (valuePlace kind t base x)) here
-            ∙ ap (itemAt kind t) (sym here′);
-        marked = m;
-      }
+-- ---- what is noted of values
 
-  -- a block whose values are all known to lead to an item is marked
-  pub block-marked : Agree kind t seen → OneItem kind t base blocks
-      → ((i : ℕ) → i < 16 → Marked t seen (valuePlace kind t base (place + 2 * i)) number) → OneItem kind t base (set blocks block 1)
-  block-marked a o m = record { same = λ b i e l. go b i e l (ℕ-discrete b block) }
-    where
-      go : (b i : ℕ) → getD (set blocks block 1) b 0 ≡ 1 → i < 16 → Dec (b ≡ block)
-          → itemAt kind t (valuePlace kind t base (blockPlace b + 2 * i)) ≡ itemAt kind t (valuePlace kind t base (blockPlace b))
-      go b i e l (yes q) =
-          let first : place + 2 * 0 ≡ blockPlace b = omega (arith, ap blockPlace q, here) in
-          let this : place + 2 * i ≡ blockPlace b + 2 * i = omega (arith, ap blockPlace q, here) in
-          ap (λ (p : ℕ). itemAt kind t (valuePlace kind t base p)) (sym this)
-          ∙ a .same _ _ number (m i l) (m 0 (omega arith))
-          ∙ ap (λ (p : ℕ). itemAt kind t (valuePlace kind t base p)) first
-      go b i e l (no q) = o .same b i (sym (getD-set-other blocks block b 1 0 q) ∙ e) l
+-- nothing at first
+pub alike-none : (kind : Kind) (t : List ℕ) (base : ℕ) (alike : List ℕ) → Blank alike → OneItem kind t base alike
+alike-none kind t base alike b = record { same = λ p i l. absurd (omega (arith, l, b p)) }
+
+set-most : (l : List ℕ) (p k : ℕ) → getD (set l p k) p 0 ≤ k
+set-most [] p k = omega arith
+set-most (x ∷ l) zero k = omega arith
+set-most (x ∷ l) (suc p) k = set-most l p k
+
+pub noted-none : (alike : List ℕ) (place n : ℕ) → Noted alike alike place n
+noted-none alike place n = record { holds = λ kind t base s o. o }
+
+-- no more than is true
+pub noted-set : (alike : List ℕ) (place n k : ℕ) → k ≤ n → Noted alike (set alike place k) place n
+noted-set alike place n k h = record { holds = λ kind t base s o. record { same = λ p i l. go kind t base s o p i l (ℕ-discrete p place) } }
+  where
+    go : (kind : Kind) (t : List ℕ) (base : ℕ) → Same kind t base place n → OneItem kind t base alike → (p i : ℕ) → i < getD (set alike place k) p 0 → Dec (p ≡ place)
+        → itemAt kind t (valuePlace kind t base (p + 2 * i)) ≡ itemAt kind t (valuePlace kind t base p)
+    go kind t base s o p i l (yes e) =
+        let few : i < k = omega (arith, l, set-most alike place k, ap (λ (q : ℕ). getD (set alike place k) q 0) e) in
+        subst (λ (q : ℕ). itemAt kind t (valuePlace kind t base (q + 2 * i)) ≡ itemAt kind t (valuePlace kind t base q)) (sym e) (s i (omega arith))
+    go kind t base s o p i l (no e) = o .same p i (omega (arith, l, getD-set-other alike place p k 0 e))
+
+-- the later ones of values that lead to one item
+same-later : (kind : Kind) (t : List ℕ) (base place n first p : ℕ) → first ≤ n → p ≡ place + 2 * first → Same kind t base place n → Same kind t base p (n - first)
+same-later kind t base place n first p h e s i l =
+    let z : p + 2 * i ≡ place + 2 * (first + i) = omega arith in
+    ap (λ (q : ℕ). itemAt kind t (valuePlace kind t base q)) z
+    ∙ s (first + i) (omega arith)
+    ∙ sym (s first (omega arith))
+    ∙ ap (λ (q : ℕ). itemAt kind t (valuePlace kind t base q)) (sym e)
+
+pub noted-later : (alike₀ alike alike′ : List ℕ) (place n first p : ℕ) → first ≤ n → p ≡ place + 2 * first → Noted alike₀ alike place n
+    → Noted alike alike′ p (n - first) → Noted alike₀ alike′ place n
+noted-later alike₀ alike alike′ place n first p h e before after =
+    record { holds = λ kind t base s o. after .holds kind t base (same-later kind t base place n first p h e s) (before .holds kind t base s o) }
 
 -- a pass that had room has come further where its room is full
 pub went-on : (g₀ g m₀ m room : ℕ) → g₀ ≤ g → (g ≤ g₀ → m ≡ m₀) → m₀ < room → room ≤ m → g₀ < g

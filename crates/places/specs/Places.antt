@@ -16,7 +16,7 @@ use Rattle.lookup.specs.Find.{valueOf}
 use Rattle.actions.specs.declared.Spot.{Spot}
 use Rattle.actions.specs.declared.Spot.the-variants.{At, Nowhere}
 use Rattle.values.specs.declared.Kind.{Kind}
-use Rattle.values.specs.Values.{spotOf, blockPlace}
+use Rattle.values.specs.Values.{spotOf}
 use Rattle.item.specs.Items.{Item, noItem, itemAt, item-discrete}
 use Rattle.number.specs.Numbered.{placed, distinctOf, Kept, Seen, Marked, Numbered}
 use Rattle.run_code.specs.Spread.{spread, Rise}
@@ -75,10 +75,17 @@ pub record Carries (kind : Kind) (t seen : List ℕ) (place number : ℕ) : Type
 abbrev pub Lead : Kind → List ℕ → ℕ → List ℕ → ℕ → ℕ → ℕ → Type 0
 Lead kind t base seen place number n = (i : ℕ) → i < n → Carries kind t seen (valuePlace kind t base (place + 2 * i)) number
 
--- the values of a marked block lead to one item
-pub record OneItem (kind : Kind) (t : List ℕ) (base : ℕ) (blocks : List ℕ) : Type 0 where
-  pub same : (block i : ℕ) → getD blocks block 0 ≡ 1 → i < 16
-      → itemAt kind t (valuePlace kind t base (blockPlace block + 2 * i)) ≡ itemAt kind t (valuePlace kind t base (blockPlace block))
+-- n values from `place` on lead to one item
+abbrev pub Same : Kind → List ℕ → ℕ → ℕ → ℕ → Type 0
+Same kind t base place n = (i : ℕ) → i < n → itemAt kind t (valuePlace kind t base (place + 2 * i)) ≡ itemAt kind t (valuePlace kind t base place)
+
+-- what stands for a position is a number of values from there on that lead to one item
+pub record OneItem (kind : Kind) (t : List ℕ) (base : ℕ) (alike : List ℕ) : Type 0 where
+  pub same : (p : ℕ) → Same kind t base p (getD alike p 0)
+
+-- nothing is noted but that n values from `place` on lead to one item: where they do, what is noted is true
+pub record Noted (alike₀ alike : List ℕ) (place n : ℕ) : Type 0 where
+  pub holds : (kind : Kind) (t : List ℕ) (base : ℕ) → Same kind t base place n → OneItem kind t base alike₀ → OneItem kind t base alike
 
 -- what `glyph` has goes up to the glyph e, in a run up to `until` or before it: the glyphs between have its place, or an item that is known to have its number
 pub record Alike (kind : Kind) (t : List ℕ) (base start until place : ℕ) (array : Bool) (glyph : ℕ) (seen : List ℕ) (number e : ℕ) : Type 0 where

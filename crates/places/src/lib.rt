@@ -1,16 +1,16 @@
 // What the glyphs have, clusters or action lists, numbered in order of first use (document 01, "The sheet", sections 5 to
 // 8), in one pass over the lookup: by stretches of glyphs that have the same.
 ghost use mathlib.Core.Path.{_≡_};
+ghost use mathlib.Core.Bool.{true};
 ghost use Prim.Native.Nat.{ℕ, _+_, _*_, _≤_, _<_, _^_};
 ghost use lib.ListN.{length};
 ghost use Rattle.fields.specs.declared.Fault.the-variants.{Clear};
 ghost use Rattle.fields.specs.Field.{u16At};
 ghost use Rattle.lookup.specs.Lookup.{lookupFault};
 ghost use Rattle.item.specs.Items.{Twins};
-ghost use Rattle.number.specs.Numbered.{Marked, Blank};
+ghost use Rattle.number.specs.Numbered.{Blank};
 ghost use Rattle.lookup.specs.Pass.{Serves};
-ghost use Rattle.values.specs.Values.{blockPlace};
-ghost use Rattle.places.specs.Places.{glyphItem, valuePlace, runPlace, twinOf, Agree, Lead, OneItem, Alike, Rooms, Stands, Passed};
+ghost use Rattle.places.specs.Places.{glyphItem, valuePlace, runPlace, twinOf, Agree, Carries, Lead, OneItem, Noted, Alike, Rooms, Stands, Passed};
 use actions::Spot;
 use lookup::Cursor;
 use lookup::Found;
@@ -76,125 +76,107 @@ fn twin_of(twins: &[u16], place: u16) -> u16
     twin - 1
 }
 
-// How many of `count` values from `place` on lead, one after the other, to places that are known to have the item with
-// this number.
+// Whether the value at `p` leads to the item that is known to have this number.
+fn leads(
+    table: &[u8],
+    kind: Kind,
+    base: usize,
+    twins: &[u16],
+    seen: &[u16],
+    p: usize,
+    number: u16,
+) -> bool
+    requires { ⌜ (base < 2 ^ 16) × Twins kind (now table) (now twins) ⌝ }
+    ensures { λ r. ⌜ (r ≡ true → Carries kind (now (table .entry)) (now (seen .entry)) (valuePlace kind (now (table .entry)) base p) number) ⌝ }
+{
+    let place = value_place(table, kind, base, p);
+    number::is_known(table, seen, twin_of(twins, place), number)
+}
+
+// How many values were found to lead to one item, and in how many turns.
+struct Led {
+    values: usize,
+    turns: usize,
+}
+
+// How many of `count` values from `place` on lead, one after the other, to the item that is known to have this number. Many
+// units of format 4 may share them: `alike` has by a value's position how many values from there on are known to lead to
+// one item, and those are passed in one turn.
 fn known_values(
     table: &[u8],
     kind: Kind,
     base: usize,
+    twins: &[u16],
     seen: &[u16],
+    alike: &[u8],
     place: usize,
     count: usize,
     number: u16,
-) -> usize
+) -> Led
     requires { ⌜ (base < 2 ^ 16) × (place + 2 * count < 2 ^ 42) ⌝ }
-    ensures { λ r. ⌜ (r ≤ count) × ((i : ℕ) → i < r → Marked (now (table .entry)) (now (seen .entry)) (valuePlace kind (now (table .entry)) base (place + 2 * i)) number) ⌝ }
+    requires { ⌜ Twins kind (now table) (now twins) × OneItem kind (now table) base (now alike) ⌝ }
+    ensures { λ r. ⌜ (r .values ≤ count) × Lead kind (now (table .entry)) base (now (seen .entry)) place number (r .values) ⌝ }
 {
-    let mut i: usize = 0;
-    while i < count {
-        if number::is_known(
-            table,
-            seen,
-            value_place(table, kind, base, place + 2 * i),
-            number,
-        ) {
-            i += 1;
+    let mut values: usize = 0;
+    let mut turns: usize = 0;
+    while values < count {
+        let p = place + 2 * values;
+        if leads(table, kind, base, twins, seen, p, number) {
+            let more = fields::larger(1, fields::u8_at(alike, p));
+            values += fields::lower(more, count - values);
+            turns += 1;
         } else {
-            return i;
+            return Led { values, turns };
         }
     }
-    i
+    Led { values, turns }
 }
 
-// The same for a block of values, which many units of format 4 may share: one that was found to lead to one item is
-// marked in `blocks`, and its first value tells of all.
-fn known_block(
-    table: &[u8],
-    kind: Kind,
-    base: usize,
-    seen: &[u16],
-    blocks: &mut [u8],
-    place: usize,
-    block: usize,
-    number: u16,
-) -> usize
-    requires { ⌜ (base < 2 ^ 16) × ((place + 32 < 2 ^ 42) × (blockPlace block ≡ place)) ⌝ }
-    requires { ⌜ Agree kind (now table) (now seen) × OneItem kind (now table) base (now blocks) ⌝ }
-    ensures { λ r. ⌜ (r ≤ 16) × Lead kind (now (table .entry)) base (now (seen .entry)) place number r × OneItem kind (now (table .entry)) base (now (blocks .exit)) ⌝ }
+// Notes that `count` values from `p` on lead to one item, or that 255 do, if fewer were known to.
+fn note(alike: &mut [u8], p: usize, count: usize)
+    ensures { λ r. ⌜ Noted (now (alike .entry)) (now (alike .exit)) p count ⌝ }
 {
-    if fields::u8_at(blocks, block) == 1 {
-        if number::is_known(table, seen, value_place(table, kind, base, place), number) {
-            return 16;
-        }
-        return 0;
+    if fields::u8_at(alike, p) < count {
+        fields::put_u8(alike, p, fields::lower(count, 255) as u8);
     }
-    let count = known_values(table, kind, base, seen, place, 16, number);
-    if count < 16 {
-        return count;
-    }
-    fields::put_u8(blocks, block, 1);
-    16
 }
 
-// The same for some of `count` values: up to the first block, or a block, or what is left after the last.
-fn known_next(
-    table: &[u8],
-    kind: Kind,
-    base: usize,
-    seen: &[u16],
-    blocks: &mut [u8],
-    place: usize,
-    count: usize,
-    number: u16,
-) -> usize
-    requires { ⌜ (base < 2 ^ 16) × (place + 2 * count < 2 ^ 42) ⌝ }
-    requires { ⌜ Agree kind (now table) (now seen) × OneItem kind (now table) base (now blocks) ⌝ }
-    ensures { λ r. ⌜ (r ≤ count) × Lead kind (now (table .entry)) base (now (seen .entry)) place number r × OneItem kind (now (table .entry)) base (now (blocks .exit)) ⌝ }
+// Notes that `count` values from `place` on lead to one item, for each of them: that those from it on do.
+fn note_each(alike: &mut [u8], place: usize, count: usize)
+    requires { ⌜ place + 2 * count < 2 ^ 42 ⌝ }
+    ensures { λ r. ⌜ Noted (now (alike .entry)) (now (alike .exit)) place count ⌝ }
 {
-    if count < 16 {
-        return known_values(table, kind, base, seen, place, count, number);
+    let mut first = count;
+    while 0 < first {
+        first -= 1;
+        note(alike, place + 2 * first, count - first);
     }
-    let front = values::front_of(place);
-    if 0 < front {
-        return known_values(table, kind, base, seen, place, front, number);
-    }
-    let block = values::block_at(place);
-    known_block(table, kind, base, seen, blocks, place, block, number)
 }
 
-// How many of `count` values from `place` on lead, one after the other, to the item that is known to have this number.
+// The same, and notes it for the next unit that shares these values; for each of them where they were passed in many turns,
+// so that a unit that shares only some of them finds it too. A stretch that was noted so is passed in fewer.
 fn same_values(
     table: &[u8],
     kind: Kind,
     base: usize,
+    twins: &[u16],
     seen: &[u16],
-    blocks: &mut [u8],
+    alike: &mut [u8],
     place: usize,
     count: usize,
     number: u16,
 ) -> usize
     requires { ⌜ (base < 2 ^ 16) × (place + 2 * count < 2 ^ 42) ⌝ }
-    requires { ⌜ Agree kind (now table) (now seen) × OneItem kind (now table) base (now blocks) ⌝ }
-    ensures { λ r. ⌜ (r ≤ count) × Lead kind (now (table .entry)) base (now (seen .entry)) place number r × OneItem kind (now (table .entry)) base (now (blocks .exit)) ⌝ }
+    requires { ⌜ Twins kind (now table) (now twins) × (Agree kind (now table) (now seen) × OneItem kind (now table) base (now alike)) ⌝ }
+    ensures { λ r. ⌜ (r ≤ count) × Lead kind (now (table .entry)) base (now (seen .entry)) place number r × OneItem kind (now (table .entry)) base (now (alike .exit)) ⌝ }
 {
-    let mut done: usize = 0;
-    while done < count {
-        let more = known_next(
-            table,
-            kind,
-            base,
-            seen,
-            blocks,
-            place + 2 * done,
-            count - done,
-            number,
-        );
-        if more == 0 {
-            return done;
-        }
-        done += more;
+    let led = known_values(table, kind, base, twins, seen, alike, place, count, number);
+    if 8 + led.values / 64 < led.turns {
+        note_each(alike, place, led.values);
+        return led.values;
     }
-    done
+    note(alike, place, led.values);
+    led.values
 }
 
 // How far the item with this number goes that `glyph` has, which stands in a run up to `until` or before it: to the
@@ -203,18 +185,19 @@ fn stretch_end(
     table: &[u8],
     kind: Kind,
     base: usize,
+    twins: &[u16],
     from: usize,
     until: usize,
     place: usize,
     array: bool,
     glyph: usize,
     seen: &[u16],
-    blocks: &mut [u8],
+    alike: &mut [u8],
     number: u16,
 ) -> usize
     requires { ⌜ (base < 2 ^ 16) × ((until < 2 ^ 16) × ((place < 2 ^ 41) × (glyph < until))) ⌝ }
-    requires { ⌜ Agree kind (now table) (now seen) × OneItem kind (now table) base (now blocks) ⌝ }
-    ensures { λ r. ⌜ Alike kind (now (table .entry)) base from until place array glyph (now (seen .entry)) number r × OneItem kind (now (table .entry)) base (now (blocks .exit)) ⌝ }
+    requires { ⌜ Twins kind (now table) (now twins) × (Agree kind (now table) (now seen) × OneItem kind (now table) base (now alike)) ⌝ }
+    ensures { λ r. ⌜ Alike kind (now (table .entry)) base from until place array glyph (now (seen .entry)) number r × OneItem kind (now (table .entry)) base (now (alike .exit)) ⌝ }
 {
     if glyph < from {
         return fields::lower(from, until);
@@ -228,8 +211,9 @@ fn stretch_end(
             table,
             kind,
             base,
+            twins,
             seen,
-            blocks,
+            alike,
             place + 2 * (next - from),
             until - next,
             number,
@@ -268,16 +252,16 @@ fn number_run(
     others: &mut [u16],
     slots: &mut [u16],
     seen: &mut [u16],
-    blocks: &mut [u8],
+    alike: &mut [u8],
 ) -> Way
     requires { ⌜ (at < 2 ^ 32) × ((base < 2 ^ 16) × ((glyphs < 2 ^ 16) × (format ≡ u16At (now table) at))) ⌝ }
     requires { ⌜ (length (now table) ≤ 2 ^ 15) × Rooms (length (now ends)) (length (now nums)) (length (now firsts)) (length (now others)) (length (now slots)) ⌝ }
     requires { ⌜ Twins kind (now table) (now twins) ⌝ }
     requires { ⌜ Stands kind (now table) (glyphItem kind (now table) glyphs at base) glyphs (now ends) (now nums) (now firsts) (now others) (now slots) (now seen) (start .stretches) (start .items) (start .glyph) ⌝ }
-    requires { ⌜ OneItem kind (now table) base (now blocks) ⌝ }
+    requires { ⌜ OneItem kind (now table) base (now alike) ⌝ }
     requires { ⌜ (start .glyph < glyphs) × ((start .stretches < length (now ends)) × Serves (now table) at (start .glyph) (start .cursor)) ⌝ }
     ensures { λ r. ⌜ Stands kind (now (table .entry)) (glyphItem kind (now (table .entry)) glyphs at base) glyphs (now (ends .exit)) (now (nums .exit)) (now (firsts .exit)) (now (others .exit)) (now (slots .exit)) (now (seen .exit)) (r .stretches) (r .items) (r .glyph)
-        × OneItem kind (now (table .entry)) base (now (blocks .exit)) × (start .glyph < r .glyph)
+        × OneItem kind (now (table .entry)) base (now (alike .exit)) × (start .glyph < r .glyph)
         × ((r .stretches < length (now (ends .entry)) → r .glyph < glyphs → Serves (now (table .entry)) at (r .glyph) (r .cursor))) ⌝ }
 {
     let mut stretches = start.stretches;
@@ -303,13 +287,14 @@ fn number_run(
             table,
             kind,
             base,
+            twins,
             run.from,
             until,
             run.place,
             run.array,
             glyph,
             seen,
-            blocks,
+            alike,
             number as u16,
         );
         stretches = run_code::extend(ends, nums, stretches, end as u16, number as u16);
@@ -340,12 +325,12 @@ pub fn number_glyphs(
     others: &mut [u16],
     slots: &mut [u16],
     seen: &mut [u16],
-    blocks: &mut [u8],
+    alike: &mut [u8],
 ) -> Pass
     requires { ⌜ (at < 2 ^ 32) × ((base < 2 ^ 16) × ((glyphs < 2 ^ 16) × (lookupFault (now table) glyphs at ≡ Clear))) ⌝ }
     requires { ⌜ (length (now table) ≤ 2 ^ 15) × Rooms (length (now ends)) (length (now nums)) (length (now firsts)) (length (now others)) (length (now slots)) ⌝ }
     requires { ⌜ Twins kind (now table) (now twins) ⌝ }
-    requires { ⌜ Blank (now others) × (Blank (now slots) × (Blank (now seen) × Blank (now blocks))) ⌝ }
+    requires { ⌜ Blank (now others) × (Blank (now slots) × (Blank (now seen) × Blank (now alike))) ⌝ }
     ensures { λ r. ⌜ Passed kind (now (table .entry)) glyphs at base (now (ends .exit)) (now (nums .exit)) (now (firsts .exit)) r ⌝ }
 {
     let format = fields::u16_at(table, at);
@@ -378,7 +363,7 @@ pub fn number_glyphs(
             others,
             slots,
             seen,
-            blocks,
+            alike,
         );
     }
     Pass {

@@ -70,12 +70,12 @@ fn put_with(
     others: &mut [u16],
     slots: &mut [u16],
     seen: &mut [u16],
-    blocks: &mut [u8],
+    alike: &mut [u8],
     out: &mut [u8],
     to: usize,
 ) -> usize
     requires { ⌜ Ready kind (now table) glyphs (Source.Lookup at base) × (Twins kind (now table) (now twins) × (to < 2 ^ 38)) ⌝ }
-    requires { ⌜ Rooms (length (now ends)) (length (now nums)) (length (now firsts)) (length (now others)) (length (now slots)) × (Blank (now others) × (Blank (now slots) × (Blank (now seen) × Blank (now blocks)))) ⌝ }
+    requires { ⌜ Rooms (length (now ends)) (length (now nums)) (length (now firsts)) (length (now others)) (length (now slots)) × (Blank (now others) × (Blank (now slots) × (Blank (now seen) × Blank (now alike)))) ⌝ }
     ensures { λ r. ⌜ Tried kind (now (table .entry)) glyphs (Source.Lookup at base) (length (now (ends .entry))) (now (out .entry)) (now (out .exit)) to r ⌝ }
 {
     let pass = places::number_glyphs(
@@ -91,7 +91,7 @@ fn put_with(
         others,
         slots,
         seen,
-        blocks,
+        alike,
     );
     if pass.glyph < glyphs {
         return 0;
@@ -121,7 +121,7 @@ fn put_small(
     let mut others = [0u16; 128];
     let mut slots = [0u16; 1021];
     let mut seen = [0u16; 512];
-    let mut blocks = [0u8; 32];
+    let mut alike = [0u8; 512];
     put_with(
         table,
         glyphs,
@@ -135,7 +135,7 @@ fn put_small(
         &mut others,
         &mut slots,
         &mut seen,
-        &mut blocks,
+        &mut alike,
         out,
         to,
     )
@@ -161,7 +161,7 @@ fn put_medium(
     let mut others = [0u16; 4096];
     let mut slots = [0u16; 1021];
     let mut seen = [0u16; 32768];
-    let mut blocks = [0u8; 2048];
+    let mut alike = [0u8; 32768];
     put_with(
         table,
         glyphs,
@@ -175,7 +175,7 @@ fn put_medium(
         &mut others,
         &mut slots,
         &mut seen,
-        &mut blocks,
+        &mut alike,
         out,
         to,
     )
@@ -201,7 +201,7 @@ fn put_large(
     let mut others = [0u16; 65536];
     let mut slots = [0u16; 1021];
     let mut seen = [0u16; 32768];
-    let mut blocks = [0u8; 2048];
+    let mut alike = [0u8; 32768];
     put_with(
         table,
         glyphs,
@@ -215,7 +215,7 @@ fn put_large(
         &mut others,
         &mut slots,
         &mut seen,
-        &mut blocks,
+        &mut alike,
         out,
         to,
     )

@@ -1,65 +1,70 @@
 use borrow.Author.Needs.{needs}
-use Rattle.places.proofs.Laws.{marked-more}
-use Rattle.places.specs.Places.{valuePlace}
-use Rattle.number.specs.Numbered.{Marked}
+use Rattle.places.proofs.Laws.{lead-more, lead-alike}
+use Rattle.places.specs.Places.{Lead}
 use native.Mathlib.Omega.{arith}
-use Prim.Native.Nat.{ℕ, _+_, _-_, _*_, _≤_, _<_}
+use mathlib.Core.Path.{refl}
+use Prim.Native.Nat.{_-_, _≤_}
 use Rattle.places.proofs.known_values.Statement.{statement}
 use Rattle.places.proofs.known_values.Tie as tie
-use Rattle.places.proofs.known_values.Reads as reads
-use Rattle.places.proofs.known_values.Lts as lts
-use Rattle.number.proofs.is_known.Reads as is-known-reads
-use Rattle.places.proofs.value_place.Reads as value-place-reads
 
 abbrev Inv-loop : tie.InvT-loop
-Inv-loop table kind base seen place count number i₀ i =
-    (i ≤ count) × ((j : ℕ) → j < i → Marked table seen (valuePlace kind table base (place + 2 * j)) number)
+Inv-loop table kind base twins seen alike place count number values₀ turns₀ values turns =
+    (values ≤ count) × Lead kind table base seen place number values × (turns ≤ values)
 
 abbrev μ-loop : tie.MeasureT-loop
-μ-loop table kind base seen place count number i₀ i = count - i
+μ-loop table kind base twins seen alike place count number values₀ turns₀ values turns = count - values
 
--- src/lib.rt:91:5
 loop-holds : tie.Need-loop-holds Inv-loop μ-loop
-loop-holds c = (omega arith, λ j l. absurd (omega arith))
+loop-holds c = (omega arith, (λ i l. absurd (omega arith)), omega arith)
 
--- src/lib.rt:92:81
-mul-value-place : tie.Need-mul-value-place Inv-loop μ-loop
-mul-value-place c = omega (arith, (c .before .before .before .before .pre) .1)
+mul-p : tie.Need-mul-p Inv-loop μ-loop
+mul-p c = omega (arith, (c .before .before .before .before .before .before .pre) .0 .1, (c .before .loop) .inv .0)
 
--- src/lib.rt:92:73
-add-value-place : tie.Need-add-value-place Inv-loop μ-loop
-add-value-place c = omega (arith, (c .before .before .before .before .pre) .1)
+add-p : tie.Need-add-p Inv-loop μ-loop
+add-p c = omega (arith, (c .before .before .before .before .before .before .pre) .0 .1, (c .before .loop) .inv .0)
 
--- src/lib.rt:92:42
-value-place-requires : tie.Need-value-place-requires Inv-loop μ-loop
-value-place-requires c κs = (c .before .before .before .before .pre) .0
+leads-requires : tie.Need-leads-requires Inv-loop μ-loop
+leads-requires c κs = ((c .before .before .before .before .before .before .pre) .0 .0, (c .before .before .before .before .before .before .pre) .1 .0)
 
--- src/lib.rt:92:12
-is-known-requires : tie.Need-is-known-requires Inv-loop μ-loop
-is-known-requires c κs = search needs
+u8-at-requires : tie.Need-u8-at-requires Inv-loop μ-loop
+u8-at-requires c κs = search needs
 
--- src/lib.rt:93:13
-add-i : tie.Need-add-i Inv-loop μ-loop
-add-i c = omega (arith, (c .before .before .before .before .before .before .before .pre) .1)
+larger-requires : tie.Need-larger-requires Inv-loop μ-loop
+larger-requires c κs = search needs
 
--- src/lib.rt:91:5
+sub-lower : tie.Need-sub-lower Inv-loop μ-loop
+sub-lower c = omega (arith, (c .before .before .before .before .before .loop) .inv .0)
+
+lower-requires : tie.Need-lower-requires Inv-loop μ-loop
+lower-requires c κs = search needs
+
+add-values : tie.Need-add-values Inv-loop μ-loop
+add-values c = omega (arith, (c .lower) .ensures, (c .before .before .before .before .before .before .loop) .inv .0, (c .before .before .before .before .before .before .before .before .before .before .before .pre) .0 .1)
+
+add-turns : tie.Need-add-turns Inv-loop μ-loop
+add-turns c = omega (arith, (c .before .before .before .before .before .before .loop) .inv .2, (c .before .before .before .before .before .before .loop) .inv .0, (c .before .before .before .before .before .before .before .before .before .before .before .pre) .0 .1)
+
 loop-less : tie.Need-loop-less Inv-loop μ-loop
-loop-less c = omega arith
+loop-less c = omega (arith, (c .lower) .ensures, (c .before .larger) .ensures, (c .before .before .before .before .before .loop-test) .taken)
 
--- src/lib.rt:91:5
 loop-again : tie.Need-loop-again Inv-loop μ-loop
 loop-again c =
-    let a = (c .before .before .before .before .before .before .before .args) in
-    let l = (c .before .before .before .before .loop) in
-    (omega arith, marked-more (a .kind) (a .table .now) (a .base) (a .seen .now) (a .place) (a .number) (l .i) _ (l .inv .1) ((c .before .before .value-place) .ensures) ((c .before .is-known) .ensures ((c .if1) .taken)))
+    let a = (c .before .before .before .before .before .before .before .before .before .before .before .args) in
+    let t = a .table .now in
+    let l = (c .before .before .before .before .before .before .loop) in
+    let n = (c .lower) in (
+      omega (arith, n .ensures, l .inv .0),
+      lead-more (a .kind) t (a .base) (a .seen .now) (a .place) (a .number) (l .values) (n .result) _ refl (l .inv .1)
+          (lead-alike (a .kind) t (a .base) (a .seen .now) (a .alike .now) _ (a .number) (n .result) ((c .before .before .before .before .before .before .before .before .before .before .before .pre) .1 .1) ((c .before .before .before .before .leads) .ensures ((c .before .before .before .if1) .taken))
+          (omega (arith, n .ensures, (c .before .larger) .ensures, (c .before .before .u8-at) .ensures .0))),
+      omega (arith, n .ensures, (c .before .larger) .ensures, l .inv .2, (c .before .before .before .before .before .loop-test) .taken),
+    )
 
--- src/lib.rt:95:13
 returns : tie.Need-returns Inv-loop μ-loop
-returns c = (c .before .before .before .before .loop) .inv
+returns c = let l = (c .before .before .before .loop) in (l .inv .0, l .inv .1)
 
--- src/lib.rt:78:1
 returns-2 : tie.Need-returns-2 Inv-loop μ-loop
-returns-2 c = (c .before .loop) .inv
+returns-2 c = let l = (c .before .loop) in (l .inv .0, l .inv .1)
 
 pub known-values-spec : {M : Type 1} → statement M
 known-values-spec =
@@ -68,11 +73,15 @@ known-values-spec =
     Inv-loop
     μ-loop
     loop-holds
-    mul-value-place
-    add-value-place
-    value-place-requires
-    is-known-requires
-    add-i
+    mul-p
+    add-p
+    leads-requires
+    u8-at-requires
+    larger-requires
+    sub-lower
+    lower-requires
+    add-values
+    add-turns
     loop-less
     loop-again
     returns

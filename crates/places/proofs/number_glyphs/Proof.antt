@@ -1,6 +1,6 @@
 use Rattle.places.proofs.Stands.{stands-none, passed}
 use Rattle.places.specs.Places.{glyphItem, OneItem, Stands}
-use Rattle.places.proofs.Laws.{blocks-none}
+use Rattle.places.proofs.Laws.{alike-none}
 use Rattle.lookup.specs.Pass.{Serves}
 use lib.ListN.{length}
 use native.Mathlib.Omega.{arith}
@@ -11,14 +11,14 @@ use Rattle.places.proofs.number_glyphs.Statement.{statement}
 use Rattle.places.proofs.number_glyphs.Tie as tie
 
 abbrev Inv-loop : tie.InvT-loop
-Inv-loop table glyphs kind at base twins ends₀ nums₀ firsts₀ others₀ slots₀ seen₀ blocks₀ format way₀ ends nums firsts others slots seen blocks way =
+Inv-loop table glyphs kind at base twins ends₀ nums₀ firsts₀ others₀ slots₀ seen₀ alike₀ format way₀ ends nums firsts others slots seen alike way =
     Stands kind table (glyphItem kind table glyphs at base) glyphs ends nums firsts others slots seen (way .stretches) (way .items) (way .glyph)
     × (way .stretches < length ends → way .glyph < glyphs → Serves table at (way .glyph) (way .cursor))
-    × (length ends ≡ length ends₀) × (length nums ≡ length nums₀) × (length firsts ≡ length firsts₀) × (length others ≡ length others₀) × (length slots ≡ length slots₀) × (length seen ≡ length seen₀) × (length blocks ≡ length blocks₀)
-    × OneItem kind table base blocks
+    × (length ends ≡ length ends₀) × (length nums ≡ length nums₀) × (length firsts ≡ length firsts₀) × (length others ≡ length others₀) × (length slots ≡ length slots₀) × (length seen ≡ length seen₀) × (length alike ≡ length alike₀)
+    × OneItem kind table base alike
 
 abbrev μ-loop : tie.MeasureT-loop
-μ-loop table glyphs kind at base twins ends₀ nums₀ firsts₀ others₀ slots₀ seen₀ blocks₀ format way₀ ends nums firsts others slots seen blocks way = glyphs - way .glyph
+μ-loop table glyphs kind at base twins ends₀ nums₀ firsts₀ others₀ slots₀ seen₀ alike₀ format way₀ ends nums firsts others slots seen alike way = glyphs - way .glyph
 
 u16-at-requires : tie.Need-u16-at-requires Inv-loop μ-loop
 u16-at-requires c κs = search needs
@@ -38,7 +38,7 @@ loop-holds c =
       refl,
       refl,
       refl,
-      blocks-none (a .kind) (a .table .now) (a .base) (a .blocks .now) ((c .before .before .before .before .before .before .before .before .before .before .before .pre) .1 .1 .1 .1 .1 .1),
+      alike-none (a .kind) (a .table .now) (a .base) (a .alike .now) ((c .before .before .before .before .before .before .before .before .before .before .before .pre) .1 .1 .1 .1 .1 .1),
     )
 
 same-length : tie.Need-same-length Inv-loop μ-loop

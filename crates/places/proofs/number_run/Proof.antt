@@ -12,14 +12,14 @@ use Rattle.places.proofs.number_run.Statement.{statement}
 use Rattle.places.proofs.number_run.Tie as tie
 
 abbrev Inv-loop : tie.InvT-loop
-Inv-loop table glyphs kind format at base twins ends₀ nums₀ firsts₀ others₀ slots₀ seen₀ blocks₀ stretches₀ items₀ glyph₀ run after until ends nums firsts others slots seen blocks stretches items glyph =
+Inv-loop table glyphs kind format at base twins ends₀ nums₀ firsts₀ others₀ slots₀ seen₀ alike₀ stretches₀ items₀ glyph₀ run after until ends nums firsts others slots seen alike stretches items glyph =
     Stands kind table (glyphItem kind table glyphs at base) glyphs ends nums firsts others slots seen stretches items glyph
     × (glyph₀ ≤ glyph) × (glyph ≤ glyph₀ → stretches ≡ stretches₀)
-    × (length ends ≡ length ends₀) × (length nums ≡ length nums₀) × (length firsts ≡ length firsts₀) × (length others ≡ length others₀) × (length slots ≡ length slots₀) × (length seen ≡ length seen₀) × (length blocks ≡ length blocks₀) × (glyph ≤ until)
-    × OneItem kind table base blocks
+    × (length ends ≡ length ends₀) × (length nums ≡ length nums₀) × (length firsts ≡ length firsts₀) × (length others ≡ length others₀) × (length slots ≡ length slots₀) × (length seen ≡ length seen₀) × (length alike ≡ length alike₀) × (glyph ≤ until)
+    × OneItem kind table base alike
 
 abbrev μ-loop : tie.MeasureT-loop
-μ-loop table glyphs kind format at base twins ends₀ nums₀ firsts₀ others₀ slots₀ seen₀ blocks₀ stretches₀ items₀ glyph₀ run after until ends nums firsts others slots seen blocks stretches items glyph = until - glyph
+μ-loop table glyphs kind format at base twins ends₀ nums₀ firsts₀ others₀ slots₀ seen₀ alike₀ stretches₀ items₀ glyph₀ run after until ends nums firsts others slots seen alike stretches items glyph = until - glyph
 
 next-run-requires : tie.Need-next-run-requires Inv-loop μ-loop
 next-run-requires c κs = ((c .before .before .before .before .before .before .before .before .before .before .pre) .0 .0, (omega (arith, (c .before .before .before .before .before .before .before .before .before .before .pre) .0 .1 .1 .0, (c .before .before .before .before .before .before .before .before .before .before .pre) .1 .1 .1 .1 .1 .0), ((c .before .before .before .before .before .before .before .before .before .before .pre) .0 .1 .1 .1, (c .before .before .before .before .before .before .before .before .before .before .pre) .1 .1 .1 .1 .1 .1 .1)))
@@ -83,7 +83,7 @@ stretch-end-requires c κs =
     let nb = (c .before .before .before .before .before .before .before .before .before .before .number-of) in
     let l = (c .before .before .before .before .before .before .before .before .before .before .before .before .before .before .before .before .before .before .before .loop) in
     let marks = seen-agree (a .kind) (a .table .now) (nb .last .1 .1 .0) (nb .last .1 .1 .1 .1 .1 .0) _ (omega (arith, nb .ensures .2, nb .kept, l .inv .0 .few, (c .before .before .before .before .before .before .before .before .before .before .before .before .before .before .before .before .before .before .before .before .before .before .before .before .before .before .before .before .before .before .before .before .before .pre) .1 .0 .1 .distinct, l .inv .3, l .inv .5, (c .before .before .before .before .before .before .before .before .before .before .before .before .before .before .before .before .before .if1) .left)) (nb .ensures .1) in
-    (((c .before .before .before .before .before .before .before .before .before .before .before .before .before .before .before .before .before .before .before .before .before .before .before .before .before .before .before .before .before .before .before .before .before .pre) .0 .1 .0, (omega (arith, (c .before .before .before .before .before .before .before .before .before .before .before .before .before .before .before .before .before .before .before .before .before .before .before .before .before .before .before .before .before .before .before .before .before .pre) .0 .1 .1 .0, (c .before .before .before .before .before .before .before .before .before .before .before .before .before .before .before .before .before .before .before .before .lower) .ensures), ((c .before .before .before .before .before .before .before .before .before .before .before .before .before .before .before .before .before .before .before .before .before .before .next-run) .ensures .near, (c .before .before .before .before .before .before .before .before .before .before .before .before .before .before .before .before .before .before .loop-test) .taken))), (marks, l .inv .11))
+    (((c .before .before .before .before .before .before .before .before .before .before .before .before .before .before .before .before .before .before .before .before .before .before .before .before .before .before .before .before .before .before .before .before .before .pre) .0 .1 .0, (omega (arith, (c .before .before .before .before .before .before .before .before .before .before .before .before .before .before .before .before .before .before .before .before .before .before .before .before .before .before .before .before .before .before .before .before .before .pre) .0 .1 .1 .0, (c .before .before .before .before .before .before .before .before .before .before .before .before .before .before .before .before .before .before .before .before .lower) .ensures), ((c .before .before .before .before .before .before .before .before .before .before .before .before .before .before .before .before .before .before .before .before .before .before .next-run) .ensures .near, (c .before .before .before .before .before .before .before .before .before .before .before .before .before .before .before .before .before .before .loop-test) .taken))), ((c .before .before .before .before .before .before .before .before .before .before .before .before .before .before .before .before .before .before .before .before .before .before .before .before .before .before .before .before .before .before .before .before .before .pre) .1 .1 .0, (marks, l .inv .11)))
 
 cast-extend : tie.Need-cast-extend Inv-loop μ-loop
 cast-extend c = omega (arith, (c .before .before .before .before .stretch-end) .ensures .0 .most, (c .before .before .before .before .before .before .before .before .before .before .before .before .before .before .before .before .before .before .before .before .before .before .before .before .before .lower) .ensures, (c .before .before .before .before .before .before .before .before .before .before .before .before .before .before .before .before .before .before .before .before .before .before .before .before .before .before .before .before .before .before .before .before .before .before .before .before .before .before .pre) .0 .1 .1 .0)
