@@ -106,26 +106,34 @@ fn directions_fault(table: &[u8], glyphs: usize, judged: &mut [u8]) -> Fault
     direction_fault(table, glyphs, second, judged)
 }
 
-// The first fault of a table read with a glyph count.
-pub fn table_fault(table: &[u8], count: u32) -> Fault
+// The first fault of a table read with a glyph count, by marks that are lent: one for each position of the table, blank or left
+// by judging the same table with the same count. Where there are fewer, more is judged twice.
+pub fn fault_by(table: &[u8], count: u32, judged: &mut [u8]) -> Fault
+    requires { ⌜ Judged (now table) count (now judged) ⌝ }
     ensures { λ r. ⌜ r ≡ tableFault (now (table .entry)) count ⌝ }
 {
     let header = header_fault(table, count);
     if let Fault::Bad { refusal: _, at: _ } = header {
         return header;
     }
-    // A mark for each position of the table, which has at most 32,768 bytes.
-    let glyphs = count as usize;
+    directions_fault(table, count as usize, judged)
+}
+
+// The first fault of a table read with a glyph count.
+pub fn table_fault(table: &[u8], count: u32) -> Fault
+    ensures { λ r. ⌜ r ≡ tableFault (now (table .entry)) count ⌝ }
+{
+    // A mark for each position of the table, which has at most 32,768 bytes if its length is not refused.
     if table.len() <= 512 {
         let mut judged = [0u8; 512];
-        return directions_fault(table, glyphs, &mut judged);
+        return fault_by(table, count, &mut judged);
     }
     if table.len() <= 4096 {
         let mut judged = [0u8; 4096];
-        return directions_fault(table, glyphs, &mut judged);
+        return fault_by(table, count, &mut judged);
     }
     let mut judged = [0u8; 32768];
-    directions_fault(table, glyphs, &mut judged)
+    fault_by(table, count, &mut judged)
 }
 
 // Whether a table is accepted with a glyph count, or the refusal of its first fault.
