@@ -1,5 +1,5 @@
 -- Laws of the marks, for the proofs of the functions and for callers.
-use Prim.Native.Nat.{ℕ, zero, suc, _+_, _/_, _%_, _≤_, _<_}
+use Prim.Native.Nat.{ℕ, zero, suc, _+_, _-_, _*_, _/_, _%_, _≤_, _<_}
 use mathlib.Core.Path.{_≡_, refl, sym, ap, _∙_}
 use mathlib.Core.List.{List, [], _∷_}
 use mathlib.Core.Logic.{_⊎_, inl, inr, ⊎-elim}
@@ -7,8 +7,12 @@ use native.Mathlib.Decide.{ℕ-discrete}
 use native.Mathlib.Omega.{arith}
 use lib.ListN.{getD, set, replicate}
 use lib.Seq.{getD-set-other}
+use Rattle.fields.specs.declared.Fault.{Fault}
 use Rattle.fields.specs.declared.Fault.the-variants.{Clear}
-use Rattle.actions.specs.Faults.{actionFault}
+use Rattle.fields.specs.Laws.{then-first, then-second, then-go}
+use Rattle.fields.specs.Field.{u32At}
+use Rattle.fields.specs.Walk.{walk, each, walk-next, walk-none}
+use Rattle.actions.specs.Faults.{actionFault, actionsFault}
 use Rattle.actions.specs.Marks.{Passed, Passing}
 
 -- what stands at a position after a store there: past the end nothing is stored
@@ -23,38 +27,98 @@ no-mark zero i = refl
 no-mark (suc n) zero = refl
 no-mark (suc n) (suc i) = no-mark n i
 
-pub none-passed : (t : List ℕ) (glyphs n : ℕ) → Passed t glyphs (replicate n 0)
-none-passed t glyphs n = record { clear = λ i h. absurd (omega (arith, no-mark n i)) }
+-- of clear things that follow each other, fewer are clear too
+pub each-fewer : (one : ℕ → Fault) (to : ℕ → ℕ) (m n at : ℕ) → m ≤ n → each one to n at ≡ Clear → each one to m at ≡ Clear
+unfolding walk
+each-fewer one to zero n at h e = refl
+each-fewer one to (suc m) zero at h e = absurd (omega arith)
+each-fewer one to (suc m) (suc n) at h e = then-go _ (then-first _ _ e) ∙ each-fewer one to m n (to at) (omega arith) (then-second _ _ e)
+
+-- where nothing is marked nothing is known
+pub blank-passed : (t : List ℕ) (glyphs : ℕ) (marks : List ℕ) → ((i : ℕ) → getD marks i 0 ≡ 0) → Passed t glyphs marks
+blank-passed t glyphs marks none = record { clear = λ i. walk-none _ _ _ _ _ _ (omega (arith, none i)) }
 
 module _ {t : List ℕ} {glyphs : ℕ} where
   -- nothing is judged
   pub none-passing : {marks : List ℕ} → Passed t glyphs marks → Passing t glyphs marks marks
-  none-passing p = record { passed = p; lists = λ i. refl; clusters = λ i. refl }
+  none-passing p = record { passed = p; rest = λ i. refl }
 
   -- one judging after the other
   pub both-passing : {before between after : List ℕ} → Passing t glyphs before between → Passing t glyphs between after → Passing t glyphs before after
-  both-passing p q = record { passed = q .passed; lists = λ i. q .lists i ∙ p .lists i; clusters = λ i. q .clusters i ∙ p .clusters i }
+  both-passing p q = record { passed = q .passed; rest = λ i. q .rest i ∙ p .rest i }
 
-  -- an action that was found without fault, and is not marked, may be marked
-  pub one-passing : {marks : List ℕ} (at byte : ℕ) → Passed t glyphs marks → actionFault t glyphs at ≡ Clear → getD marks at 0 % 4 < 2 → byte ≡ getD marks at 0 + 2
+  -- actions that have no fault may be marked
+  pub more-passing : {marks : List ℕ} (at byte : ℕ) → Passed t glyphs marks → actionsFault t glyphs (byte / 4) at ≡ Clear → byte % 4 ≡ getD marks at 0 % 4
       → Passing t glyphs marks (set marks at byte)
-  one-passing {marks} at byte p clear new e =
-      record { passed = record { clear = λ i h. passed i h (ℕ-discrete i at) }; lists = λ i. lists i (ℕ-discrete i at); clusters = λ i. clusters i (ℕ-discrete i at) }
+  more-passing {marks} at byte p clear e =
+      record { passed = record { clear = λ i. passed i (ℕ-discrete i at) }; rest = λ i. rest i (ℕ-discrete i at) }
     where
-      passed : (i : ℕ) → 2 ≤ getD (set marks at byte) i 0 % 4 → Dec (i ≡ at) → actionFault t glyphs i ≡ Clear
-      passed i h (yes q) = ap (actionFault t glyphs) q ∙ clear
-      passed i h (no n) = p .clear i (omega (arith, getD-set-other marks at i byte 0 n))
+      passed-here : actionsFault t glyphs (getD (set marks at byte) at 0 / 4) at ≡ Clear
+      passed-here =
+          ⊎-elim
+          (λ s. ap (λ (m : ℕ). actionsFault t glyphs (m / 4) at) s ∙ clear)
+          (λ s. ap (λ (m : ℕ). actionsFault t glyphs (m / 4) at) s ∙ p .clear at)
+          (set-here marks at byte)
 
-      odd-here : getD (set marks at byte) at 0 % 2 ≡ getD marks at 0 % 2
-      odd-here = ⊎-elim (λ s. omega arith) (λ s. omega arith) (set-here marks at byte)
+      passed : (i : ℕ) → Dec (i ≡ at) → actionsFault t glyphs (getD (set marks at byte) i 0 / 4) i ≡ Clear
+      passed i (yes q) = rw q passed-here
+      passed i (no n) = ap (λ (m : ℕ). actionsFault t glyphs (m / 4) i) (getD-set-other marks at i byte 0 n) ∙ p .clear i
 
-      lists : (i : ℕ) → Dec (i ≡ at) → getD (set marks at byte) i 0 % 2 ≡ getD marks i 0 % 2
-      lists i (yes q) = rw q odd-here
-      lists i (no n) = omega (arith, getD-set-other marks at i byte 0 n)
+      rest-here : getD (set marks at byte) at 0 % 4 ≡ getD marks at 0 % 4
+      rest-here = ⊎-elim (λ s. omega arith) (λ s. omega arith) (set-here marks at byte)
 
-      four-here : getD (set marks at byte) at 0 / 4 ≡ getD marks at 0 / 4
-      four-here = ⊎-elim (λ s. omega arith) (λ s. omega arith) (set-here marks at byte)
+      rest : (i : ℕ) → Dec (i ≡ at) → getD (set marks at byte) i 0 % 4 ≡ getD marks i 0 % 4
+      rest i (yes q) = rw q rest-here
+      rest i (no n) = omega (arith, getD-set-other marks at i byte 0 n)
 
-      clusters : (i : ℕ) → Dec (i ≡ at) → getD (set marks at byte) i 0 / 4 ≡ getD marks i 0 / 4
-      clusters i (yes q) = rw q four-here
-      clusters i (no n) = omega (arith, getD-set-other marks at i byte 0 n)
+module _ (t : List ℕ) (glyphs : ℕ) where
+  -- what a mark, `mark` as it was read, tells of the action there, and of some from there on
+  pub known-clear : {marks : List ℕ} (at mark : ℕ) → Passed t glyphs marks → mark ≡ getD marks at 0 → 4 ≤ mark → actionFault t glyphs at ≡ Clear
+  unfolding walk
+  known-clear {marks} at mark p e h = then-first _ _ (each-fewer (actionFault t glyphs) (λ q. q + u32At t (q + 4)) 1 (getD marks at 0 / 4) at (omega arith) (p .clear at))
+
+  pub known-all : {marks : List ℕ} (at mark left : ℕ) → Passed t glyphs marks → mark ≡ getD marks at 0 → left ≤ mark / 4 → actionsFault t glyphs left at ≡ Clear
+  known-all {marks} at mark left p e h = each-fewer (actionFault t glyphs) (λ q. q + u32At t (q + 4)) left (getD marks at 0 / 4) at (omega arith) (p .clear at)
+
+  -- a list of as many actions as have no fault, or fewer
+  pub fewer-clear : (count passed at : ℕ) → count ≤ passed → actionsFault t glyphs passed at ≡ Clear → actionsFault t glyphs count at ≡ Clear
+  fewer-clear count passed at h e = each-fewer (actionFault t glyphs) (λ q. q + u32At t (q + 4)) count passed at h e
+
+  -- an action that has no fault, and is not marked, may be marked
+  pub one-passing : {marks : List ℕ} (at byte : ℕ) → Passed t glyphs marks → actionFault t glyphs at ≡ Clear → getD marks at 0 < 4 → byte ≡ getD marks at 0 + 4
+      → Passing t glyphs marks (set marks at byte)
+  unfolding walk
+  one-passing {marks} at byte p clear new e =
+      let one : byte / 4 ≡ 1 = omega arith in
+      more-passing at byte p (ap (λ (k : ℕ). actionsFault t glyphs k at) one ∙ then-go _ clear) (omega arith)
+
+  -- and `known` of actions without fault
+  pub ahead-passing : {marks : List ℕ} (at byte mark known left : ℕ) → Passed t glyphs marks → actionsFault t glyphs left at ≡ Clear → mark ≡ getD marks at 0
+      → known ≤ left → byte ≡ 4 * known + mark % 4 → Passing t glyphs marks (set marks at byte)
+  ahead-passing {marks} at byte mark known left p clear e h b =
+      let four : byte / 4 ≤ left = omega arith in
+      more-passing at byte p (each-fewer (actionFault t glyphs) (λ q. q + u32At t (q + 4)) (byte / 4) left at four clear) (omega arith)
+
+  -- some actions from `first` on were passed, and the next one stands at `at`
+  pub none-yet : (first k : ℕ) → actionsFault t glyphs (0 + k) first ≡ actionsFault t glyphs k first
+  none-yet first k = let e : 0 + k ≡ k = omega arith in ap (λ (n : ℕ). actionsFault t glyphs n first) e
+
+  module _ (first passed at : ℕ) (before : (k : ℕ) → actionsFault t glyphs (passed + k) first ≡ actionsFault t glyphs k at) where
+    pub passed-all : actionsFault t glyphs passed first ≡ Clear
+    passed-all = let e : passed ≡ passed + 0 = omega arith in ap (λ (n : ℕ). actionsFault t glyphs n first) e ∙ before 0 ∙ walk-none _ _ _ _ _ _ (omega arith)
+
+    pub passed-next : (p : ℕ) → actionFault t glyphs at ≡ Clear → p ≡ at + u32At t (at + 4)
+        → (k : ℕ) → actionsFault t glyphs (passed + 1 + k) first ≡ actionsFault t glyphs k p
+    unfolding walk
+    passed-next p e q k =
+        let count : passed + 1 + k ≡ passed + suc k = omega arith in
+        ap (λ (n : ℕ). actionsFault t glyphs n first) count ∙ before (suc k) ∙ then-go _ e ∙ ap (λ (x : ℕ). actionsFault t glyphs k x) (sym q)
+
+  -- the first of some actions without fault, and those after it: the next one stands at `p`
+  pub first-clear : (left at : ℕ) → 0 < left → actionsFault t glyphs left at ≡ Clear → actionFault t glyphs at ≡ Clear
+  unfolding walk
+  first-clear zero at h e = absurd (omega arith)
+  first-clear (suc left) at h e = then-first _ _ e
+
+  pub rest-clear : (left at p : ℕ) → 0 < left → actionsFault t glyphs left at ≡ Clear → p ≡ at + u32At t (at + 4) → actionsFault t glyphs (left - 1) p ≡ Clear
+  rest-clear left at p h e q = sym (walk-next _ _ _ left at 0 p 0 h (first-clear left at h e) q refl) ∙ e

@@ -26,6 +26,12 @@ pub struct Stretch {
     pub to: usize,
 }
 
+// How many actions that follow each other were found without fault, and how many known ones were stepped over on the way.
+struct Walked {
+    passed: usize,
+    over: usize,
+}
+
 fn glyph_fault(table: &[u8], glyphs: usize, at: usize) -> Fault
     ensures { λ r. ⌜ r ≡ glyphFault (now (table .entry)) glyphs at ⌝ }
 {
@@ -345,26 +351,80 @@ fn clear_end(table: &[u8], glyphs: usize, at: usize) -> usize
     end
 }
 
-// The same; an action that is seen to be without fault is marked in `judged`, so that it is judged once, however many lists
-// have it.
-fn judged_end(table: &[u8], glyphs: usize, at: usize, judged: &mut [u8]) -> usize
-    requires { ⌜ at ≤ length (now table) + 2 ^ 32 ⌝ }
-    requires { ⌜ Passed (now table) glyphs (now judged) ⌝ }
-    ensures { λ r. ⌜ (0 < r → (actionFault (now (table .entry)) glyphs at ≡ Clear) × (r ≡ at + u32At (now (table .entry)) (at + 4)) × (r ≤ length (now (table .entry)) + 2 ^ 32)) × Passing (now (table .entry)) glyphs (now (judged .entry)) (now (judged .exit)) ⌝ }
+fn least(a: usize, b: usize) -> usize
+    ensures { λ r. ⌜ (r ≤ a) × (r ≤ b) ⌝ }
 {
-    let mark = fields::u8_at(judged, at);
-    if 2 <= mark % 4 {
-        return at + fields::u32_at(table, at + 4);
+    if a < b {
+        return a;
     }
-    let end = clear_end(table, glyphs, at);
-    if end == 0 {
-        return 0;
-    }
-    fields::put_u8(judged, at, (mark + 2) as u8);
-    end
+    b
 }
 
-// Whether `count` actions from `first` on are seen to be without fault: most are, and a chain of fields is slower.
+// Steps through actions from `first` on, up to `most`, while they are seen to be without fault. Each is marked in `judged`, so
+// that it is judged once, however many lists have it. It stops where so many are known as are left, or as are `enough`.
+fn step_through(
+    table: &[u8],
+    glyphs: usize,
+    first: usize,
+    most: usize,
+    enough: usize,
+    judged: &mut [u8],
+) -> Walked
+    requires { ⌜ (first ≤ length (now table)) × (most ≤ 255) ⌝ }
+    requires { ⌜ Passed (now table) glyphs (now judged) ⌝ }
+    ensures { λ r. ⌜ (actionsFault (now (table .entry)) glyphs (r .passed) first ≡ Clear) × Passing (now (table .entry)) glyphs (now (judged .entry)) (now (judged .exit)) ⌝ }
+{
+    let mut at = first;
+    let mut passed: usize = 0;
+    let mut over: usize = 0;
+    while passed < most {
+        let mark = fields::u8_at(judged, at);
+        if 4 <= mark {
+            let known = mark / 4;
+            if least(most - passed, enough) <= known {
+                let passed = passed + known;
+                return Walked { passed, over };
+            }
+            at += fields::u32_at(table, at + 4);
+            over += 1;
+            passed += 1;
+        } else {
+            let end = clear_end(table, glyphs, at);
+            if end == 0 {
+                return Walked { passed, over };
+            }
+            fields::put_u8(judged, at, (mark + 4) as u8);
+            at = end;
+            passed += 1;
+        }
+    }
+    Walked { passed, over }
+}
+
+// Marks at each of `count` actions from `first` on, which have no fault, how many are known from it on: as far as a mark has
+// room, and up to one that tells as much, since from there on those that follow do so too.
+fn mark_ahead(table: &[u8], glyphs: usize, first: usize, count: usize, judged: &mut [u8])
+    requires { ⌜ actionsFault (now table) glyphs count first ≡ Clear ⌝ }
+    requires { ⌜ Passed (now table) glyphs (now judged) ⌝ }
+    ensures { λ r. ⌜ Passing (now (table .entry)) glyphs (now (judged .entry)) (now (judged .exit)) ⌝ }
+{
+    let mut at = first;
+    let mut left = count;
+    while 0 < left {
+        let known = least(left, 63);
+        let mark = fields::u8_at(judged, at);
+        if known <= mark / 4 {
+            return;
+        }
+        fields::put_u8(judged, at, (4 * known + mark % 4) as u8);
+        at += fields::u32_at(table, at + 4);
+        left -= 1;
+    }
+}
+
+// Whether `count` actions from `first` on are seen to be without fault: most are, and a chain of fields is slower. Where many
+// of them were known, lists overlap: then those from `first` on, past the list's end too, are marked so that lists which
+// begin on them cost a step or two.
 fn actions_are_clear(
     table: &[u8],
     glyphs: usize,
@@ -372,24 +432,24 @@ fn actions_are_clear(
     count: usize,
     judged: &mut [u8],
 ) -> bool
-    requires { ⌜ first ≤ length (now table) ⌝ }
+    requires { ⌜ (first ≤ length (now table)) × (count ≤ 64) ⌝ }
     requires { ⌜ Passed (now table) glyphs (now judged) ⌝ }
     ensures { λ r. ⌜ (r ≡ true → actionsFault (now (table .entry)) glyphs count first ≡ Clear) × Passing (now (table .entry)) glyphs (now (judged .entry)) (now (judged .exit)) ⌝ }
 {
-    let mut at = first;
-    let mut left = count;
-    while 0 < left {
-        at = judged_end(table, glyphs, at, judged);
-        if at == 0 {
-            return false;
-        }
-        left -= 1;
+    let list = step_through(table, glyphs, first, count, 64, judged);
+    if list.passed < count {
+        return false;
     }
+    if list.over < 8 {
+        return true;
+    }
+    let ahead = step_through(table, glyphs, first, 255, 63, judged);
+    mark_ahead(table, glyphs, first, ahead.passed, judged);
     true
 }
 
-// The first fault of the list at `at`, in a table read with `glyphs` glyphs. `judged` has a mark for each position, in which
-// 2 says that the action there has no fault; the rest of a mark is the caller's.
+// The first fault of the list at `at`, in a table read with `glyphs` glyphs. `judged` has a mark for each position, whose
+// fourth says how many actions from there on are known to have no fault; the rest of a mark is the caller's.
 pub fn list_fault(table: &[u8], glyphs: usize, at: usize, judged: &mut [u8]) -> Fault
     requires { ⌜ Passed (now table) glyphs (now judged) ⌝ }
     ensures { λ r. ⌜ (r ≡ listFault (now (table .entry)) glyphs at) × Passing (now (table .entry)) glyphs (now (judged .entry)) (now (judged .exit)) ⌝ }

@@ -106,7 +106,8 @@ fn directions_fault(table: &[u8], glyphs: usize, judged: &mut [u8]) -> Fault
     direction_fault(table, glyphs, second, judged)
 }
 
-// The first fault of a table read with a glyph count. What was found without fault is marked in `judged`, which is lent.
+// The first fault of a table read with a glyph count, by marks that are lent: one for each position of the table, blank or left
+// by judging the same table with the same count. Where there are fewer, more is judged twice.
 pub fn fault_by(table: &[u8], count: u32, judged: &mut [u8]) -> Fault
     requires { ⌜ Judged (now table) count (now judged) ⌝ }
     ensures { λ r. ⌜ r ≡ tableFault (now (table .entry)) count ⌝ }
@@ -122,7 +123,7 @@ pub fn fault_by(table: &[u8], count: u32, judged: &mut [u8]) -> Fault
 pub fn table_fault(table: &[u8], count: u32) -> Fault
     ensures { λ r. ⌜ r ≡ tableFault (now (table .entry)) count ⌝ }
 {
-    // A mark for each position of the table, which has at most 32,768 bytes.
+    // A mark for each position of the table, which has at most 32,768 bytes if its length is not refused.
     if table.len() <= 512 {
         let mut judged = [0u8; 512];
         return fault_by(table, count, &mut judged);

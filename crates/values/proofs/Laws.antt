@@ -24,9 +24,9 @@ use Rattle.runs.specs.Runs.{placeOf, Follows}
 use Rattle.lookup.specs.Find.{valueOf}
 use Rattle.actions.specs.declared.Spot.{Spot}
 use Rattle.actions.specs.declared.Spot.the-variants.{At, Nowhere}
-use Rattle.actions.specs.Faults.{actionFault}
+use Rattle.actions.specs.Faults.{actionsFault}
 use Rattle.actions.specs.Marks.{Passing}
-use Rattle.actions.proofs.Marks.{set-here, no-mark, none-passed}
+use Rattle.actions.proofs.Marks.{set-here, no-mark, blank-passed}
 use Rattle.values.specs.declared.Split.{Split}
 use Rattle.values.specs.declared.Kind.{Kind}
 use Rattle.values.specs.declared.Kind.the-variants.{Clusters, Lists}
@@ -75,37 +75,40 @@ block-of t glyphs kind base block place f e = f ∙ ap (λ (p : ℕ). each (plac
 pub none-marked : (one : ℕ → Fault) (n : ℕ) → Marked one (replicate n 0)
 none-marked one n = record { clear = λ i e. absurd (omega (arith, no-mark n i)) }
 
-pub none-judged : (t : List ℕ) (glyphs n : ℕ) → Judged t glyphs (replicate n 0)
-none-judged t glyphs n = record { clear = λ kind i e. absurd (none kind i e); passed = none-passed t glyphs n }
+pub blank-judged : (t : List ℕ) (glyphs : ℕ) (judged : List ℕ) → ((i : ℕ) → getD judged i 0 ≡ 0) → Judged t glyphs judged
+blank-judged t glyphs judged blank = record { clear = λ kind i e. absurd (none kind i e); passed = blank-passed t glyphs judged blank }
   where
-    none : (kind : Kind) (i : ℕ) → Tells kind (getD (replicate {A = ℕ} n 0) i 0) → ⊥
-    none Clusters i e = omega (arith, no-mark n i)
-    none Lists i e = omega (arith, no-mark n i)
+    none : (kind : Kind) (i : ℕ) → Tells kind (getD judged i 0) → ⊥
+    none Clusters i e = omega (arith, blank i)
+    none Lists i e = omega (arith, blank i)
+
+pub none-judged : (t : List ℕ) (glyphs n : ℕ) → Judged t glyphs (replicate n 0)
+none-judged t glyphs n = blank-judged t glyphs (replicate n 0) (no-mark n)
 
 -- judging actions keeps what is known of clusters and lists
 pub actions-judged : {t : List ℕ} {glyphs : ℕ} {before after : List ℕ} → Judged t glyphs before → Passing t glyphs before after → Judged t glyphs after
 actions-judged {t} {glyphs} {before} {after} j p = record { clear = clear; passed = p .passed }
   where
     clear : (kind : Kind) (i : ℕ) → Tells kind (getD after i 0) → itemFault t glyphs kind i ≡ Clear
-    clear Clusters i e = j .clear Clusters i (omega (arith, p .clusters i))
-    clear Lists i e = j .clear Lists i (omega (arith, p .lists i))
+    clear Clusters i e = j .clear Clusters i (omega (arith, p .rest i))
+    clear Lists i e = j .clear Lists i (omega (arith, p .rest i))
 
 -- what a mark tells besides, it tells of one kind
 besides-told : (kind k : Kind) (mark : ℕ) → Tells k (besides kind mark) → (k ≡ kind) ⊎ Tells k mark
 besides-told Clusters Clusters mark e = inl refl
 besides-told Clusters Lists mark e = inr (omega arith)
-besides-told Lists Clusters mark e = inr (omega arith)
+besides-told Lists Clusters mark e = let h : (mark / 2 * 2 + 1) / 2 ≡ mark / 2 = omega arith in inr (ap (λ (k : ℕ). k % 2) (sym h) ∙ e)
 besides-told Lists Lists mark e = inl refl
 
-besides-passed : (kind : Kind) (mark : ℕ) → 2 ≤ besides kind mark % 4 → 2 ≤ mark % 4
-besides-passed Clusters mark e = omega arith
-besides-passed Lists mark e = omega arith
+besides-passed : (kind : Kind) (mark : ℕ) → besides kind mark / 4 ≡ mark / 4
+besides-passed Clusters mark = omega arith
+besides-passed Lists mark = omega arith
 
 -- what was found without fault may be marked
 pub item-judged : {t : List ℕ} {glyphs : ℕ} {judged : List ℕ} (kind : Kind) (at byte : ℕ) → Judged t glyphs judged → itemFault t glyphs kind at ≡ Clear
     → byte ≡ besides kind (getD judged at 0) → Judged t glyphs (set judged at byte)
 item-judged {t} {glyphs} {judged} kind at byte j found e =
-    record { clear = λ k i o. clear k i o (ℕ-discrete i at); passed = record { clear = λ i o. passed i o (ℕ-discrete i at) } }
+    record { clear = λ k i o. clear k i o (ℕ-discrete i at); passed = record { clear = λ i. ap (λ (k : ℕ). actionsFault t glyphs k i) (passed i (ℕ-discrete i at)) ∙ j .passed .clear i } }
   where
     here : (k : Kind) → Tells k (getD (set judged at byte) at 0) → itemFault t glyphs k at ≡ Clear
     here k o =
@@ -122,13 +125,12 @@ item-judged {t} {glyphs} {judged} kind at byte j found e =
     clear k i o (yes q) = ap (itemFault t glyphs k) q ∙ here k (rw q at o)
     clear k i o (no n) = j .clear k i (subst (Tells k) (getD-set-other judged at i byte 0 n) o)
 
-    passed-here : 2 ≤ getD (set judged at byte) at 0 % 4 → 2 ≤ getD judged at 0 % 4
-    passed-here o =
-        ⊎-elim (λ s. besides-passed kind (getD judged at 0) (subst (λ (m : ℕ). 2 ≤ m % 4) (s ∙ e) o)) (λ s. omega arith) (set-here judged at byte)
+    passed-here : getD (set judged at byte) at 0 / 4 ≡ getD judged at 0 / 4
+    passed-here = ⊎-elim (λ s. ap (λ (m : ℕ). m / 4) (s ∙ e) ∙ besides-passed kind (getD judged at 0)) (λ s. ap (λ (m : ℕ). m / 4) s) (set-here judged at byte)
 
-    passed : (i : ℕ) → 2 ≤ getD (set judged at byte) i 0 % 4 → Dec (i ≡ at) → actionFault t glyphs i ≡ Clear
-    passed i o (yes q) = ap (actionFault t glyphs) q ∙ j .passed .clear at (passed-here (rw q at o))
-    passed i o (no n) = j .passed .clear i (omega (arith, getD-set-other judged at i byte 0 n))
+    passed : (i : ℕ) → Dec (i ≡ at) → getD (set judged at byte) i 0 / 4 ≡ getD judged i 0 / 4
+    passed i (yes q) = rw q passed-here
+    passed i (no n) = ap (λ (m : ℕ). m / 4) (getD-set-other judged at i byte 0 n)
 
 -- values that follow each other are judged as two stretches
 each-both : (one : ℕ → Fault) (n m p : ℕ) → each one (λ q. q + 2) (n + m) p ≡ (each one (λ q. q + 2) n p then each one (λ q. q + 2) m (p + 2 * n))

@@ -85,12 +85,12 @@ pub record Marked (one : ℕ → Fault) (marks : List ℕ) : Type 0 where
 
 -- what a mark tells of a cluster, and of a list
 abbrev pub Tells : Kind → ℕ → Type 0
-Tells Clusters mark = 4 ≤ mark
+Tells Clusters mark = mark / 2 % 2 ≡ 1
 Tells Lists mark = mark % 2 ≡ 1
 
 -- a mark that tells it besides what it told
 abbrev pub besides : Kind → ℕ → ℕ
-besides Clusters mark = mark % 4 + 4
+besides Clusters mark = mark / 4 * 4 + (2 + mark % 2)
 besides Lists mark = mark / 2 * 2 + 1
 
 -- the marks of clusters, lists and actions, one for each position of the table, are true

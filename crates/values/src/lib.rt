@@ -72,7 +72,7 @@ fn tells(kind: Kind, mark: usize) -> bool
     ensures { λ r. ⌜ (r ≡ true → Tells kind mark) ⌝ }
 {
     match kind {
-        Kind::Clusters => 4 <= mark,
+        Kind::Clusters => mark / 2 % 2 == 1,
         Kind::Lists => mark % 2 == 1,
     }
 }
@@ -83,7 +83,7 @@ fn mark_of(kind: Kind, mark: usize) -> u8
     ensures { λ r. ⌜ r ≡ besides kind mark ⌝ }
 {
     match kind {
-        Kind::Clusters => (mark % 4 + 4) as u8,
+        Kind::Clusters => (mark / 4 * 4 + (2 + mark % 2)) as u8,
         Kind::Lists => (mark / 2 * 2 + 1) as u8,
     }
 }

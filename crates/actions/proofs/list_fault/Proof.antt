@@ -31,7 +31,7 @@ add-actions-are-clear : tie.Need-add-actions-are-clear
 add-actions-are-clear c = omega (arith, inside-holds _ _ _ (sym (c .before .before .before .before .in-table .ensures) ∙ c .before .before .enum-told2 .given .1))
 
 actions-are-clear-requires : tie.Need-actions-are-clear-requires
-actions-are-clear-requires c κs = (inside-holds _ _ _ (sym (c .before .before .before .before .before .in-table .ensures) ∙ c .before .before .before .enum-told2 .given .1), c .before .before .before .before .before .before .before .before .pre)
+actions-are-clear-requires c κs = ((inside-holds _ _ _ (sym (c .before .before .before .before .before .in-table .ensures) ∙ c .before .before .before .enum-told2 .given .1), c .before .if1 .left), c .before .before .before .before .before .before .before .before .pre)
 
 same-length : tie.Need-same-length
 same-length c = search needs

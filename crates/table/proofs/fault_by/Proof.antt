@@ -1,25 +1,18 @@
-use native.Mathlib.Omega.{arith}
+use Rattle.table.proofs.Laws.{few-glyphs}
 use Rattle.table.specs.Table.{tableFault}
 use Rattle.fields.specs.Laws.{then-stop, then-go}
-use Rattle.table.proofs.Laws.{few-glyphs}
+use native.Mathlib.Omega.{arith}
 use mathlib.Core.Path.{sym, _∙_}
 use borrow.Author.Needs.{needs}
 use Rattle.table.proofs.fault_by.Statement.{statement}
 use Rattle.table.proofs.fault_by.Tie as tie
-use Rattle.table.proofs.fault_by.Reads as reads
-use Rattle.table.proofs.fault_by.Lts as lts
-use Rattle.table.proofs.directions_fault.Reads as directions-fault-reads
-use Rattle.table.proofs.header_fault.Reads as header-fault-reads
 
--- src/lib.rt:114:9
 header-fault-requires : tie.Need-header-fault-requires
 header-fault-requires c κs = search needs
 
--- src/lib.rt:116:9
 enum-told : tie.Need-enum-told
 enum-told c = search needs
 
--- src/lib.rt:116:9
 returns : tie.Need-returns
 unfolding tableFault
 returns c = let h = c .before .before .header-fault .ensures in h ∙ sym (then-stop _ (sym h ∙ c .enum-told .given .1))
@@ -27,15 +20,12 @@ returns c = let h = c .before .before .header-fault .ensures in h ∙ sym (then-
 enum-told-2 : tie.Need-enum-told-2
 enum-told-2 c = search needs
 
--- src/lib.rt:118:5
 directions-fault-requires : tie.Need-directions-fault-requires
 directions-fault-requires c κs = (omega (arith, few-glyphs _ _ (sym (c .before .before .before .header-fault .ensures) ∙ c .before .enum-told2 .given .1)), c .before .before .before .before .before .before .pre)
 
--- src/lib.rt:110:1
 same-length : tie.Need-same-length
 same-length c = search needs
 
--- src/lib.rt:110:1
 returns-2 : tie.Need-returns-2
 unfolding tableFault
 returns-2 c = c .before .before .directions-fault .ensures ∙ sym (then-go _ (sym (c .before .before .before .before .before .before .header-fault .ensures) ∙ c .before .before .before .before .enum-told2 .given .1))

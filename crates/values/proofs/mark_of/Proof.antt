@@ -1,6 +1,6 @@
-use mathlib.Core.Path.{ap, sym}
-use Rattle.values.specs.Values.{besides}
 use Rattle.values.specs.declared.Kind.{Kind}
+use Rattle.values.specs.Values.{besides}
+use mathlib.Core.Path.{ap, sym}
 use borrow.Author.Needs.{needs}
 use Rattle.values.proofs.mark_of.Statement.{statement}
 use Rattle.values.proofs.mark_of.Tie as tie
@@ -8,8 +8,14 @@ use Rattle.values.proofs.mark_of.Tie as tie
 enum-told : tie.Need-enum-told
 enum-told c = search needs
 
+mul-result : tie.Need-mul-result
+mul-result c = search needs
+
 add-result : tie.Need-add-result
 add-result c = search needs
+
+add-result-2 : tie.Need-add-result-2
+add-result-2 c = search needs
 
 cast-result : tie.Need-cast-result
 cast-result c = search needs
@@ -17,11 +23,11 @@ cast-result c = search needs
 enum-told-2 : tie.Need-enum-told-2
 enum-told-2 c = search needs
 
-mul-result : tie.Need-mul-result
-mul-result c = search needs
+mul-result-2 : tie.Need-mul-result-2
+mul-result-2 c = search needs
 
-add-result-2 : tie.Need-add-result-2
-add-result-2 c = search needs
+add-result-3 : tie.Need-add-result-3
+add-result-3 c = search needs
 
 cast-result-2 : tie.Need-cast-result-2
 cast-result-2 c = search needs
@@ -37,11 +43,13 @@ mark-of-spec =
     tie.close
     (tie.spec
     enum-told
+    mul-result
     add-result
+    add-result-2
     cast-result
     enum-told-2
-    mul-result
-    add-result-2
+    mul-result-2
+    add-result-3
     cast-result-2
     returns
     returns-2)

@@ -1,4 +1,4 @@
-use borrow.Author.Tests.{leb-true, eqb-true}
+use borrow.Author.Tests.{eqb-true}
 use mathlib.Core.Path.{subst, sym}
 use Rattle.values.specs.Values.{Tells}
 use Rattle.values.specs.declared.Kind.{Kind}
@@ -13,7 +13,7 @@ enum-told-2 : tie.Need-enum-told-2
 enum-told-2 c = search needs
 
 returns : tie.Need-returns
-returns c = λ e. subst (λ (k : Kind). Tells k (c .before .before .args .mark)) (sym (c .enum-told .given .1)) (leb-true _ _ e)
+returns c = λ e. subst (λ (k : Kind). Tells k (c .before .before .args .mark)) (sym (c .enum-told .given .1)) (eqb-true _ _ e)
 
 returns-2 : tie.Need-returns-2
 returns-2 c = λ e. subst (λ (k : Kind). Tells k (c .before .before .args .mark)) (sym (c .enum-told2 .given .1)) (eqb-true _ _ e)
