@@ -25,6 +25,13 @@ pub fn ranges(units: u16, step: u16, distinct: u16) -> Vec<u8> {
     (0..distinct).fold(fields, |fields, number| cluster(fields, number.into())).done()
 }
 
+/// An ordinary table with clusters that has, with its sheet, about so many bytes, as far as a table can: three units of format 2
+/// to a cluster. Its glyph count stands beside it.
+pub fn ordinary_clusters(bytes: usize) -> (Vec<u8>, u32) {
+    let units = (bytes / 31).clamp(3, 2_100) as u16;
+    (ranges(units, 10, units / 3), 10 * u32::from(units))
+}
+
 /// Units of format 4 that cover every glyph and share one array of `width` values, which lead in turn to `places` places, all of
 /// which hold the same cluster.
 pub fn shared_array(width: u16, places: u16) -> Vec<u8> {
@@ -88,7 +95,7 @@ pub fn one_print(count: u32) -> Vec<u8> {
 }
 
 /// A direction without machine and clusters whose actions are at 22: a lookup of format 8, then the rest.
-fn with_lists(values: &[u16]) -> Fields {
+pub fn with_lists(values: &[u16]) -> Fields {
     let head = Fields::new().l(0x0001_0000).ws(&[0, 10, 0]).ws(&[0, 0, 22]).ws(&[8, 0, 0]);
     head.ws(&[8, 0, values.len() as u16]).ws(values)
 }
@@ -106,6 +113,12 @@ pub fn lists(units: u16, distinct: u16) -> Vec<u8> {
         fields = fields.ws(&[1, 1]).l(12).ws(&[number, 0]).ws(&[2, 2]).l(16).l(0x4000).ws(&[3, number]);
     }
     fields.done()
+}
+
+/// The same with action lists, two units to a list.
+pub fn ordinary_lists(bytes: usize) -> (Vec<u8>, u32) {
+    let units = (bytes / 74).clamp(2, 900) as u16;
+    (lists(units, units / 2), 10 * u32::from(units))
 }
 
 /// Lists of 64 actions that begin at each eighth byte, one to a glyph. The first 504 differ from each other and from the

@@ -6,6 +6,7 @@
 pub mod caps;
 pub mod cases;
 pub mod clock;
+pub mod crowded;
 pub mod drafts;
 pub mod guarded;
 pub mod library;

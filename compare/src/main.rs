@@ -3,7 +3,7 @@
 
 use compare::questions::Questions;
 use compare::tally::Tally;
-use compare::{lines, marks, samples, sheets, tables, Outcome};
+use compare::{crowded, lines, marks, samples, sheets, tables, Outcome};
 use just_raw::Table;
 use std::process::ExitCode;
 use std::time::{Duration, Instant};
@@ -41,7 +41,13 @@ fn asked() -> Result<Asked, String> {
 /// The kinds of cases, each with its comparison.
 type Kind = (&'static str, fn(u64, u64, &mut Tally) -> Outcome);
 
-const KINDS: [Kind; 4] = [("table", table_case), ("sheet", sheet_case), ("line", line_case), ("sample", sample_case)];
+const KINDS: [Kind; 5] = [
+    ("table", table_case),
+    ("sheet", sheet_case),
+    ("line", line_case),
+    ("sample", sample_case),
+    ("crowded", crowded_case),
+];
 
 fn table_case(seed: u64, index: u64, _: &mut Tally) -> Outcome {
     let (bytes, glyph_count) = tables::draw(seed, index);
@@ -67,6 +73,16 @@ fn line_case(seed: u64, index: u64, tally: &mut Tally) -> Outcome {
     let second = case.justify();
     marks::note(&case, &second, tally);
     lines::compare(&case, &second, &mut Questions::new(seed, index))
+}
+
+/// These are long: every fortieth case is one.
+fn crowded_case(seed: u64, index: u64, _: &mut Tally) -> Outcome {
+    if index % 40 != 0 {
+        return Ok(());
+    }
+    let mut asked = Questions::new(seed, index);
+    let (bytes, glyph_count) = crowded::draw(&mut asked);
+    tables::compare(Table { bytes: &bytes, glyph_count }, &mut asked)
 }
 
 /// There are few samples; a case past them is none.

@@ -1,6 +1,7 @@
 //! `bench [WORDS]`: the proved library against the second program, on the same input in the same run. Prints tables of
 //! times and ratios (the library's time over the second program's, medians of several rounds), and the library's time for
-//! each byte of table and sheet. With words, only cases whose name has them are run.
+//! each byte of table and sheet; for hostile tables and sheets also how many times that of an ordinary one of about as
+//! many bytes it is. With words, only cases whose name has them are run.
 
 use compare::{cases, clock, drafts, library, lines};
 use just_raw::{Lent, Sheet, Table, Verdict};
@@ -15,6 +16,8 @@ struct Case {
     bytes: usize,
     library: Box<dyn FnMut()>,
     second: Box<dyn FnMut()>,
+    /// The same call on an ordinary input.
+    beside: Option<Box<Case>>,
 }
 
 impl Case {
@@ -26,7 +29,18 @@ impl Case {
     ) -> Case {
         let library = Box::new(move || drop(black_box(library())));
         let second = Box::new(move || drop(black_box(second())));
-        Case { name, bytes, library, second }
+        Case { name, bytes, library, second, beside: None }
+    }
+
+    fn beside(self, ordinary: Case) -> Case {
+        Case { beside: Some(Box::new(ordinary)), ..self }
+    }
+
+    /// The library's time for a byte, in nanoseconds, as the median of nine rounds.
+    fn each(&mut self) -> f64 {
+        let mut times: Vec<f64> = (0..9).map(|_| once(&mut self.library)).collect();
+        times.sort_by(f64::total_cmp);
+        times[4] / self.bytes as f64
     }
 }
 
@@ -60,13 +74,14 @@ fn print_case(mut case: Case) {
     };
     let [ours, theirs] = times.each_mut().map(median);
     let (ratio, each) = (ours / theirs, ours / case.bytes as f64);
-    println!("| {} | {:.2} | {:.2} | {ratio:.2} | {each:.2} |", case.name, ours / 1000.0, theirs / 1000.0);
+    let times = case.beside.map_or(String::new(), |mut ordinary| format!("{:.1}", each / ordinary.each()));
+    println!("| {} | {:.2} | {:.2} | {ratio:.2} | {each:.2} | {times} |", case.name, ours / 1000.0, theirs / 1000.0);
 }
 
 fn print_group(title: &str, cases: Vec<Case>) {
     let words = std::env::args().skip(1).collect::<Vec<_>>().join(" ");
     println!(
-        "\n{title}\n\n| case | library, µs | second program, µs | ratio | library, ns a byte |\n|---|---|---|---|---|"
+        "\n{title}\n\n| case | library, µs | second program, µs | ratio | library, ns a byte | times an ordinary one |\n|---|---|---|---|---|---|"
     );
     cases.into_iter().filter(|case| case.name.contains(&words)).for_each(print_case);
 }
@@ -166,48 +181,59 @@ fn ordinary() -> Vec<Case> {
     ]
 }
 
-fn hostile() -> Vec<Case> {
-    let (pairs, lists) = (cases::overlapping_pairs(3_200), cases::alike_lists(2_800));
-    let (equal, ligatures, shared) =
-        (cases::equal_lists(2_800), cases::ligature_lists(1_330), cases::shared_lookup(148));
-    let [equal_both, ligatures_both, shared_both] =
-        [&equal, &ligatures, &shared].map(|table| cases::both_ways(table.clone()));
-    let rows = cases::nested_rows();
-    let (phased, leaping, twice) = (cases::phased_lists(2_800, 32), cases::leaping_lists(2_800), cases::twice_lists(2_300));
-    let shifted = cases::shifted_arrays(148, 1);
+/// Makes an ordinary table of about so many bytes, with its sheet.
+type Ordinary = fn(usize) -> (Vec<u8>, u32);
+
+/// Judging and writing a hostile table, each beside the same call on an ordinary one.
+fn hostile_table(ordinary: Ordinary, name: &str, table: &[u8], n: u32) -> [Case; 2] {
+    let (peer, count) = ordinary(bytes(table, n));
+    [check, write].map(|call| call(name, table, n).beside(call("ordinary", &peer, count)))
+}
+
+fn hostile_sheet(name: &str, bytes: &[u8]) -> Case {
+    let glyphs = (bytes.len() / 34) as u32;
+    sheet(name, bytes).beside(sheet("ordinary", &cases::sheet(glyphs, glyphs)))
+}
+
+/// Tables whose clusters overlap, or whose units share arrays.
+fn hostile_clusters() -> Vec<Case> {
+    let (pairs, rows, shared) = (cases::overlapping_pairs(3_200), cases::nested_rows(), cases::shared_lookup(148));
+    let both = cases::both_ways(shared.clone());
+    let tables: [(&str, Vec<u8>, u32); 8] = [
+        ("one cluster, N 65,535", cases::shared_array(255, 1), 65_535),
+        ("one cluster at two places in turn, N 65,535", cases::shared_array(255, 2), 65_535),
+        ("arrays that begin one value after each other", cases::shifted_arrays(148, 1), 65_416),
+        ("one lookup for clusters and lists, N 65,535", shared, 65_535),
+        ("one lookup for clusters and lists, both directions, N 65,535", both, 65_535),
+        ("clusters inside each other", rows, 1_152),
+        ("3,200 clusters at each eighth byte, all different", pairs, 3_200),
+        ("3,200 clusters at each eighth byte, all with one print", cases::one_print(3_200), 3_200),
+    ];
+    tables.iter().flat_map(|(name, table, n)| hostile_table(cases::ordinary_clusters, name, table, *n)).collect()
+}
+
+/// Tables whose action lists overlap.
+fn hostile_lists() -> Vec<Case> {
+    let (equal, ligatures) = (cases::equal_lists(2_800), cases::ligature_lists(1_330));
+    let [equal_both, ligatures_both] = [&equal, &ligatures].map(|table| cases::both_ways(table.clone()));
+    let tables: [(&str, Vec<u8>, u32); 8] = [
+        ("2,800 equal lists at each eighth byte", equal, 2_800),
+        ("2,800 equal lists at each eighth byte, both directions", equal_both, 2_800),
+        ("2,800 equal lists in an order that leaps", cases::leaping_lists(2_800), 2_800),
+        ("2,300 equal lists, a lookup for each direction", cases::twice_lists(2_300), 2_300),
+        ("2,800 lists at each eighth byte in 32 phases", cases::phased_lists(2_800, 32), 2_800),
+        ("2,800 lists at each eighth byte with long common beginnings", cases::alike_lists(2_800), 2_800),
+        ("1,330 equal lists of ligatures", ligatures, 1_330),
+        ("1,330 equal lists of ligatures, both directions", ligatures_both, 1_330),
+    ];
+    tables.iter().flat_map(|(name, table, n)| hostile_table(cases::ordinary_lists, name, table, *n)).collect()
+}
+
+fn hostile_rest() -> Vec<Case> {
     vec![
-        check("2,800 lists in 32 phases", &phased, 2_800),
-        check("2,800 equal lists in another order", &leaping, 2_800),
-        check("2,300 equal lists, two lookups", &twice, 2_300),
-        check("format 4 arrays one after the other", &shifted, 65_416),
-        write("2,800 lists in 32 phases", &phased, 2_800),
-        write("2,800 equal lists in another order", &leaping, 2_800),
-        write("2,300 equal lists, two lookups", &twice, 2_300),
-        write("format 4 arrays one after the other", &shifted, 65_416),
-        check("3,200 clusters at each eighth byte", &pairs, 3_200),
-        check("clusters inside each other", &rows, 1_152),
-        check("clusters inside each other, both directions", &cases::both_ways(rows.clone()), 1_152),
-        check("2,800 lists at each eighth byte", &lists, 2_800),
-        check("2,800 equal lists at each eighth byte", &equal, 2_800),
-        check("2,800 equal lists at each eighth byte, both directions", &equal_both, 2_800),
-        check("1,330 equal lists of ligatures", &ligatures, 1_330),
-        check("1,330 equal lists of ligatures, both directions", &ligatures_both, 1_330),
-        check("one lookup for clusters and lists, N 65,535", &shared, 65_535),
-        check("one lookup for clusters and lists, both directions, N 65,535", &shared_both, 65_535),
         write("the empty table, N 65,535", &drafts::empty(), 65_535),
-        write("one cluster, N 65,535", &cases::shared_array(255, 1), 65_535),
-        write("one cluster at two places in turn, N 65,535", &cases::shared_array(255, 2), 65_535),
-        write("one lookup for clusters and lists, N 65,535", &shared, 65_535),
-        write("one lookup for clusters and lists, both directions, N 65,535", &shared_both, 65_535),
-        write("3,200 clusters at each eighth byte, all different", &pairs, 3_200),
-        write("3,200 clusters at each eighth byte, all with one print", &cases::one_print(3_200), 3_200),
-        write("2,800 lists at each eighth byte with long common beginnings", &lists, 2_800),
-        write("2,800 equal lists at each eighth byte", &equal, 2_800),
-        write("2,800 equal lists at each eighth byte, both directions", &equal_both, 2_800),
-        write("1,330 equal lists of ligatures", &ligatures, 1_330),
-        write("1,330 equal lists of ligatures, both directions", &ligatures_both, 1_330),
-        sheet("20,000 clusters that find one slot", &cases::one_slot(20_000)),
-        sheet("lists with long common beginnings", &sheet_by_reference(&lists, 2_800)),
+        hostile_sheet("20,000 clusters that find one slot", &cases::one_slot(20_000)),
+        hostile_sheet("lists with long common beginnings", &sheet_by_reference(&cases::alike_lists(2_800), 2_800)),
         line("64 actions a glyph, all fire", cases::many_actions(), 4, 1_024),
         line("256 entries a glyph", cases::long_walk(), 1, 1_024),
         line("5,000 format 2 units", cases::ranges(5_000, 13, 8), 65_000, 1_024),
@@ -241,6 +267,8 @@ fn doubled() -> Vec<Case> {
 
 fn main() {
     print_group("Ordinary inputs", ordinary());
-    print_group("Hostile inputs", hostile());
+    print_group("Clusters that overlap, and units that share arrays", hostile_clusters());
+    print_group("Lists that overlap", hostile_lists());
+    print_group("Other hostile inputs", hostile_rest());
     print_group("Bytes, N, glyphs and distinct clusters doubled", doubled());
 }

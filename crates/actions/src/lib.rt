@@ -351,15 +351,6 @@ fn clear_end(table: &[u8], glyphs: usize, at: usize) -> usize
     end
 }
 
-fn least(a: usize, b: usize) -> usize
-    ensures { λ r. ⌜ (r ≤ a) × (r ≤ b) ⌝ }
-{
-    if a < b {
-        return a;
-    }
-    b
-}
-
 // Steps through actions from `first` on, up to `most`, while they are seen to be without fault. Each is marked in `judged`, so
 // that it is judged once, however many lists have it. It stops where so many are known as are left, or as are `enough`.
 fn step_through(
@@ -381,7 +372,7 @@ fn step_through(
         let mark = fields::u8_at(judged, at);
         if 4 <= mark {
             let known = mark / 4;
-            if least(most - passed, enough) <= known {
+            if fields::lower(most - passed, enough) <= known {
                 let passed = passed + known;
                 return Walked { passed, over };
             }
@@ -411,7 +402,7 @@ fn mark_ahead(table: &[u8], glyphs: usize, first: usize, count: usize, judged: &
     let mut at = first;
     let mut left = count;
     while 0 < left {
-        let known = least(left, 63);
+        let known = fields::lower(left, 63);
         let mark = fields::u8_at(judged, at);
         if known <= mark / 4 {
             return;

@@ -4,23 +4,14 @@ use mathlib.Core.Path.{_≡_, sym, _∙_}
 use mathlib.Core.List.{List}
 use native.Mathlib.Omega.{arith}
 use lib.Dec.{leb, eqb}
-use lib.ListN.{length, getD, replicate}
+use lib.ListN.{length}
 use borrow.Author.Tests.{eq-eqb, ne-eqb, leb-true}
 use Rattle.fields.specs.declared.Fault.{Fault}
 use Rattle.fields.specs.declared.Fault.the-variants.{Clear, Bad}
 use Rattle.fields.specs.declared.Refusal.the-variants.{TableLength, GlyphCount}
 use Rattle.fields.specs.Laws.{then-first, then-second, rule-holds}
 use Rattle.fields.specs.Faults.{_then_, rule}
-use Rattle.values.specs.Values.{Judged}
-use Rattle.values.proofs.Laws.{blank-judged, none-judged}
 use Rattle.table.specs.Table.{present, headerFault, tableFault}
-
--- blank marks, for whoever lends marks
-pub blank-marks : (t : List ℕ) (glyphs : ℕ) (judged : List ℕ) → ((i : ℕ) → getD judged i 0 ≡ 0) → Judged t glyphs judged
-blank-marks t glyphs judged blank = blank-judged t glyphs judged blank
-
-pub new-marks : (t : List ℕ) (glyphs n : ℕ) → Judged t glyphs (replicate n 0)
-new-marks t glyphs n = none-judged t glyphs n
 
 -- a part that is absent, and one that is there
 pub present-none : (at : ℕ) (f : Fault) → at ≡ 0 → present at f ≡ Clear

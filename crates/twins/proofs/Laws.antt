@@ -50,9 +50,6 @@ module _ (t : List ℕ) where
   abbrev Same : ℕ → ℕ → Type 0
   Same place twin = itemAt Lists t (twin - 1) ≡ itemAt Lists t place
 
-  pub twins-none : (n : ℕ) → Twins Lists t (replicate n 0)
-  twins-none n = record { same = all-none Same n }
-
   pub twins-set : (twins : List ℕ) (place other : ℕ) → listAt t other ≡ listAt t place → Twins Lists t twins → Twins Lists t (set twins place (other + 1))
   unfolding itemAt
   twins-set twins place other h w =

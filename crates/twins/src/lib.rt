@@ -243,12 +243,13 @@ fn first_odd(word: usize) -> usize
     4 - word % 2
 }
 
-// The next position from `from` on at which a mark is odd, or a position past the marks.
-fn next_list(marks: &[u8], from: usize) -> usize
+// The next position from `from` on at which a mark is odd, or one at `end` or past it.
+fn next_list(marks: &[u8], from: usize, end: usize) -> usize
+    requires { ⌜ end ≤ 2 ^ 15 ⌝ }
     ensures { λ r. ⌜ from ≤ r ⌝ }
 {
     let mut at = from;
-    while at < marks.len() {
+    while at < end {
         let ahead = first_odd(fields::u32_at(marks, at));
         if ahead < 4 {
             return at + ahead;
@@ -264,10 +265,10 @@ fn all_actions(table: &[u8], marks: &[u8]) -> usize
     ensures { λ r. ⌜ r < 2 ^ 62 ⌝ }
 {
     let mut all: usize = 0;
-    let mut at = next_list(marks, 0);
+    let mut at = next_list(marks, 0, table.len());
     while at < table.len() {
         all += fields::lower(fields::u32_at(table, at), 64);
-        at = next_list(marks, at + 1);
+        at = next_list(marks, at + 1, table.len());
     }
     all
 }
@@ -278,10 +279,10 @@ fn find_all(table: &[u8], marks: &[u8], eights: &mut [u32], slots: &mut [u16], t
     requires { ⌜ Eights (now table) (now eights) × Twins Kind.Lists (now table) (now twins) ⌝ }
     ensures { λ r. ⌜ Twins Kind.Lists (now (table .entry)) (now (twins .exit)) ⌝ }
 {
-    let mut at = next_list(marks, 0);
+    let mut at = next_list(marks, 0, table.len());
     while at < table.len() {
         find_twin(table, at, eights, slots, twins);
-        at = next_list(marks, at + 1);
+        at = next_list(marks, at + 1, table.len());
     }
 }
 

@@ -28,11 +28,11 @@ loop-holds c = (none-yet (now (c .before .before .args .table)) (c .before .befo
 u8-at-requires : tie.Need-u8-at-requires Inv-loop μ-loop
 u8-at-requires c κs = search needs
 
-sub-least : tie.Need-sub-least Inv-loop μ-loop
-sub-least c = search needs
+sub-lower : tie.Need-sub-lower Inv-loop μ-loop
+sub-lower c = search needs
 
-least-requires : tie.Need-least-requires Inv-loop μ-loop
-least-requires c κs = search needs
+lower-requires : tie.Need-lower-requires Inv-loop μ-loop
+lower-requires c κs = search needs
 
 add-passed : tie.Need-add-passed Inv-loop μ-loop
 add-passed c = search needs
@@ -128,8 +128,8 @@ step-through-spec =
     μ-loop
     loop-holds
     u8-at-requires
-    sub-least
-    least-requires
+    sub-lower
+    lower-requires
     add-passed
     same-length
     returns

@@ -1,5 +1,6 @@
 use Rattle.sheet_write.proofs.Laws.{bytes-few}
-use Rattle.twins.proofs.Laws.{twins-none}
+use Rattle.values.specs.declared.Kind.the-variants.{Lists}
+use Rattle.item.proofs.Laws.{twins-none}
 use borrow.Author.Needs.{needs}
 use Rattle.sheet_write.proofs.length_marked.Statement.{statement}
 use Rattle.sheet_write.proofs.length_marked.Tie as tie
@@ -27,7 +28,7 @@ slice-aggregate-length-accepted c = search needs
 
 -- src/lib.rt:193:5
 length-accepted-requires : tie.Need-length-accepted-requires
-length-accepted-requires c κs = (c .before .before .before .before .before .pre, twins-none _ 0)
+length-accepted-requires c κs = (c .before .before .before .before .before .pre, twins-none Lists _ 0)
 
 -- src/lib.rt:185:1
 returns-2 : tie.Need-returns-2

@@ -1,6 +1,7 @@
 use mathlib.Core.Path.{sym, _∙_}
 use Rattle.sheet_write.proofs.Laws.{length-bad, length-clear}
-use Rattle.twins.proofs.Laws.{twins-none}
+use Rattle.values.specs.declared.Kind.the-variants.{Lists}
+use Rattle.item.proofs.Laws.{twins-none}
 use borrow.Author.Needs.{needs}
 use Rattle.sheet_write.proofs.length_small.Statement.{statement}
 use Rattle.sheet_write.proofs.length_small.Tie as tie
@@ -30,7 +31,7 @@ slice-aggregate-length-accepted c = search needs
 
 -- src/lib.rt:180:9
 length-accepted-requires : tie.Need-length-accepted-requires
-length-accepted-requires c κs = (sym (c .before .before .before .table-fault .ensures) ∙ c .before .enum-told .given .1, twins-none _ 0)
+length-accepted-requires c κs = (sym (c .before .before .before .table-fault .ensures) ∙ c .before .enum-told .given .1, twins-none Lists _ 0)
 
 -- src/lib.rt:181:26
 cast-t10 : tie.Need-cast-t10

@@ -1,7 +1,6 @@
 use Rattle.values.proofs.Laws.{none-judged}
 use mathlib.Core.Path.{sym, _∙_}
 use Rattle.sheet_write.proofs.Laws.{length-bad, length-clear}
-use Rattle.twins.proofs.Laws.{twins-none}
 use borrow.Author.Needs.{needs}
 use Rattle.sheet_write.proofs.sheet_length.Statement.{statement}
 use Rattle.sheet_write.proofs.sheet_length.Tie as tie

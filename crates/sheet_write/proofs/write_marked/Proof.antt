@@ -1,6 +1,7 @@
 use mathlib.Core.Path.{sym, _∙_}
 use Rattle.sheet_write.proofs.Laws.{bytes-few, written-bad, written-clear}
-use Rattle.twins.proofs.Laws.{twins-none}
+use Rattle.values.specs.declared.Kind.the-variants.{Lists}
+use Rattle.item.proofs.Laws.{twins-none}
 use borrow.Author.Needs.{needs}
 use Rattle.sheet_write.proofs.write_marked.Statement.{statement}
 use Rattle.sheet_write.proofs.write_marked.Tie as tie
@@ -56,7 +57,7 @@ slice-aggregate-write-large c = search needs
 
 -- src/lib.rt:130:5
 write-large-requires : tie.Need-write-large-requires
-write-large-requires c κs = (sym (c .before .before .before .before .before .before .before .before .before .fault-by .ensures) ∙ c .before .before .before .before .before .enum-told .given .1, twins-none _ 0)
+write-large-requires c κs = (sym (c .before .before .before .before .before .before .before .before .before .fault-by .ensures) ∙ c .before .before .before .before .before .enum-told .given .1, twins-none Lists _ 0)
 
 -- src/lib.rt:117:1
 same-length-4 : tie.Need-same-length-4

@@ -1,6 +1,7 @@
 use mathlib.Core.Path.{sym, _∙_}
 use Rattle.sheet_write.proofs.Laws.{written-bad, written-clear}
-use Rattle.twins.proofs.Laws.{twins-none}
+use Rattle.values.specs.declared.Kind.the-variants.{Lists}
+use Rattle.item.proofs.Laws.{twins-none}
 use borrow.Author.Needs.{needs}
 use Rattle.sheet_write.proofs.write_small.Statement.{statement}
 use Rattle.sheet_write.proofs.write_small.Tie as tie
@@ -34,7 +35,7 @@ slice-aggregate-write-by-2 c = search needs
 
 -- src/lib.rt:143:5
 write-by-requires : tie.Need-write-by-requires
-write-by-requires c κs = (sym (c .before .before .before .before .before .table-fault .ensures) ∙ c .before .before .before .enum-told .given .1, twins-none _ 0)
+write-by-requires c κs = (sym (c .before .before .before .before .before .table-fault .ensures) ∙ c .before .before .before .enum-told .given .1, twins-none Lists _ 0)
 
 -- src/lib.rt:134:1
 same-length : tie.Need-same-length

@@ -34,7 +34,7 @@ slice-aggregate-put-pool c = search needs
 put-pool-requires : tie.Need-put-pool-requires
 put-pool-requires c κs =
     let a = (c .before .before .before .before .before .before .before .before .before .before .before .args) in
-    (clusters-ready (a .table .now) (a .glyphs) (a .at) ((c .before .before .before .before .before .before .before .before .before .before .before .pre) .0) (λ i. omega (arith, (c .before .before .before .before .before .before .before .before .before .before .shared-slice-known) .given i)) ((c .before .before .cluster-source) .result) ((c .before .before .cluster-source) .ensures), (twins-none Clusters (a .table .now), omega (arith, (c .before .before .before .before .before .before .before .before .before .before .before .pre) .1 .1, (c .before .before .before .before .before .put-machine) .ensures .1)))
+    (clusters-ready (a .table .now) (a .glyphs) (a .at) ((c .before .before .before .before .before .before .before .before .before .before .before .pre) .0) (λ i. omega (arith, (c .before .before .before .before .before .before .before .before .before .before .shared-slice-known) .given i)) ((c .before .before .cluster-source) .result) ((c .before .before .cluster-source) .ensures), (twins-none Clusters (a .table .now) 0, omega (arith, (c .before .before .before .before .before .before .before .before .before .before .before .pre) .1 .1, (c .before .before .before .before .before .put-machine) .ensures .1)))
 
 list-source-requires : tie.Need-list-source-requires
 list-source-requires c κs = (c .before .before .before .before .before .before .before .before .before .before .before .before .before .before .pre) .0 .near

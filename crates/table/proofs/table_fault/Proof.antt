@@ -1,4 +1,4 @@
-use Rattle.table.proofs.Laws.{new-marks}
+use Rattle.values.proofs.Laws.{none-judged}
 use borrow.Author.Needs.{needs}
 use Rattle.table.proofs.table_fault.Statement.{statement}
 use Rattle.table.proofs.table_fault.Tie as tie
@@ -7,7 +7,7 @@ slice-aggregate-fault-by : tie.Need-slice-aggregate-fault-by
 slice-aggregate-fault-by c = search needs
 
 fault-by-requires : tie.Need-fault-by-requires
-fault-by-requires c κs = new-marks _ _ 512
+fault-by-requires c κs = none-judged _ _ 512
 
 returns : tie.Need-returns
 returns c = search needs
@@ -16,7 +16,7 @@ slice-aggregate-fault-by-2 : tie.Need-slice-aggregate-fault-by-2
 slice-aggregate-fault-by-2 c = search needs
 
 fault-by-requires-2 : tie.Need-fault-by-requires-2
-fault-by-requires-2 c κs = new-marks _ _ 4096
+fault-by-requires-2 c κs = none-judged _ _ 4096
 
 returns-2 : tie.Need-returns-2
 returns-2 c = search needs
@@ -25,7 +25,7 @@ slice-aggregate-fault-by-3 : tie.Need-slice-aggregate-fault-by-3
 slice-aggregate-fault-by-3 c = search needs
 
 fault-by-requires-3 : tie.Need-fault-by-requires-3
-fault-by-requires-3 c κs = new-marks _ _ 32768
+fault-by-requires-3 c κs = none-judged _ _ 32768
 
 returns-3 : tie.Need-returns-3
 returns-3 c = search needs

@@ -1,4 +1,3 @@
-use lib.ListN.{length}
 use Prim.Native.Nat.{_-_, _≤_}
 use borrow.Author.Needs.{needs}
 use native.Mathlib.Omega.{arith}
@@ -10,10 +9,10 @@ use Rattle.fields.proofs.u32_at.Reads as u32-at-reads
 use Rattle.twins.proofs.first_odd.Reads as first-odd-reads
 
 abbrev Inv-loop : tie.InvT-loop
-Inv-loop marks from at₀ at = from ≤ at
+Inv-loop marks from end at₀ at = from ≤ at
 
 abbrev μ-loop : tie.MeasureT-loop
-μ-loop marks from at₀ at = length marks - at
+μ-loop marks from end at₀ at = end - at
 
 -- src/lib.rt:251:5
 loop-holds : tie.Need-loop-holds Inv-loop μ-loop
