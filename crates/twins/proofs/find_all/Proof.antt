@@ -46,7 +46,10 @@ loop-less c = omega (arith, c .next-list2 .ensures)
 
 -- src/lib.rt:276:5
 loop-again : tie.Need-loop-again Inv-loop μ-loop
-loop-again c = search needs
+loop-again c =
+    let w = c .before .before .before .before .before .before .before .find-twin in
+    let l = c .before .before .before .before .before .before .before .before .before .before .before .before .loop in
+    (omega (arith, w .kept, l .inv .0), omega (arith, w .kept, l .inv .1), omega (arith, w .kept, l .inv .2), w .ensures .0, w .ensures .1)
 
 -- src/lib.rt:270:1
 same-length : tie.Need-same-length Inv-loop μ-loop
