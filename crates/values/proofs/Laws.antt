@@ -10,11 +10,12 @@ use lib.Dec.{ltb}
 use borrow.Author.Tests.{eq-eqb, ne-eqb, ltb-true, ltb-false}
 use lib.ListN.{getD, set, replicate}
 use lib.Seq.{getD-set-other}
+use Rattle.fields.specs.declared.Refusal.{Refusal}
 use Rattle.fields.specs.declared.Fault.{Fault}
 use Rattle.fields.specs.declared.Fault.the-variants.{Clear, Bad}
 use Rattle.fields.specs.Field.{u16At}
 use Rattle.fields.specs.Faults.{_then_}
-use Rattle.fields.specs.Laws.{then-assoc, then-clear, then-go}
+use Rattle.fields.specs.Laws.{then-assoc, then-clear, then-second, then-stop, then-go}
 use Rattle.fields.specs.Walk.{walk, each, walk-stop, walk-next, walk-none}
 use Rattle.lookup.specs.declared.Found.{Found}
 use Rattle.lookup.specs.declared.Found.the-variants.{Value, Nothing}
@@ -26,19 +27,10 @@ use Rattle.actions.specs.declared.Spot.{Spot}
 use Rattle.actions.specs.declared.Spot.the-variants.{At, Nowhere}
 use Rattle.actions.specs.Faults.{actionsFault}
 use Rattle.actions.specs.Marks.{Passing}
-use Rattle.actions.proofs.Marks.{set-here, no-mark, blank-passed}
-use Rattle.values.specs.declared.Split.{Split}
+use Rattle.actions.proofs.Marks.{set-here, no-mark, each-fewer, blank-passed}
 use Rattle.values.specs.declared.Kind.{Kind}
 use Rattle.values.specs.declared.Kind.the-variants.{Clusters, Lists}
-use Rattle.values.specs.Values.{spotOf, itemFault, spotFault, placeFault, blockPlace, blockFault, glyphFault, Marked, Tells, besides, Judged, Told, Splits}
-
--- what was found without fault may be marked
-pub mark : {one : ℕ → Fault} {marks : List ℕ} (at : ℕ) → Marked one marks → one at ≡ Clear → Marked one (set marks at 1)
-mark {one} {marks} at m clear = record { clear = λ i e. go i e (ℕ-discrete i at) }
-  where
-    go : (i : ℕ) → getD (set marks at 1) i 0 ≡ 1 → Dec (i ≡ at) → one i ≡ Clear
-    go i e (yes q) = ap one q ∙ clear
-    go i e (no n) = m .clear i (sym (getD-set-other marks at i 1 0 n) ∙ e)
+use Rattle.values.specs.Values.{spotOf, itemFault, spotFault, placeFault, glyphFault, Tells, besides, Judged, Told, Ahead, Noted}
 
 -- what is judged of a value, from what its steps found
 pub place-of : (t : List ℕ) (glyphs : ℕ) (kind : Kind) (base p : ℕ) {fault : Fault} {spot : Spot}
@@ -64,17 +56,7 @@ told-next {t} {kind} {base} {judged} place count left p fewer here before told i
     go (yes q) = let e : p ≡ place + 2 * i = omega arith in subst (Told t kind base judged) e told
     go (no n) = before i (omega arith)
 
--- what is judged of a block, from what was found of its values
-pub block-of : (t : List ℕ) (glyphs : ℕ) (kind : Kind) (base block place : ℕ) {fault : Fault}
-    → fault ≡ each (placeFault t glyphs kind base) (λ q. q + 2) 16 place → place ≡ blockPlace block
-    → fault ≡ blockFault t glyphs kind base block
-unfolding blockFault
-block-of t glyphs kind base block place f e = f ∙ ap (λ (p : ℕ). each (placeFault t glyphs kind base) (λ q. q + 2) 16 p) e
-
 -- nothing is marked at first
-pub none-marked : (one : ℕ → Fault) (n : ℕ) → Marked one (replicate n 0)
-none-marked one n = record { clear = λ i e. absurd (omega (arith, no-mark n i)) }
-
 pub blank-judged : (t : List ℕ) (glyphs : ℕ) (judged : List ℕ) → ((i : ℕ) → getD judged i 0 ≡ 0) → Judged t glyphs judged
 blank-judged t glyphs judged blank = record { clear = λ kind i e. absurd (none kind i e); passed = blank-passed t glyphs judged blank }
   where
@@ -179,45 +161,81 @@ pub array-values : (one : ℕ → Fault) (array : Bool) (count n p : ℕ) → ar
     → each one (λ q. q + 2) count p ≡ each one (λ q. q + 2) (cond array n 1) p
 array-values one array count n p e q = ap (λ (k : ℕ). each one (λ q. q + 2) k p) q ∙ sym (ap (λ (b : Bool). each one (λ q. q + 2) (cond b n 1) p) e)
 
-each-first : (one : ℕ → Fault) (n p : ℕ) → each one (λ q. q + 2) (suc n) p ≡ (one p then each one (λ q. q + 2) n (p + 2))
-unfolding walk
-each-first one n p = refl
+-- ---- values of which is known what they lead to
 
-block-next : (block : ℕ) → blockPlace (block + 2) ≡ blockPlace block + 2 * 16
-unfolding blockPlace
-block-next block = omega arith
+-- where nothing is noted nothing is known
+pub none-ahead : (t : List ℕ) (glyphs : ℕ) (kind : Kind) (base n : ℕ) → Ahead t glyphs kind base (replicate n 0)
+none-ahead t glyphs kind base n = record { clear = λ p. walk-none _ _ _ _ _ _ (omega (arith, no-mark n p)) }
+
+-- one note after the other, the second of values with which the first ones end
+pub noted-none : (place count : ℕ) (ahead : List ℕ) → Noted place count ahead ahead
+noted-none place count ahead = record { at = λ p. inl refl }
+
+pub noted-more : {before between after : List ℕ} (place count p left : ℕ) → left ≤ count → p + 2 * left ≡ place + 2 * count → Noted place count before between
+    → Noted p left between after → Noted place count before after
+noted-more {before} {between} {after} place count p left h e f g = record { at = λ q. ⊎-elim (λ s. kept q s (f .at q)) (λ w. inr (w .0, omega (arith, w .1), w .2 ∙ e, w .3)) (g .at q) }
+  where
+    kept : (q : ℕ) → getD after q 0 ≡ getD between q 0
+        → (getD between q 0 ≡ getD before q 0) ⊎ ((l : ℕ) × (l ≤ count) × (q + 2 * l ≡ place + 2 * count) × (getD between q 0 ≤ l))
+        → (getD after q 0 ≡ getD before q 0) ⊎ ((l : ℕ) × (l ≤ count) × (q + 2 * l ≡ place + 2 * count) × (getD after q 0 ≤ l))
+    kept q s (inl r) = inl (s ∙ r)
+    kept q s (inr w) = inr (w .0, w .1, w .2, omega (arith, w .3, s))
+
+-- a byte noted at the first
+pub noted-one : {ahead : List ℕ} (place count byte : ℕ) → byte ≤ count → Noted place count ahead (set ahead place byte)
+noted-one {ahead} place count byte h = record { at = λ p. go p (ℕ-discrete p place) }
+  where
+    here : (getD (set ahead place byte) place 0 ≡ getD ahead place 0)
+        ⊎ ((left : ℕ) × (left ≤ count) × (place + 2 * left ≡ place + 2 * count) × (getD (set ahead place byte) place 0 ≤ left))
+    here = ⊎-elim (λ s. inr (count, omega arith, refl, omega arith)) (λ s. inl s) (set-here ahead place byte)
+
+    go : (p : ℕ) → Dec (p ≡ place)
+        → (getD (set ahead place byte) p 0 ≡ getD ahead p 0) ⊎ ((left : ℕ) × (left ≤ count) × (p + 2 * left ≡ place + 2 * count) × (getD (set ahead place byte) p 0 ≤ left))
+    go p (yes q) = rw q here
+    go p (no n) = inl (getD-set-other ahead place p byte 0 n)
 
 module _ (t : List ℕ) (glyphs : ℕ) (kind : Kind) (base : ℕ) where
-  -- blocks that follow each other are judged by their values
-  blocks-places : (n block : ℕ)
-      → each (blockFault t glyphs kind base) (λ b. b + 2) n block ≡ each (placeFault t glyphs kind base) (λ q. q + 2) (16 * n) (blockPlace block)
-  unfolding blockFault
-  blocks-places zero block =
-      walk-none (λ b _. blockFault t glyphs kind base b) (λ b. b + 2) (λ b. 0) 0 block 0 (omega arith)
-      ∙ sym (walk-none (λ q _. placeFault t glyphs kind base q) (λ q. q + 2) (λ q. 0) (16 * 0) (blockPlace block) 0 (omega arith))
-  blocks-places (suc n) block =
-      let count : 16 + 16 * n ≡ 16 * suc n = omega arith in
-      each-first (blockFault t glyphs kind base) n block
-      ∙ ap (λ (f : Fault). blockFault t glyphs kind base block then f) (blocks-places n (block + 2))
-      ∙ ap (λ (q : ℕ). blockFault t glyphs kind base block then each (placeFault t glyphs kind base) (λ q. q + 2) (16 * n) q) (block-next block)
-      ∙ sym (each-both (placeFault t glyphs kind base) 16 (16 * n) (blockPlace block))
-      ∙ ap (λ (k : ℕ). each (placeFault t glyphs kind base) (λ q. q + 2) k (blockPlace block)) count
+  -- the last of values that lead to no fault, and some of them from their first on
+  some-clear : (place count p left n : ℕ) → left ≤ count → p + 2 * left ≡ place + 2 * count → n ≤ left
+      → each (placeFault t glyphs kind base) (λ q. q + 2) count place ≡ Clear → each (placeFault t glyphs kind base) (λ q. q + 2) n p ≡ Clear
+  some-clear place count p left n h e f clear =
+      let all : count ≡ count - left + left = omega arith in
+      let here : place + 2 * (count - left) ≡ p = omega arith in
+      each-fewer (placeFault t glyphs kind base) (λ q. q + 2) n left p f
+      (ap (λ (k : ℕ). each (placeFault t glyphs kind base) (λ q. q + 2) left k) (sym here)
+      ∙ then-second _ _ (sym (each-both (placeFault t glyphs kind base) (count - left) left place) ∙ ap (λ (k : ℕ). each (placeFault t glyphs kind base) (λ q. q + 2) k place) (sym all) ∙ clear))
 
-  -- values are judged as those before the first block, the blocks, and the rest
-  pub by-blocks : (place count : ℕ) (s : Split) → Splits place count s
-      → each (placeFault t glyphs kind base) (λ q. q + 2) count place
-      ≡ (each (placeFault t glyphs kind base) (λ q. q + 2) (s .front) place
-      then (each (blockFault t glyphs kind base) (λ b. b + 2) (s .whole) (s .first)
-      then each (placeFault t glyphs kind base) (λ q. q + 2) (s .rest) (s .after)))
-  by-blocks place count s w =
-      let there : place + 2 * s .front + 2 * (16 * s .whole) ≡ s .after = omega (arith, w .ends) in
-      ap (λ (k : ℕ). each (placeFault t glyphs kind base) (λ q. q + 2) k place) (sym (w .all))
-      ∙ each-both (placeFault t glyphs kind base) (s .front) (16 * s .whole + s .rest) place
-      ∙ ap (λ (f : Fault). each (placeFault t glyphs kind base) (λ q. q + 2) (s .front) place then f)
-      (each-both (placeFault t glyphs kind base) (16 * s .whole) (s .rest) (place + 2 * s .front)
-      ∙ ap₂ _then_
-      (ap (λ (q : ℕ). each (placeFault t glyphs kind base) (λ q. q + 2) (16 * s .whole) q) (sym (w .begins)) ∙ sym (blocks-places (s .whole) (s .first)))
-      (ap (λ (q : ℕ). each (placeFault t glyphs kind base) (λ q. q + 2) (s .rest) q) there))
+  -- what is noted of such values is true
+  pub noted-ahead : {before after : List ℕ} (place count : ℕ) → Ahead t glyphs kind base before → each (placeFault t glyphs kind base) (λ q. q + 2) count place ≡ Clear
+      → Noted place count before after → Ahead t glyphs kind base after
+  noted-ahead {before} {after} place count a clear noted = record { clear = λ p. go p (noted .at p) }
+    where
+      go : (p : ℕ) → (getD after p 0 ≡ getD before p 0) ⊎ ((left : ℕ) × (left ≤ count) × (p + 2 * left ≡ place + 2 * count) × (getD after p 0 ≤ left))
+          → each (placeFault t glyphs kind base) (λ q. q + 2) (getD after p 0) p ≡ Clear
+      go p (inl s) = ap (λ (k : ℕ). each (placeFault t glyphs kind base) (λ q. q + 2) k p) s ∙ a .clear p
+      go p (inr w) = some-clear place count p (w .0) (getD after p 0) (w .1) (w .2) (w .3) clear
+
+  -- values that are passed, `part` of those left, because they are known or because they were judged
+  pub part-passed : (left p part : ℕ) → part ≤ left → each (placeFault t glyphs kind base) (λ q. q + 2) part p ≡ Clear
+      → each (placeFault t glyphs kind base) (λ q. q + 2) left p ≡ each (placeFault t glyphs kind base) (λ q. q + 2) (left - part) (p + 2 * part)
+  part-passed left p part h clear =
+      let all : left ≡ part + (left - part) = omega arith in
+      ap (λ (k : ℕ). each (placeFault t glyphs kind base) (λ q. q + 2) k p) all
+      ∙ each-both (placeFault t glyphs kind base) part (left - part) p
+      ∙ then-go _ clear
+
+  pub part-known : {ahead : List ℕ} (p known part : ℕ) → Ahead t glyphs kind base ahead → known ≡ getD ahead p 0 → part ≤ known
+      → each (placeFault t glyphs kind base) (λ q. q + 2) part p ≡ Clear
+  part-known {ahead} p known part a e h = each-fewer (placeFault t glyphs kind base) (λ q. q + 2) part (getD ahead p 0) p (omega arith) (a .clear p)
+
+  -- a part with a fault ends the search
+  pub part-stops : (left p part : ℕ) {r : Refusal} {at : ℕ} → part ≤ left → each (placeFault t glyphs kind base) (λ q. q + 2) part p ≡ Bad r at
+      → each (placeFault t glyphs kind base) (λ q. q + 2) left p ≡ each (placeFault t glyphs kind base) (λ q. q + 2) part p
+  part-stops left p part h bad =
+      let all : left ≡ part + (left - part) = omega arith in
+      ap (λ (k : ℕ). each (placeFault t glyphs kind base) (λ q. q + 2) k p) all
+      ∙ each-both (placeFault t glyphs kind base) part (left - part) p
+      ∙ then-stop _ bad
 
 -- where an action value leads
 pub list-nowhere : (base value : ℕ) → value ≡ 0 → spotOf Lists base (Value value) ≡ Nowhere

@@ -1,9 +1,10 @@
 -- What the values of a direction's two lookups lead to (document 01, "The table"): a width value to a cluster, an action value to an action list; the first
 -- fault of the lookup and of all that its values lead to, glyph by glyph; and what each glyph has.
-use Prim.Native.Nat.{ℕ, _+_, _*_, _/_, _%_, _≤_, _<_, _^_}
+use Prim.Native.Nat.{ℕ, _+_, _*_, _/_, _%_, _≤_}
 use mathlib.Core.Bool.{cond}
 use mathlib.Core.Path.{_≡_}
 use mathlib.Core.List.{List, []}
+use mathlib.Core.Logic.{_⊎_}
 use lib.Dec.{eqb}
 use lib.ListN.{getD}
 use Rattle.fields.specs.declared.Fault.{Fault}
@@ -24,7 +25,6 @@ use Rattle.actions.specs.declared.Spot.the-variants.{At, Nowhere}
 use Rattle.actions.specs.Faults.{listFault}
 use Rattle.actions.specs.Actions.{listAt}
 use Rattle.actions.specs.Marks.{Passed}
-use Rattle.values.specs.declared.Split.{Split}
 use Rattle.values.specs.declared.Kind.{Kind}
 use Rattle.values.specs.declared.Kind.the-variants.{Clusters, Lists}
 
@@ -47,21 +47,6 @@ spotFault t glyphs kind Nowhere = Clear
 unfoldable pub placeFault : List ℕ → ℕ → Kind → ℕ → ℕ → Fault
 placeFault t glyphs kind base p = spotFault t glyphs kind (spotOf kind base (Value (u16At t p)))
 
--- where a block stands, which is 16 values: blocks of even number follow each other from position 0 on, blocks of odd number from position 1 on
-unfoldable pub blockPlace : ℕ → ℕ
-blockPlace block = block / 2 * 32 + block % 2
-
--- `count` values that stand from `place` on, as values before the first block, whole blocks, and the rest
-pub record Splits (place count : ℕ) (s : Split) : Type 0 where
-  pub begins : blockPlace (s .first) ≡ place + 2 * s .front
-  pub all : s .front + (16 * s .whole + s .rest) ≡ count
-  pub ends : s .after ≡ place + 2 * (s .front + 16 * s .whole)
-  pub near : s .first + 2 * s .whole < 2 ^ 42
-
--- the first fault of what a block's values lead to
-unfoldable pub blockFault : List ℕ → ℕ → Kind → ℕ → ℕ → Fault
-blockFault t glyphs kind base block = each (placeFault t glyphs kind base) (λ p. p + 2) 16 (blockPlace block)
-
 -- the first fault of what a glyph's value leads to; the lookup stands at `at`
 unfoldable pub glyphFault : List ℕ → ℕ → Kind → ℕ → ℕ → ℕ → Fault
 glyphFault t glyphs kind at base glyph = spotFault t glyphs kind (spotOf kind base (valueOf t glyphs at glyph))
@@ -78,10 +63,6 @@ clusterHere t Nowhere = []
 abbrev pub listHere : List ℕ → Spot → List Action
 listHere t (At p) = listAt t p
 listHere t Nowhere = []
-
--- what is marked has no fault
-pub record Marked (one : ℕ → Fault) (marks : List ℕ) : Type 0 where
-  pub clear : (i : ℕ) → getD marks i 0 ≡ 1 → one i ≡ Clear
 
 -- what a mark tells of a cluster, and of a list
 abbrev pub Tells : Kind → ℕ → Type 0
@@ -101,6 +82,15 @@ pub record Judged (t : List ℕ) (glyphs : ℕ) (judged : List ℕ) : Type 0 whe
 -- the marks in `judged` tell that what the value at `place` leads to has no fault
 pub record Told (t : List ℕ) (kind : Kind) (base : ℕ) (judged : List ℕ) (place : ℕ) : Type 0 where
   pub clear : (glyphs : ℕ) → Judged t glyphs judged → placeFault t glyphs kind base place ≡ Clear
+
+-- so many values from each position on, as `ahead` tells, lead to nothing with a fault
+pub record Ahead (t : List ℕ) (glyphs : ℕ) (kind : Kind) (base : ℕ) (ahead : List ℕ) : Type 0 where
+  pub clear : (p : ℕ) → each (placeFault t glyphs kind base) (λ q. q + 2) (getD ahead p 0) p ≡ Clear
+
+-- what noting of `count` values that stand from `place` on makes of such a list: it tells what it told, or at one of them no more than are left of them
+pub record Noted (place count : ℕ) (before after : List ℕ) : Type 0 where
+  pub at : (p : ℕ)
+      → (getD after p 0 ≡ getD before p 0) ⊎ ((left : ℕ) × (left ≤ count) × (p + 2 * left ≡ place + 2 * count) × (getD after p 0 ≤ left))
 
 -- a glyph's width records and a glyph's actions
 unfoldable pub clusterOf : List ℕ → ℕ → ℕ → ℕ → ℕ → List Pair

@@ -9,7 +9,7 @@ ghost use Rattle.fields.specs.Walk.{each};
 ghost use Rattle.lookup.specs.declared.Found.the-variants.{Value};
 ghost use Rattle.lookup.specs.Lookup.{lookupFault};
 ghost use Rattle.actions.specs.Actions.{Below};
-ghost use Rattle.values.specs.Values.{spotOf, itemFault, placeFault, blockPlace, blockFault, glyphFault, valuesFault, Marked, Tells, besides, Judged, Told, Splits};
+ghost use Rattle.values.specs.Values.{spotOf, itemFault, placeFault, glyphFault, valuesFault, Tells, besides, Judged, Told, Ahead, Noted};
 use actions::Spot;
 use fields::Fault;
 use lookup::Found;
@@ -19,16 +19,6 @@ use runs::Run;
 pub enum Kind {
     Clusters,
     Lists,
-}
-
-// Values that follow each other: `front` of them before the first block, then `whole` blocks from the block `first` on, and
-// `rest` values, which stand from `after` on.
-struct Split {
-    front: usize,
-    first: usize,
-    whole: usize,
-    after: usize,
-    rest: usize,
 }
 
 // Where the list stands that an action value leads to, an offset from `base`; 0 leads nowhere.
@@ -220,103 +210,64 @@ fn stretch_fault(
     Fault::Clear
 }
 
-// Where a block stands. A block is 16 values: those of even number follow each other from position 0 on, those of odd
-// number from position 1 on.
-fn block_place(block: usize) -> usize
-    requires { ⌜ block < 2 ^ 42 ⌝ }
-    ensures { λ r. ⌜ (r ≡ blockPlace block) × (r < 2 ^ 47) ⌝ }
+// How many of `count` values, which stand from `place` on, come before one of which `ahead` tells; it is not asked of the first.
+fn untold(place: usize, count: usize, ahead: &[u8]) -> usize
+    requires { ⌜ (0 < count) × (place + 2 * count < 2 ^ 50) ⌝ }
+    ensures { λ r. ⌜ (0 < r) × (r ≤ count) ⌝ }
 {
-    block / 2 * 32 + block % 2
-}
-
-// The block that stands at `place`.
-pub fn block_at(place: usize) -> usize
-    requires { ⌜ place % 32 < 2 ⌝ }
-    ensures { λ r. ⌜ (blockPlace r ≡ place) × (r ≤ place) ⌝ }
-{
-    place / 32 * 2 + place % 2
-}
-
-// How many values, the first at `place`, stand before the first block.
-pub fn front_of(place: usize) -> usize
-    requires { ⌜ place < 2 ^ 42 ⌝ }
-    ensures { λ r. ⌜ (r < 16) × ((place + 2 * r) % 32 < 2) ⌝ }
-{
-    15 - (place / 2 + 15) % 16
-}
-
-// The first fault of what a block's values lead to. A block that is found without fault is marked in `blocks`, so that values
-// which many glyphs share are looked at once.
-fn block_fault(
-    table: &[u8],
-    glyphs: usize,
-    kind: Kind,
-    base: usize,
-    block: usize,
-    judged: &mut [u8],
-    blocks: &mut [u8],
-) -> Fault
-    requires { ⌜ (base < 2 ^ 16) × (block < 2 ^ 42) ⌝ }
-    requires { ⌜ Judged (now table) glyphs (now judged) × Marked (blockFault (now table) glyphs kind base) (now blocks) ⌝ }
-    ensures { λ r. ⌜ (r ≡ blockFault (now (table .entry)) glyphs kind base block) × (Judged (now (table .entry)) glyphs (now (judged .exit)) × Marked (blockFault (now (table .entry)) glyphs kind base) (now (blocks .exit))) ⌝ }
-{
-    if fields::u8_at(blocks, block) == 1 {
-        return Fault::Clear;
+    let mut p = place + 2;
+    let mut passed: usize = 1;
+    while passed < count {
+        if 0 < fields::u8_at(ahead, p) {
+            return passed;
+        }
+        p += 2;
+        passed += 1;
     }
-    let fault = stretch_fault(table, glyphs, kind, base, block_place(block), 16, judged);
-    if let Fault::Bad { refusal: _, at: _ } = fault {
-        return fault;
-    }
-    fields::put_u8(blocks, block, 1);
-    Fault::Clear
+    passed
 }
 
-// The first fault of what the values of `count` blocks, which follow each other, lead to.
-fn blocks_fault(
-    table: &[u8],
-    glyphs: usize,
-    kind: Kind,
-    base: usize,
-    first: usize,
-    count: usize,
-    judged: &mut [u8],
-    blocks: &mut [u8],
-) -> Fault
-    requires { ⌜ (base < 2 ^ 16) × (first + 2 * count < 2 ^ 42) ⌝ }
-    requires { ⌜ Judged (now table) glyphs (now judged) × Marked (blockFault (now table) glyphs kind base) (now blocks) ⌝ }
-    ensures { λ r. ⌜ (r ≡ each (blockFault (now (table .entry)) glyphs kind base) (λ b. b + 2) count first) × (Judged (now (table .entry)) glyphs (now (judged .exit)) × Marked (blockFault (now (table .entry)) glyphs kind base) (now (blocks .exit))) ⌝ }
+// Notes at `place` that `count` values from there on lead to nothing with a fault: as many as a byte tells, where that is more
+// than it told.
+fn note(place: usize, count: usize, ahead: &mut [u8])
+    ensures { λ r. ⌜ Noted place count (now (ahead .entry)) (now (ahead .exit)) ⌝ }
 {
-    let mut block = first;
+    let told = fields::lower(count, 255);
+    if told <= fields::u8_at(ahead, place) {
+        return;
+    }
+    fields::put_u8(ahead, place, told as u8);
+}
+
+// The same at each of the values, of which ever fewer are left.
+fn note_each(place: usize, count: usize, ahead: &mut [u8])
+    requires { ⌜ place + 2 * count < 2 ^ 50 ⌝ }
+    ensures { λ r. ⌜ Noted place count (now (ahead .entry)) (now (ahead .exit)) ⌝ }
+{
+    let mut p = place;
     let mut left = count;
     while 0 < left {
-        let fault = block_fault(table, glyphs, kind, base, block, judged, blocks);
-        if let Fault::Bad { refusal: _, at: _ } = fault {
-            return fault;
-        }
-        block += 2;
+        note(p, left, ahead);
+        p += 2;
         left -= 1;
     }
-    Fault::Clear
 }
 
-// How `count` values, which stand from `place` on, fall into blocks.
-fn split_of(place: usize, count: usize) -> Split
-    requires { ⌜ (16 ≤ count) × (place + 2 * count < 2 ^ 42) ⌝ }
-    ensures { λ r. ⌜ Splits place count r ⌝ }
+// Notes it at the first value where it took little work to find out: units that share these values will ask there. Else at
+// each, so that units whose values only overlap with these find it too.
+fn note_values(place: usize, count: usize, work: usize, ahead: &mut [u8])
+    requires { ⌜ place + 2 * count < 2 ^ 50 ⌝ }
+    ensures { λ r. ⌜ Noted place count (now (ahead .entry)) (now (ahead .exit)) ⌝ }
 {
-    let front = front_of(place);
-    let whole = (count - front) / 16;
-    let done = front + 16 * whole;
-    Split {
-        front,
-        first: block_at(place + 2 * front),
-        whole,
-        after: place + 2 * done,
-        rest: count - done,
+    if work <= 8 + count / 128 {
+        note(place, count, ahead);
+        return;
     }
+    note_each(place, count, ahead);
 }
 
-// The first fault of what `count` values, which stand from `place` on, lead to: by blocks, unless they are few.
+// The first fault of what `count` values, which stand from `place` on and which units may share, lead to. `ahead` tells of each
+// position how many values from there on are known to lead to nothing with a fault: these are passed.
 fn places_fault(
     table: &[u8],
     glyphs: usize,
@@ -325,25 +276,35 @@ fn places_fault(
     place: usize,
     count: usize,
     judged: &mut [u8],
-    blocks: &mut [u8],
+    ahead: &mut [u8],
 ) -> Fault
     requires { ⌜ (base < 2 ^ 16) × (place + 2 * count < 2 ^ 42) ⌝ }
-    requires { ⌜ Judged (now table) glyphs (now judged) × Marked (blockFault (now table) glyphs kind base) (now blocks) ⌝ }
-    ensures { λ r. ⌜ (r ≡ each (placeFault (now (table .entry)) glyphs kind base) (λ p. p + 2) count place) × (Judged (now (table .entry)) glyphs (now (judged .exit)) × Marked (blockFault (now (table .entry)) glyphs kind base) (now (blocks .exit))) ⌝ }
+    requires { ⌜ Judged (now table) glyphs (now judged) × Ahead (now table) glyphs kind base (now ahead) ⌝ }
+    ensures { λ r. ⌜ (r ≡ each (placeFault (now (table .entry)) glyphs kind base) (λ p. p + 2) count place) × (Judged (now (table .entry)) glyphs (now (judged .exit)) × Ahead (now (table .entry)) glyphs kind base (now (ahead .exit))) ⌝ }
 {
-    if count < 32 {
-        return stretch_fault(table, glyphs, kind, base, place, count, judged);
+    let mut p = place;
+    let mut left = count;
+    let mut work: usize = 0;
+    while 0 < left {
+        let known = fields::u8_at(ahead, p);
+        if 0 < known {
+            let part = fields::lower(known, left);
+            p += 2 * part;
+            left -= part;
+            work += 1;
+        } else {
+            let part = untold(p, left, ahead);
+            let fault = stretch_fault(table, glyphs, kind, base, p, part, judged);
+            if let Fault::Bad { refusal: _, at: _ } = fault {
+                return fault;
+            }
+            p += 2 * part;
+            left -= part;
+            work += part;
+        }
     }
-    let s = split_of(place, count);
-    let before = stretch_fault(table, glyphs, kind, base, place, s.front, judged);
-    if let Fault::Bad { refusal: _, at: _ } = before {
-        return before;
-    }
-    let within = blocks_fault(table, glyphs, kind, base, s.first, s.whole, judged, blocks);
-    if let Fault::Bad { refusal: _, at: _ } = within {
-        return within;
-    }
-    stretch_fault(table, glyphs, kind, base, s.after, s.rest, judged)
+    note_values(place, count, work, ahead);
+    Fault::Clear
 }
 
 // How many values an array has for the glyphs of a run: those below `glyphs`.
@@ -367,11 +328,11 @@ fn run_fault(
     format: usize,
     run: Run,
     judged: &mut [u8],
-    blocks: &mut [u8],
+    ahead: &mut [u8],
 ) -> Fault
     requires { ⌜ (base < 2 ^ 16) × ((glyphs < 2 ^ 16) × ((run .from < run .until) × ((run .from < glyphs) × (run .place < 2 ^ 41)))) ⌝ }
-    requires { ⌜ Judged (now table) glyphs (now judged) × Marked (blockFault (now table) glyphs kind base) (now blocks) ⌝ }
-    ensures { λ r. ⌜ (r ≡ each (placeFault (now (table .entry)) glyphs kind base) (λ p. p + 2) (cond (run .array) (min (run .until) glyphs - run .from) 1) (run .place)) × (Judged (now (table .entry)) glyphs (now (judged .exit)) × Marked (blockFault (now (table .entry)) glyphs kind base) (now (blocks .exit))) ⌝ }
+    requires { ⌜ Judged (now table) glyphs (now judged) × Ahead (now table) glyphs kind base (now ahead) ⌝ }
+    ensures { λ r. ⌜ (r ≡ each (placeFault (now (table .entry)) glyphs kind base) (λ p. p + 2) (cond (run .array) (min (run .until) glyphs - run .from) 1) (run .place)) × (Judged (now (table .entry)) glyphs (now (judged .exit)) × Ahead (now (table .entry)) glyphs kind base (now (ahead .exit))) ⌝ }
 {
     if !run.array {
         return value_fault(table, glyphs, kind, base, run.place, judged);
@@ -380,7 +341,7 @@ fn run_fault(
     if format != 4 {
         return stretch_fault(table, glyphs, kind, base, run.place, count, judged);
     }
-    places_fault(table, glyphs, kind, base, run.place, count, judged, blocks)
+    places_fault(table, glyphs, kind, base, run.place, count, judged, ahead)
 }
 
 // The first fault of what the values of the lookup at `at`, which has none itself, lead to.
@@ -391,10 +352,10 @@ fn glyphs_fault(
     at: usize,
     base: usize,
     judged: &mut [u8],
-    blocks: &mut [u8],
+    ahead: &mut [u8],
 ) -> Fault
     requires { ⌜ (at < 2 ^ 32) × ((base < 2 ^ 16) × ((glyphs < 2 ^ 16) × (lookupFault (now table) glyphs at ≡ Clear))) ⌝ }
-    requires { ⌜ Judged (now table) glyphs (now judged) × Marked (blockFault (now table) glyphs kind base) (now blocks) ⌝ }
+    requires { ⌜ Judged (now table) glyphs (now judged) × Ahead (now table) glyphs kind base (now ahead) ⌝ }
     ensures { λ r. ⌜ (r ≡ each (glyphFault (now (table .entry)) glyphs kind at base) (λ g. g + 1) glyphs 0) × Judged (now (table .entry)) glyphs (now (judged .exit)) ⌝ }
 {
     let format = fields::u16_at(table, at);
@@ -405,7 +366,7 @@ fn glyphs_fault(
         if glyphs <= run.from {
             return Fault::Clear;
         }
-        let fault = run_fault(table, glyphs, kind, base, format, run, judged, blocks);
+        let fault = run_fault(table, glyphs, kind, base, format, run, judged, ahead);
         if let Fault::Bad { refusal: _, at: _ } = fault {
             return fault;
         }
@@ -413,6 +374,32 @@ fn glyphs_fault(
         glyph = run.until;
     }
     Fault::Clear
+}
+
+// The same where units can share values: what is known of them is noted for each position of the table, which has at most
+// 32,768 bytes.
+fn shared_fault(
+    table: &[u8],
+    glyphs: usize,
+    kind: Kind,
+    at: usize,
+    base: usize,
+    judged: &mut [u8],
+) -> Fault
+    requires { ⌜ (at < 2 ^ 32) × ((base < 2 ^ 16) × ((glyphs < 2 ^ 16) × (lookupFault (now table) glyphs at ≡ Clear))) ⌝ }
+    requires { ⌜ Judged (now table) glyphs (now judged) ⌝ }
+    ensures { λ r. ⌜ (r ≡ each (glyphFault (now (table .entry)) glyphs kind at base) (λ g. g + 1) glyphs 0) × Judged (now (table .entry)) glyphs (now (judged .exit)) ⌝ }
+{
+    if table.len() <= 512 {
+        let mut ahead = [0u8; 512];
+        return glyphs_fault(table, glyphs, kind, at, base, judged, &mut ahead);
+    }
+    if table.len() <= 4096 {
+        let mut ahead = [0u8; 4096];
+        return glyphs_fault(table, glyphs, kind, at, base, judged, &mut ahead);
+    }
+    let mut ahead = [0u8; 32768];
+    glyphs_fault(table, glyphs, kind, at, base, judged, &mut ahead)
 }
 
 // The first fault of the lookup at `at`, and of what its values, offsets from `base`, lead to. `judged` is lent, so that
@@ -434,15 +421,10 @@ pub fn values_fault(
     if let Fault::Bad { refusal: _, at: _ } = fault {
         return fault;
     }
-    // A mark for each block of the table, which has at most 32,768 bytes: two blocks begin in 32 bytes.
-    if table.len() <= 1024 {
-        let mut blocks = [0u8; 64];
-        return glyphs_fault(table, glyphs, kind, at, base, judged, &mut blocks);
+    // Only units of format 4 can share values.
+    if fields::u16_at(table, at) != 4 {
+        let mut none = [0u8; 0];
+        return glyphs_fault(table, glyphs, kind, at, base, judged, &mut none);
     }
-    if table.len() <= 4096 {
-        let mut blocks = [0u8; 256];
-        return glyphs_fault(table, glyphs, kind, at, base, judged, &mut blocks);
-    }
-    let mut blocks = [0u8; 2048];
-    glyphs_fault(table, glyphs, kind, at, base, judged, &mut blocks)
+    shared_fault(table, glyphs, kind, at, base, judged)
 }

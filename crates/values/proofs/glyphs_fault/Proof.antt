@@ -6,22 +6,22 @@ use Rattle.fields.specs.Laws.{then-stop, then-go}
 use Rattle.fields.specs.Walk.{each, walk-none}
 use Prim.Native.Nat.{_+_, _-_}
 use denote.Ref.{now}
-use Rattle.values.specs.Values.{blockFault, glyphFault, Marked, Judged}
+use Rattle.values.specs.Values.{glyphFault, Judged, Ahead}
 use Rattle.values.proofs.Laws.{run-end, run-judged, all-left}
 use mathlib.Core.Path.{_≡_, refl, sym, _∙_}
 use Rattle.values.proofs.glyphs_fault.Statement.{statement}
 use Rattle.values.proofs.glyphs_fault.Tie as tie
 
 abbrev Inv-loop : tie.InvT-loop
-Inv-loop table glyphs kind at base judged₀ blocks₀ format cursor₀ glyph₀ judged blocks cursor glyph =
+Inv-loop table glyphs kind at base judged₀ ahead₀ format cursor₀ glyph₀ judged ahead cursor glyph =
     (each (glyphFault table glyphs kind at base) (λ g. g + 1) glyphs 0 ≡ each (glyphFault table glyphs kind at base) (λ g. g + 1) (glyphs - glyph) glyph)
     × Serves table at glyph cursor
-    × (Judged table glyphs judged × Marked (blockFault table glyphs kind base) blocks)
+    × (Judged table glyphs judged × Ahead table glyphs kind base ahead)
     × (length judged ≡ length judged₀)
-    × (length blocks ≡ length blocks₀)
+    × (length ahead ≡ length ahead₀)
 
 abbrev μ-loop : tie.MeasureT-loop
-μ-loop table glyphs kind at base judged₀ blocks₀ format cursor₀ glyph₀ judged blocks cursor glyph = glyphs - glyph
+μ-loop table glyphs kind at base judged₀ ahead₀ format cursor₀ glyph₀ judged ahead cursor glyph = glyphs - glyph
 
 u16-at-requires : tie.Need-u16-at-requires Inv-loop μ-loop
 u16-at-requires c κs = search needs

@@ -1,6 +1,6 @@
+use Rattle.values.proofs.Laws.{none-ahead}
 use Rattle.values.specs.Values.{valuesFault}
 use Rattle.fields.specs.Laws.{then-stop, then-go}
-use Rattle.values.proofs.Laws.{none-marked}
 use mathlib.Core.Path.{sym, _∙_}
 use borrow.Author.Needs.{needs}
 use Rattle.values.proofs.values_fault.Statement.{statement}
@@ -19,44 +19,31 @@ returns c = let f = c .before .before .lookup-fault .ensures in (f ∙ sym (then
 enum-told-2 : tie.Need-enum-told-2
 enum-told-2 c = search needs
 
+u16-at-requires : tie.Need-u16-at-requires
+u16-at-requires c κs = search needs
+
 slice-aggregate-glyphs-fault : tie.Need-slice-aggregate-glyphs-fault
 slice-aggregate-glyphs-fault c = search needs
 
 glyphs-fault-requires : tie.Need-glyphs-fault-requires
-glyphs-fault-requires c κs = ((c .before .before .before .before .before .before .before .before .pre .0 .0, (c .before .before .before .before .before .before .before .before .pre .0 .1 .0, (c .before .before .before .before .before .before .before .before .pre .0 .1 .1, sym (c .before .before .before .before .before .lookup-fault .ensures) ∙ c .before .before .before .enum-told2 .given .1))), (c .before .before .before .before .before .before .before .before .pre .1, none-marked _ 64))
+glyphs-fault-requires c κs = ((c .before .before .before .before .before .before .before .before .before .pre .0 .0, (c .before .before .before .before .before .before .before .before .before .pre .0 .1 .0, (c .before .before .before .before .before .before .before .before .before .pre .0 .1 .1, sym (c .before .before .before .before .before .before .lookup-fault .ensures) ∙ c .before .before .before .before .enum-told2 .given .1))), (c .before .before .before .before .before .before .before .before .before .pre .1, none-ahead _ _ _ _ 0))
 
 same-length : tie.Need-same-length
 same-length c = search needs
 
 returns-2 : tie.Need-returns-2
 unfolding valuesFault
-returns-2 c = (c .before .before .before .glyphs-fault .ensures .0 ∙ sym (then-go _ (sym (c .before .before .before .before .before .before .before .before .before .lookup-fault .ensures) ∙ c .before .before .before .before .before .before .before .enum-told2 .given .1)), c .before .before .before .glyphs-fault .ensures .1)
+returns-2 c = (c .before .before .before .glyphs-fault .ensures .0 ∙ sym (then-go _ (sym (c .before .before .before .before .before .before .before .before .before .before .lookup-fault .ensures) ∙ c .before .before .before .before .before .before .before .before .enum-told2 .given .1)), c .before .before .before .glyphs-fault .ensures .1)
 
-slice-aggregate-glyphs-fault-2 : tie.Need-slice-aggregate-glyphs-fault-2
-slice-aggregate-glyphs-fault-2 c = search needs
-
-glyphs-fault-requires-2 : tie.Need-glyphs-fault-requires-2
-glyphs-fault-requires-2 c κs = ((c .before .before .before .before .before .before .before .before .before .pre .0 .0, (c .before .before .before .before .before .before .before .before .before .pre .0 .1 .0, (c .before .before .before .before .before .before .before .before .before .pre .0 .1 .1, sym (c .before .before .before .before .before .before .lookup-fault .ensures) ∙ c .before .before .before .before .enum-told2 .given .1))), (c .before .before .before .before .before .before .before .before .before .pre .1, none-marked _ 256))
+shared-fault-requires : tie.Need-shared-fault-requires
+shared-fault-requires c κs = ((c .before .before .before .before .before .before .before .before .pre .0 .0, (c .before .before .before .before .before .before .before .before .pre .0 .1 .0, (c .before .before .before .before .before .before .before .before .pre .0 .1 .1, sym (c .before .before .before .before .before .lookup-fault .ensures) ∙ c .before .before .before .enum-told2 .given .1))), c .before .before .before .before .before .before .before .before .pre .1)
 
 same-length-2 : tie.Need-same-length-2
 same-length-2 c = search needs
 
 returns-3 : tie.Need-returns-3
 unfolding valuesFault
-returns-3 c = (c .before .before .before .glyphs-fault2 .ensures .0 ∙ sym (then-go _ (sym (c .before .before .before .before .before .before .before .before .before .before .lookup-fault .ensures) ∙ c .before .before .before .before .before .before .before .before .enum-told2 .given .1)), c .before .before .before .glyphs-fault2 .ensures .1)
-
-slice-aggregate-glyphs-fault-3 : tie.Need-slice-aggregate-glyphs-fault-3
-slice-aggregate-glyphs-fault-3 c = search needs
-
-glyphs-fault-requires-3 : tie.Need-glyphs-fault-requires-3
-glyphs-fault-requires-3 c κs = ((c .before .before .before .before .before .before .before .before .before .pre .0 .0, (c .before .before .before .before .before .before .before .before .before .pre .0 .1 .0, (c .before .before .before .before .before .before .before .before .before .pre .0 .1 .1, sym (c .before .before .before .before .before .before .lookup-fault .ensures) ∙ c .before .before .before .before .enum-told2 .given .1))), (c .before .before .before .before .before .before .before .before .before .pre .1, none-marked _ 2048))
-
-same-length-3 : tie.Need-same-length-3
-same-length-3 c = search needs
-
-returns-4 : tie.Need-returns-4
-unfolding valuesFault
-returns-4 c = (c .before .before .before .glyphs-fault3 .ensures .0 ∙ sym (then-go _ (sym (c .before .before .before .before .before .before .before .before .before .before .lookup-fault .ensures) ∙ c .before .before .before .before .before .before .before .before .enum-told2 .given .1)), c .before .before .before .glyphs-fault3 .ensures .1)
+returns-3 c = (c .before .before .shared-fault .ensures .0 ∙ sym (then-go _ (sym (c .before .before .before .before .before .before .before .before .lookup-fault .ensures) ∙ c .before .before .before .before .before .before .enum-told2 .given .1)), c .before .before .shared-fault .ensures .1)
 
 pub values-fault-spec : {M : Type 1} → statement M
 values-fault-spec =
@@ -66,15 +53,11 @@ values-fault-spec =
     enum-told
     returns
     enum-told-2
+    u16-at-requires
     slice-aggregate-glyphs-fault
     glyphs-fault-requires
     same-length
     returns-2
-    slice-aggregate-glyphs-fault-2
-    glyphs-fault-requires-2
+    shared-fault-requires
     same-length-2
-    returns-3
-    slice-aggregate-glyphs-fault-3
-    glyphs-fault-requires-3
-    same-length-3
-    returns-4)
+    returns-3)
