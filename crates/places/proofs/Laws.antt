@@ -2,12 +2,12 @@
 use Prim.Native.Nat.{ℕ, zero, suc, _+_, _-_, _*_, _≤_, _<_, _^_, min, max}
 use mathlib.Core.Path.{_≡_, refl, sym, ap, ap₂, _∙_, subst}
 use mathlib.Core.Bool.{Bool, true, false, cond}
+use mathlib.Core.Logic.{_⊎_, ⊎-elim}
 use mathlib.Core.List.{List, [], _∷_, map}
 use native.Mathlib.Omega.{arith}
 use native.Mathlib.Decide.{ℕ-discrete, decLt}
 use lib.Dec.{eqb, ltb}
-use lib.ListN.{length, getD, set}
-use lib.Seq.{getD-set-other}
+use lib.ListN.{length, getD}
 use borrow.Author.Tests.{eq-eqb, ne-eqb, lt-ltb, le-ltb, ltb-true, ltb-false}
 use Rattle.fields.specs.Field.{u16At}
 use Rattle.lists.specs.Upto.{from}
@@ -19,11 +19,11 @@ use Rattle.actions.specs.declared.Spot.the-variants.{At, Nowhere}
 use Rattle.runs.specs.declared.Run.{Run}
 use Rattle.runs.specs.Runs.{placeOf, Follows}
 use Rattle.values.specs.declared.Kind.{Kind}
-use Rattle.values.specs.Values.{spotOf}
+use Rattle.values.specs.Values.{spotOf, Noted}
 use Rattle.item.specs.Items.{itemAt, Twins}
 use Rattle.item.proofs.Laws.{item-past}
 use Rattle.number.specs.Numbered.{Marked, Blank}
-use Rattle.places.specs.Places.{itemHere, glyphItem, spotPlace, valuePlace, runPlace, twinOf, Agree, Carries, Lead, Same, OneItem, Noted, Alike}
+use Rattle.places.specs.Places.{itemHere, glyphItem, spotPlace, valuePlace, runPlace, twinOf, Agree, Carries, Lead, Same, OneItem, Alike}
 
 -- ---- what stands at a place
 
@@ -147,25 +147,6 @@ lead-same kind t base seen place number n a f i l =
 pub alike-none : (kind : Kind) (t : List ℕ) (base : ℕ) (alike : List ℕ) → Blank alike → OneItem kind t base alike
 alike-none kind t base alike b = record { same = λ p i l. absurd (omega (arith, l, b p)) }
 
-set-most : (l : List ℕ) (p k : ℕ) → getD (set l p k) p 0 ≤ k
-set-most [] p k = omega arith
-set-most (x ∷ l) zero k = omega arith
-set-most (x ∷ l) (suc p) k = set-most l p k
-
-pub noted-none : (alike : List ℕ) (place n : ℕ) → Noted alike alike place n
-noted-none alike place n = record { holds = λ kind t base s o. o }
-
--- no more than is true
-pub noted-set : (alike : List ℕ) (place n k : ℕ) → k ≤ n → Noted alike (set alike place k) place n
-noted-set alike place n k h = record { holds = λ kind t base s o. record { same = λ p i l. go kind t base s o p i l (ℕ-discrete p place) } }
-  where
-    go : (kind : Kind) (t : List ℕ) (base : ℕ) → Same kind t base place n → OneItem kind t base alike → (p i : ℕ) → i < getD (set alike place k) p 0 → Dec (p ≡ place)
-        → itemAt kind t (valuePlace kind t base (p + 2 * i)) ≡ itemAt kind t (valuePlace kind t base p)
-    go kind t base s o p i l (yes e) =
-        let few : i < k = omega (arith, l, set-most alike place k, ap (λ (q : ℕ). getD (set alike place k) q 0) e) in
-        subst (λ (q : ℕ). itemAt kind t (valuePlace kind t base (q + 2 * i)) ≡ itemAt kind t (valuePlace kind t base q)) (sym e) (s i (omega arith))
-    go kind t base s o p i l (no e) = o .same p i (omega (arith, l, getD-set-other alike place p k 0 e))
-
 -- the later ones of values that lead to one item
 same-later : (kind : Kind) (t : List ℕ) (base place n first p : ℕ) → first ≤ n → p ≡ place + 2 * first → Same kind t base place n → Same kind t base p (n - first)
 same-later kind t base place n first p h e s i l =
@@ -175,10 +156,17 @@ same-later kind t base place n first p h e s i l =
     ∙ sym (s first (omega arith))
     ∙ ap (λ (q : ℕ). itemAt kind t (valuePlace kind t base q)) (sym e)
 
-pub noted-later : (alike₀ alike alike′ : List ℕ) (place n first p : ℕ) → first ≤ n → p ≡ place + 2 * first → Noted alike₀ alike place n
-    → Noted alike alike′ p (n - first) → Noted alike₀ alike′ place n
-noted-later alike₀ alike alike′ place n first p h e before after =
-    record { holds = λ kind t base s o. after .holds kind t base (same-later kind t base place n first p h e s) (before .holds kind t base s o) }
+-- what is noted of such values is true
+pub noted-alike : (kind : Kind) (t : List ℕ) (base place n : ℕ) (alike alike′ : List ℕ) → Noted place n alike alike′ → Same kind t base place n
+    → OneItem kind t base alike → OneItem kind t base alike′
+noted-alike kind t base place n alike alike′ w s o =
+    record {
+      same = λ p i l.
+          ⊎-elim
+          (λ e. o .same p i (omega (arith, l, e)))
+          (λ v. same-later kind t base place n (n - v .0) p (omega arith) (omega (arith, v .1, v .2)) s i (omega (arith, l, v .1, v .3)))
+          (w .at p);
+    }
 
 -- a pass that had room has come further where its room is full
 pub went-on : (g₀ g m₀ m room : ℕ) → g₀ ≤ g → (g ≤ g₀ → m ≡ m₀) → m₀ < room → room ≤ m → g₀ < g

@@ -83,10 +83,6 @@ Same kind t base place n = (i : ℕ) → i < n → itemAt kind t (valuePlace kin
 pub record OneItem (kind : Kind) (t : List ℕ) (base : ℕ) (alike : List ℕ) : Type 0 where
   pub same : (p : ℕ) → Same kind t base p (getD alike p 0)
 
--- nothing is noted but that n values from `place` on lead to one item: where they do, what is noted is true
-pub record Noted (alike₀ alike : List ℕ) (place n : ℕ) : Type 0 where
-  pub holds : (kind : Kind) (t : List ℕ) (base : ℕ) → Same kind t base place n → OneItem kind t base alike₀ → OneItem kind t base alike
-
 -- what `glyph` has goes up to the glyph e, in a run up to `until` or before it: the glyphs between have its place, or an item that is known to have its number
 pub record Alike (kind : Kind) (t : List ℕ) (base start until place : ℕ) (array : Bool) (glyph : ℕ) (seen : List ℕ) (number e : ℕ) : Type 0 where
   pub more : glyph < e

@@ -10,7 +10,7 @@ ghost use Rattle.lookup.specs.Lookup.{lookupFault};
 ghost use Rattle.item.specs.Items.{Twins};
 ghost use Rattle.number.specs.Numbered.{Blank};
 ghost use Rattle.lookup.specs.Pass.{Serves};
-ghost use Rattle.places.specs.Places.{glyphItem, valuePlace, runPlace, twinOf, Agree, Carries, Lead, OneItem, Noted, Alike, Rooms, Stands, Passed};
+ghost use Rattle.places.specs.Places.{glyphItem, valuePlace, runPlace, twinOf, Agree, Carries, Lead, OneItem, Alike, Rooms, Stands, Passed};
 use actions::Spot;
 use lookup::Cursor;
 use lookup::Found;
@@ -132,29 +132,7 @@ fn known_values(
     Led { values, turns }
 }
 
-// Notes that `count` values from `p` on lead to one item, or that 255 do, if fewer were known to.
-fn note(alike: &mut [u8], p: usize, count: usize)
-    ensures { λ r. ⌜ Noted (now (alike .entry)) (now (alike .exit)) p count ⌝ }
-{
-    if fields::u8_at(alike, p) < count {
-        fields::put_u8(alike, p, fields::lower(count, 255) as u8);
-    }
-}
-
-// Notes that `count` values from `place` on lead to one item, for each of them: that those from it on do.
-fn note_each(alike: &mut [u8], place: usize, count: usize)
-    requires { ⌜ place + 2 * count < 2 ^ 42 ⌝ }
-    ensures { λ r. ⌜ Noted (now (alike .entry)) (now (alike .exit)) place count ⌝ }
-{
-    let mut first = count;
-    while 0 < first {
-        first -= 1;
-        note(alike, place + 2 * first, count - first);
-    }
-}
-
-// The same, and notes it for the next unit that shares these values; for each of them where they were passed in many turns,
-// so that a unit that shares only some of them finds it too. A stretch that was noted so is passed in fewer.
+// The same, and notes it for the next unit that shares these values.
 fn same_values(
     table: &[u8],
     kind: Kind,
@@ -171,11 +149,7 @@ fn same_values(
     ensures { λ r. ⌜ (r ≤ count) × Lead kind (now (table .entry)) base (now (seen .entry)) place number r × OneItem kind (now (table .entry)) base (now (alike .exit)) ⌝ }
 {
     let led = known_values(table, kind, base, twins, seen, alike, place, count, number);
-    if 8 + led.values / 64 < led.turns {
-        note_each(alike, place, led.values);
-        return led.values;
-    }
-    note(alike, place, led.values);
+    values::note_values(place, led.values, led.turns, alike);
     led.values
 }
 

@@ -149,10 +149,12 @@ fn put_medium(
     at: usize,
     base: usize,
     twins: &[u16],
+    alike: &mut [u8],
     out: &mut [u8],
     to: usize,
 ) -> usize
     requires { ⌜ Ready kind (now table) glyphs (Source.Lookup at base) × (Twins kind (now table) (now twins) × (to < 2 ^ 38)) ⌝ }
+    requires { ⌜ Blank (now alike) ⌝ }
     ensures { λ r. ⌜ Tried kind (now (table .entry)) glyphs (Source.Lookup at base) 4096 (now (out .entry)) (now (out .exit)) to r ⌝ }
 {
     let mut ends = [0u16; 4096];
@@ -161,7 +163,6 @@ fn put_medium(
     let mut others = [0u16; 4096];
     let mut slots = [0u16; 1021];
     let mut seen = [0u16; 32768];
-    let mut alike = [0u8; 32768];
     put_with(
         table,
         glyphs,
@@ -175,10 +176,32 @@ fn put_medium(
         &mut others,
         &mut slots,
         &mut seen,
-        &mut alike,
+        alike,
         out,
         to,
     )
+}
+
+// With medium rooms. Only units of format 4 can share values, of which is noted what they have in common.
+fn put_by_format(
+    table: &[u8],
+    glyphs: usize,
+    kind: Kind,
+    at: usize,
+    base: usize,
+    twins: &[u16],
+    out: &mut [u8],
+    to: usize,
+) -> usize
+    requires { ⌜ Ready kind (now table) glyphs (Source.Lookup at base) × (Twins kind (now table) (now twins) × (to < 2 ^ 38)) ⌝ }
+    ensures { λ r. ⌜ Tried kind (now (table .entry)) glyphs (Source.Lookup at base) 4096 (now (out .entry)) (now (out .exit)) to r ⌝ }
+{
+    if fields::u16_at(table, at) == 4 {
+        let mut alike = [0u8; 32768];
+        return put_medium(table, glyphs, kind, at, base, twins, &mut alike, out, to);
+    }
+    let mut none = [0u8; 0];
+    put_medium(table, glyphs, kind, at, base, twins, &mut none, out, to)
 }
 
 // With rooms for a stretch of each glyph.
@@ -235,7 +258,7 @@ fn put_looked(
     requires { ⌜ Ready kind (now table) glyphs (Source.Lookup at base) × (Twins kind (now table) (now twins) × (to < 2 ^ 38)) ⌝ }
     ensures { λ r. ⌜ Placed kind (now (table .entry)) glyphs (Source.Lookup at base) (now (out .entry)) (now (out .exit)) to r ⌝ }
 {
-    let end = put_medium(table, glyphs, kind, at, base, twins, out, to);
+    let end = put_by_format(table, glyphs, kind, at, base, twins, out, to);
     if 0 < end {
         return end;
     }

@@ -259,20 +259,6 @@ fn next_list(marks: &[u8], from: usize, end: usize) -> usize
     at
 }
 
-// How many actions the lists have that are marked, an action of several lists counted for each.
-fn all_actions(table: &[u8], marks: &[u8]) -> usize
-    requires { ⌜ length (now table) ≤ 2 ^ 15 ⌝ }
-    ensures { λ r. ⌜ r < 2 ^ 62 ⌝ }
-{
-    let mut all: usize = 0;
-    let mut at = next_list(marks, 0, table.len());
-    while at < table.len() {
-        all += fields::lower(fields::u32_at(table, at), 64);
-        at = next_list(marks, at + 1, table.len());
-    }
-    all
-}
-
 // Looks for the twins of all lists that are marked.
 fn find_all(table: &[u8], marks: &[u8], eights: &mut [u32], slots: &mut [u16], twins: &mut [u16])
     requires { ⌜ (length (now table) ≤ 2 ^ 15) × (length (now slots) ≡ 8192) ⌝ }
@@ -286,11 +272,32 @@ fn find_all(table: &[u8], marks: &[u8], eights: &mut [u32], slots: &mut [u16], t
     }
 }
 
-// Whether the lists that odd marks tell of overlap much: an action has at least eight bytes.
-pub fn is_crowded(table: &[u8], marks: &[u8]) -> bool
-    requires { ⌜ length (now table) ≤ 2 ^ 15 ⌝ }
+// Whether a mark tells of more than one action ahead: 1 if so, else 0.
+fn tells_ahead(mark: usize) -> usize
+    ensures { λ r. ⌜ r ≤ 1 ⌝ }
 {
-    table.len() < 2 * all_actions(table, marks)
+    if mark < 8 {
+        return 0;
+    }
+    1
+}
+
+// How many of the marks at each sixty-first position do.
+fn marked_ahead(marks: &[u8], end: usize) -> usize
+    ensures { λ r. ⌜ r ≤ end ⌝ }
+{
+    let mut seen: usize = 0;
+    let mut left = end;
+    while 61 < left {
+        left -= 61;
+        seen += tells_ahead(fields::u8_at(marks, left));
+    }
+    seen
+}
+
+// Whether lists overlap much: judging marks more than one action ahead only where they do, and then most that follow.
+pub fn is_crowded(table: &[u8], marks: &[u8]) -> bool {
+    4 <= marked_ahead(marks, table.len())
 }
 
 // Places that hold the same list, of the lists that odd marks tell of.

@@ -227,8 +227,8 @@ fn untold(place: usize, count: usize, ahead: &[u8]) -> usize
     passed
 }
 
-// Notes at `place` that `count` values from there on lead to nothing with a fault: as many as a byte tells, where that is more
-// than it told.
+// Notes at `place` that `count` values from there on have something in common: as many as a byte tells, where that is more than
+// it told. In the check it is that they lead to nothing with a fault, in the writer that they lead to one item.
 fn note(place: usize, count: usize, ahead: &mut [u8])
     ensures { λ r. ⌜ Noted place count (now (ahead .entry)) (now (ahead .exit)) ⌝ }
 {
@@ -255,7 +255,7 @@ fn note_each(place: usize, count: usize, ahead: &mut [u8])
 
 // Notes it at the first value where it took little work to find out: units that share these values will ask there. Else at
 // each, so that units whose values only overlap with these find it too.
-fn note_values(place: usize, count: usize, work: usize, ahead: &mut [u8])
+pub fn note_values(place: usize, count: usize, work: usize, ahead: &mut [u8])
     requires { ⌜ place + 2 * count < 2 ^ 50 ⌝ }
     ensures { λ r. ⌜ Noted place count (now (ahead .entry)) (now (ahead .exit)) ⌝ }
 {

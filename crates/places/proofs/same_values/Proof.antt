@@ -1,51 +1,33 @@
-use Rattle.places.proofs.Laws.{lead-same}
+use Rattle.places.proofs.Laws.{lead-same, noted-alike}
 use borrow.Author.Needs.{needs}
 use Rattle.places.proofs.same_values.Statement.{statement}
 use Rattle.places.proofs.same_values.Tie as tie
+use Rattle.places.proofs.same_values.Reads as reads
+use Rattle.places.proofs.same_values.Lts as lts
+use Rattle.places.proofs.known_values.Reads as known-values-reads
+use Rattle.values.proofs.note_values.Reads as note-values-reads
 
+-- src/lib.rt:151:9
 known-values-requires : tie.Need-known-values-requires
 known-values-requires c κs = search needs
 
-add-if1 : tie.Need-add-if1
-add-if1 c = search needs
+-- src/lib.rt:152:5
+note-values-requires : tie.Need-note-values-requires
+note-values-requires c κs = search needs
 
-note-each-requires : tie.Need-note-each-requires
-note-each-requires c κs = search needs
-
+-- src/lib.rt:136:1
 same-length : tie.Need-same-length
 same-length c = search needs
 
+-- src/lib.rt:136:1
 returns : tie.Need-returns
 returns c =
-    let a = (c .before .before .before .before .before .before .before .before .before .before .before .before .before .args) in
-    let k = (c .before .before .before .before .before .before .before .before .before .before .before .before .before .pre) in
-    let v = (c .before .before .before .before .before .before .before .known-values) in
+    let a = c .before .before .before .before .before .before .before .before .before .before .args in
+    let k = c .before .before .before .before .before .before .before .before .before .before .pre in
+    let v = c .before .before .before .before .known-values in
     let s = lead-same (a .kind) (a .table .now) (a .base) (a .seen .now) (a .place) (a .number) (v .result .values) (k .1 .1 .0) (v .ensures .1) in
-    (v .ensures .0, v .ensures .1, (c .before .before .note-each) .ensures .holds (a .kind) (a .table .now) (a .base) s (k .1 .1 .1))
-
-note-requires : tie.Need-note-requires
-note-requires c κs = search needs
-
-same-length-2 : tie.Need-same-length-2
-same-length-2 c = search needs
-
-returns-2 : tie.Need-returns-2
-returns-2 c =
-    let a = (c .before .before .before .before .before .before .before .before .before .before .before .before .before .args) in
-    let k = (c .before .before .before .before .before .before .before .before .before .before .before .before .before .pre) in
-    let v = (c .before .before .before .before .before .before .before .known-values) in
-    let s = lead-same (a .kind) (a .table .now) (a .base) (a .seen .now) (a .place) (a .number) (v .result .values) (k .1 .1 .0) (v .ensures .1) in
-    (v .ensures .0, v .ensures .1, (c .before .before .note) .ensures .holds (a .kind) (a .table .now) (a .base) s (k .1 .1 .1))
+    (v .ensures .0, v .ensures .1, noted-alike (a .kind) (a .table .now) (a .base) (a .place) (v .result .values) (a .alike .now) _ (c .before .before .note-values .ensures) s (k .1 .1 .1))
 
 pub same-values-spec : {M : Type 1} → statement M
 same-values-spec =
-    tie.close
-    (tie.spec
-    known-values-requires
-    add-if1
-    note-each-requires
-    same-length
-    returns
-    note-requires
-    same-length-2
-    returns-2)
+    tie.close (tie.spec known-values-requires note-values-requires same-length returns)

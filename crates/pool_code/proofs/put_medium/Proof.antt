@@ -1,36 +1,49 @@
-use Rattle.number.proofs.Laws.{getD-zeros}
 use Rattle.pool_code.proofs.Laws.{fresh}
+use Rattle.number.proofs.Laws.{getD-zeros}
 use borrow.Author.Needs.{needs}
 use Rattle.pool_code.proofs.put_medium.Statement.{statement}
 use Rattle.pool_code.proofs.put_medium.Tie as tie
+use Rattle.pool_code.proofs.put_medium.Reads as reads
+use Rattle.pool_code.proofs.put_medium.Lts as lts
+use Rattle.pool_code.proofs.put_with.Reads as put-with-reads
 
+-- src/lib.rt:173:9
 slice-aggregate-put-with : tie.Need-slice-aggregate-put-with
 slice-aggregate-put-with c = search needs
 
+-- src/lib.rt:174:9
 slice-aggregate-put-with-2 : tie.Need-slice-aggregate-put-with-2
 slice-aggregate-put-with-2 c = search needs
 
+-- src/lib.rt:175:9
 slice-aggregate-put-with-3 : tie.Need-slice-aggregate-put-with-3
 slice-aggregate-put-with-3 c = search needs
 
+-- src/lib.rt:176:9
 slice-aggregate-put-with-4 : tie.Need-slice-aggregate-put-with-4
 slice-aggregate-put-with-4 c = search needs
 
+-- src/lib.rt:177:9
 slice-aggregate-put-with-5 : tie.Need-slice-aggregate-put-with-5
 slice-aggregate-put-with-5 c = search needs
 
+-- src/lib.rt:178:9
 slice-aggregate-put-with-6 : tie.Need-slice-aggregate-put-with-6
 slice-aggregate-put-with-6 c = search needs
 
-slice-aggregate-put-with-7 : tie.Need-slice-aggregate-put-with-7
-slice-aggregate-put-with-7 c = search needs
-
+-- src/lib.rt:166:5
 put-with-requires : tie.Need-put-with-requires
-put-with-requires c κs = ((c .before .before .before .before .before .before .before .before .before .before .before .pre), (fresh 4096, (getD-zeros 4096, (getD-zeros 1021, (getD-zeros 32768, getD-zeros 32768)))))
+put-with-requires c κs = (c .before .before .before .before .before .before .before .before .before .before .before .before .pre .0, (fresh 4096, (getD-zeros 4096, (getD-zeros 1021, (getD-zeros 32768, c .before .before .before .before .before .before .before .before .before .before .before .before .pre .1)))))
 
+-- src/lib.rt:145:1
 same-length : tie.Need-same-length
 same-length c = search needs
 
+-- src/lib.rt:145:1
+same-length-2 : tie.Need-same-length-2
+same-length-2 c = search needs
+
+-- src/lib.rt:145:1
 returns : tie.Need-returns
 returns c = search needs
 
@@ -44,7 +57,7 @@ put-medium-spec =
     slice-aggregate-put-with-4
     slice-aggregate-put-with-5
     slice-aggregate-put-with-6
-    slice-aggregate-put-with-7
     put-with-requires
     same-length
+    same-length-2
     returns)
