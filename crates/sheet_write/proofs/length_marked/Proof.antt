@@ -1,4 +1,3 @@
-use Rattle.sheet_write.proofs.Laws.{bytes-few}
 use Rattle.values.specs.declared.Kind.the-variants.{Lists}
 use Rattle.item.proofs.Laws.{twins-none}
 use borrow.Author.Needs.{needs}
@@ -12,7 +11,7 @@ use Rattle.twins.proofs.is_crowded.Reads as is-crowded-reads
 
 -- src/lib.rt:189:8
 is-crowded-requires : tie.Need-is-crowded-requires
-is-crowded-requires c κs = bytes-few (c .before .before .args .table .now) (c .before .before .args .glyphs) (c .before .before .pre)
+is-crowded-requires c κs = search needs
 
 -- src/lib.rt:190:9
 length-crowded-requires : tie.Need-length-crowded-requires

@@ -1,5 +1,5 @@
 use mathlib.Core.Path.{sym, _∙_}
-use Rattle.sheet_write.proofs.Laws.{bytes-few, written-bad, written-clear}
+use Rattle.sheet_write.proofs.Laws.{written-bad, written-clear}
 use Rattle.values.specs.declared.Kind.the-variants.{Lists}
 use Rattle.item.proofs.Laws.{twins-none}
 use borrow.Author.Needs.{needs}
@@ -33,7 +33,7 @@ enum-told c = search needs
 
 -- src/lib.rt:126:8
 is-crowded-requires : tie.Need-is-crowded-requires
-is-crowded-requires c κs = bytes-few (c .before .before .before .before .before .before .before .before .before .before .args .table .now) (c .before .before .before .before .before .before .before .before .before .before .args .count) (sym (c .before .before .before .before .before .fault-by .ensures) ∙ c .before .enum-told .given .1)
+is-crowded-requires c κs = search needs
 
 -- src/lib.rt:127:9
 write-crowded-requires : tie.Need-write-crowded-requires
