@@ -55,15 +55,24 @@ fn trimmed(values: &[u16]) -> Fields {
 }
 
 /// Nine rows of 128 pairs, in which the flags of each pair are the count of a cluster that begins there: 1,152 clusters, one
-/// to a glyph, and a sheet of more than 1 MB.
+/// to a glyph, and a sheet of more than 1 MB where the rows differ.
 pub fn nested_rows() -> Vec<u8> {
+    rows_of(|row| row)
+}
+
+/// The same with rows that are all alike.
+pub fn equal_rows() -> Vec<u8> {
+    rows_of(|_| 0)
+}
+
+fn rows_of(grow: fn(u32) -> u32) -> Vec<u8> {
     let values: Vec<u16> = (0..9u16).flat_map(|row| (0..128).map(move |pair| 3_076 * row + 24 * pair)).collect();
     let mut fields = trimmed(&values);
     for row in 0..9 {
         fields = fields.l(128);
         for pair in 0..128 {
             let count = (1..128 - pair).rev().find(|count| count % 16 <= 3).unwrap_or(0);
-            fields = fields.ls(&[pair, row, 0x100, pair, 0x100, count]);
+            fields = fields.ls(&[pair, grow(row), 0x100, pair, 0x100, count]);
         }
     }
     fields.done()
@@ -138,15 +147,17 @@ pub fn equal_lists(count: u16) -> Vec<u8> {
     (0..count + 8 * 64).fold(with_lists(&values), |fields, _| fields.l(64).ws(&[0, 3])).l(64).done()
 }
 
-/// Lists of 64 actions that begin at each eighth byte, of which each `period`-th of a chain has class 1: so many lists differ, after
-/// a common beginning that may be long.
-pub fn phased_lists(count: u16, period: u16) -> Vec<u8> {
+/// Lists of `length` actions, each of as many bytes, that begin at each eighth byte; each `period`-th action of a chain has class 1.
+/// So many lists differ, after a common beginning that may be long.
+pub fn phased_lists(count: u16, length: u16, period: u16) -> Vec<u8> {
     let values: Vec<u16> = (0..count).map(|number| 6 + 2 * count + 8 * number).collect();
-    let class = |number: u16| u16::from(number / 8 % period == period - 1);
-    (0..count + 8 * 64).fold(with_lists(&values), |fields, number| fields.l(64).ws(&[class(number), 4])).l(64).done()
+    let kind = if length < 24 { 3 } else { 4 };
+    let class = |number: u16| u16::from(number / (length / 8) % period == period - 1);
+    let word = |fields: Fields, number: u16| fields.l(length.into()).ws(&[class(number), kind]);
+    (0..count + length * length / 8).fold(with_lists(&values), word).l(length.into()).done()
 }
 
-/// The same lists, all alike, in an order that leaps over the table, or only each second of a chain.
+/// Lists of 64 actions, all alike, that begin at each eighth byte, in an order that leaps over the table.
 pub fn leaping_lists(count: u16) -> Vec<u8> {
     let place = |number: u16| 6 + 2 * count + 8 * (u32::from(number) * 1_009 % u32::from(count)) as u16;
     let values: Vec<u16> = (0..count).map(place).collect();
@@ -219,6 +230,17 @@ pub fn long_walk() -> Vec<u8> {
     let rows: Vec<[u8; 4]> = (0..=255).map(|row| [255, row, 255, 255]).collect();
     let entries: Vec<(u16, u16)> = (0..256).map(|row| if row < 255 { (row + 1, 0x4000) } else { (0, 0) }).collect();
     drafts::table(&[drafts::grows(0x1000, 0x1000, 0)], &[], &drafts::machine(&rows, &entries))
+}
+
+/// A table with a machine of 120 rows and 255 classes, whose cells name 256 entries in turn.
+pub fn wide_machine() -> Vec<u8> {
+    let (rows, classes) = (120u16, 255u16);
+    let entries_at = 12 + rows * classes;
+    let head = Fields::new().to(8).w(classes).ws(&[8, 12, entries_at]).ws(&[0, 0]);
+    let cells: Vec<u8> = (0..rows * classes).map(|cell| (u32::from(cell) * 7 % 256) as u8).collect();
+    let entry = |fields: Fields, number: u16| fields.w(12 + classes * (number % rows)).w(number);
+    let machine = (0..256).fold(head.bs(&cells), entry).done();
+    drafts::table(&[drafts::grows(0x1000, 0x1000, 0)], &[], &machine)
 }
 
 /// Apple's complex example without its machine.

@@ -195,17 +195,19 @@ fn hostile_sheet(name: &str, bytes: &[u8]) -> Case {
     sheet(name, bytes).beside(sheet("ordinary", &cases::sheet(glyphs, glyphs)))
 }
 
-/// Tables whose clusters overlap, or whose units share arrays.
+/// Tables whose clusters overlap or whose units share arrays, and one with a large machine.
 fn hostile_clusters() -> Vec<Case> {
     let (pairs, rows, shared) = (cases::overlapping_pairs(3_200), cases::nested_rows(), cases::shared_lookup(148));
     let both = cases::both_ways(shared.clone());
-    let tables: [(&str, Vec<u8>, u32); 8] = [
+    let tables: [(&str, Vec<u8>, u32); 10] = [
+        ("a machine of 120 rows and 255 classes", cases::wide_machine(), 1),
         ("one cluster, N 65,535", cases::shared_array(255, 1), 65_535),
         ("one cluster at two places in turn, N 65,535", cases::shared_array(255, 2), 65_535),
         ("arrays that begin one value after each other", cases::shifted_arrays(148, 1), 65_416),
         ("one lookup for clusters and lists, N 65,535", shared, 65_535),
         ("one lookup for clusters and lists, both directions, N 65,535", both, 65_535),
         ("clusters inside each other", rows, 1_152),
+        ("clusters inside each other, nine times the same", cases::equal_rows(), 1_152),
         ("3,200 clusters at each eighth byte, all different", pairs, 3_200),
         ("3,200 clusters at each eighth byte, all with one print", cases::one_print(3_200), 3_200),
     ];
@@ -216,12 +218,15 @@ fn hostile_clusters() -> Vec<Case> {
 fn hostile_lists() -> Vec<Case> {
     let (equal, ligatures) = (cases::equal_lists(2_800), cases::ligature_lists(1_330));
     let [equal_both, ligatures_both] = [&equal, &ligatures].map(|table| cases::both_ways(table.clone()));
-    let tables: [(&str, Vec<u8>, u32); 8] = [
+    let tables: [(&str, Vec<u8>, u32); 11] = [
         ("2,800 equal lists at each eighth byte", equal, 2_800),
         ("2,800 equal lists at each eighth byte, both directions", equal_both, 2_800),
         ("2,800 equal lists in an order that leaps", cases::leaping_lists(2_800), 2_800),
         ("2,300 equal lists, a lookup for each direction", cases::twice_lists(2_300), 2_300),
-        ("2,800 lists at each eighth byte in 32 phases", cases::phased_lists(2_800, 32), 2_800),
+        ("2,800 lists at each eighth byte in 32 phases", cases::phased_lists(2_800, 64, 32), 2_800),
+        ("3,000 lists of 32 actions at each eighth byte in 8 phases", cases::phased_lists(3_000, 32, 8), 3_000),
+        ("3,000 lists of 16 actions at each eighth byte in 8 phases", cases::phased_lists(3_000, 16, 8), 3_000),
+        ("3,000 lists of 8 actions at each eighth byte in 4 phases", cases::phased_lists(3_000, 8, 4), 3_000),
         ("2,800 lists at each eighth byte with long common beginnings", cases::alike_lists(2_800), 2_800),
         ("1,330 equal lists of ligatures", ligatures, 1_330),
         ("1,330 equal lists of ligatures, both directions", ligatures_both, 1_330),
