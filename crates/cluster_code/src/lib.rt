@@ -15,8 +15,8 @@ ghost use Rattle.lists.specs.Tests.{Says};
 ghost use Rattle.cluster.specs.Pairs.{pairAt, pairsAt, clusterAt};
 ghost use Rattle.cluster_code.specs.Print.{limitsAt, flagsAt, limitsPrint, pairPrint, clusterPrint};
 ghost use Rattle.cluster_code.specs.Words.{limitsWords, flagsWords, afterWords, pairWords, clusterWords};
+use lists::Front;
 use parts::Flags;
-use parts::Front;
 use parts::Limits;
 
 fn same_limits(a: Limits, b: Limits) -> bool

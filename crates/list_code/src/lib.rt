@@ -14,7 +14,7 @@ ghost use Rattle.lists.specs.Tests.{Says};
 ghost use Rattle.list_code.specs.Print.{weight, actionPrint, listPrint};
 ghost use Rattle.list_code.specs.Words.{actionWords, listWords};
 ghost use Rattle.actions.specs.Actions.{bytesAt, contentAt, actionAt, actionsAt, listAt};
-use parts::Front;
+use lists::Front;
 
 // How many bytes of data the action at `at` has, of type `kind`.
 pub fn content_size(table: &[u8], at: usize, kind: usize) -> usize

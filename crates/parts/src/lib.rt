@@ -69,10 +69,3 @@ pub fn direction_in(number: u32) -> Direction
     }
     Direction::Vertical
 }
-
-// What is left to compare of two rows of items, pairs or actions: how many, and where they stand.
-pub struct Front {
-    pub left: usize,
-    pub a: usize,
-    pub b: usize,
-}
