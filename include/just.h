@@ -15,7 +15,7 @@
  * 1/65,536 point.
  *
  * No call has state, so calls may run at the same time on lent bytes that none of them writes. Calls for sheets, the
- * writer among them, need up to 1 MiB of stack, all others less than 100 KiB.
+ * writer among them, need up to 1 MiB of stack, all others less than 128 KiB.
  *
  * The calls stand in two archives: just_justify in libjust_line.a, all others in libjust_c.a. */
 #ifndef JUST_H

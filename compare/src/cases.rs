@@ -164,6 +164,21 @@ pub fn leaping_lists(count: u16) -> Vec<u8> {
     (0..count + 8 * 64).fold(with_lists(&values), |fields, _| fields.l(64).ws(&[0, 4])).l(64).done()
 }
 
+/// Units of format 4 that cover every glyph and share an array of `width` values, each of which leads to another list of 64 actions,
+/// at each eighth byte: so no two glyphs beside each other have the same list.
+pub fn shared_lists(width: u16) -> Vec<u8> {
+    let units = u16::MAX / width;
+    let array = 12 + 6 * units;
+    let head = Fields::new().l(0x0001_0000).ws(&[0, 10, 0]).ws(&[0, 0, 22]).ws(&[8, 0, 0]);
+    let mut fields = head.ws(&[4, 6, units, 0, 0, 0]);
+    for unit in 0..units {
+        fields = fields.ws(&[unit * width + (width - 1), unit * width, array]);
+    }
+    fields = (0..width).fold(fields, |fields, value| fields.w(array + 2 * width + 8 * value));
+    let class = |number: u16| number / 8 % 128;
+    (0..width + 512).fold(fields, |fields, number| fields.l(64).ws(&[class(number), 3])).l(64).done()
+}
+
 /// Lists of 64 actions, all alike, that begin at each eighth byte, led to by two lookups: each direction has its own.
 pub fn twice_lists(count: u16) -> Vec<u8> {
     let size = 6 + 2 * count;

@@ -172,6 +172,7 @@ fn ordinary() -> Vec<Case> {
         write("Apple's complex example, N 280", &apple, 280),
         write("1,500 units, 500 distinct clusters, N 60,000", &spread, 60_000),
         write("600 units, 300 distinct lists, N 6,000", &lists, 6_000),
+        write("5,000 format 2 units, N 65,000", &units, 65_000),
         write("clusters inside each other, N 1,200", &rows, 1_200),
         sheet("Apple's complex example", &sheet_by_reference(&apple, 280)),
         sheet("1,500 units, 500 distinct clusters", &sheet_by_reference(&spread, 60_000)),
@@ -199,11 +200,12 @@ fn hostile_sheet(name: &str, bytes: &[u8]) -> Case {
 fn hostile_clusters() -> Vec<Case> {
     let (pairs, rows, shared) = (cases::overlapping_pairs(3_200), cases::nested_rows(), cases::shared_lookup(148));
     let both = cases::both_ways(shared.clone());
-    let tables: [(&str, Vec<u8>, u32); 10] = [
+    let tables: [(&str, Vec<u8>, u32); 11] = [
         ("a machine of 120 rows and 255 classes", cases::wide_machine(), 1),
         ("one cluster, N 65,535", cases::shared_array(255, 1), 65_535),
         ("one cluster at two places in turn, N 65,535", cases::shared_array(255, 2), 65_535),
         ("arrays that begin one value after each other", cases::shifted_arrays(148, 1), 65_416),
+        ("arrays that begin nine values after each other", cases::shifted_arrays(148, 9), 65_416),
         ("one lookup for clusters and lists, N 65,535", shared, 65_535),
         ("one lookup for clusters and lists, both directions, N 65,535", both, 65_535),
         ("clusters inside each other", rows, 1_152),
@@ -218,7 +220,8 @@ fn hostile_clusters() -> Vec<Case> {
 fn hostile_lists() -> Vec<Case> {
     let (equal, ligatures) = (cases::equal_lists(2_800), cases::ligature_lists(1_330));
     let [equal_both, ligatures_both] = [&equal, &ligatures].map(|table| cases::both_ways(table.clone()));
-    let tables: [(&str, Vec<u8>, u32); 11] = [
+    let tables: [(&str, Vec<u8>, u32); 12] = [
+        ("148 lists of 64 actions for 65,416 glyphs in turn", cases::shared_lists(148), 65_416),
         ("2,800 equal lists at each eighth byte", equal, 2_800),
         ("2,800 equal lists at each eighth byte, both directions", equal_both, 2_800),
         ("2,800 equal lists in an order that leaps", cases::leaping_lists(2_800), 2_800),

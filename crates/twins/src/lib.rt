@@ -12,15 +12,16 @@ ghost use Rattle.item.specs.Items.{Twins};
 ghost use Rattle.twins.specs.Eights.{Names, Eights};
 use values::Kind;
 
+// An odd number near 2^32 over the golden ratio: products with it spread over their upper bits.
 const FACTOR: usize = 2654435761;
 
-// How far a way over actions goes: a number for those passed, and where the next one stands.
+// Where the way past some actions ends: the print of those passed, and the place of the next one.
 struct Way {
     print: usize,
     at: usize,
 }
 
-// A number mixed with another.
+// A print with one more number mixed in. Prints only say where to look.
 fn mixed(print: usize, word: usize) -> usize
     requires { ⌜ (print < 2 ^ 32) × (word < 2 ^ 62) ⌝ }
     ensures { λ r. ⌜ r < 2 ^ 32 ⌝ }
@@ -68,7 +69,7 @@ fn action_mixed(table: &[u8], at: usize, print: usize) -> usize
     mixed(with, weigh(table, at + 8, size))
 }
 
-// Past `count` actions from `first` on.
+// The way past `count` actions from `first` on; `before` is the print of what stands before them.
 fn pass(table: &[u8], first: usize, count: usize, before: usize) -> Way
     requires { ⌜ (length (now table) ≤ 2 ^ 15) × ((first < 2 ^ 33) × (before < 2 ^ 32)) ⌝ }
     ensures { λ r. ⌜ (r .print < 2 ^ 32) × (r .at ≡ placeAfter (now (table .entry)) count first) ⌝ }
@@ -84,7 +85,8 @@ fn pass(table: &[u8], first: usize, count: usize, before: usize) -> Way
     Way { print, at }
 }
 
-// What is known of the eight actions from `at` on, 0 past the end.
+// What is known of the eight actions from `at` on, 0 past the end: a place where the same eight stand, in the upper 16 bits, and
+// where the action after them stands.
 fn eight_at(eights: &[u32], at: usize) -> usize
     ensures { λ r. ⌜ (r ≡ getD (now (eights .entry)) at 0) × (r < 2 ^ 32) ⌝ }
 {
@@ -116,7 +118,8 @@ fn place_by(table: &[u8], first: usize, slot: usize, slots: &mut [u16]) -> usize
     first
 }
 
-// The number that tells of the eight actions from `first` on, 0 where they go too far past the table.
+// What is known of the eight actions from `first` on, 0 where they go too far past the table. The first 4,096 slots are for
+// eights, the others for lists.
 fn name_of(table: &[u8], first: usize, eights: &mut [u32], slots: &mut [u16]) -> usize
     requires { ⌜ (length (now table) ≤ 2 ^ 15) × ((first < 2 ^ 16) × (length (now slots) ≡ 8192)) ⌝ }
     requires { ⌜ Eights (now table) (now eights) ⌝ }
@@ -295,7 +298,8 @@ fn marked_ahead(marks: &[u8], end: usize) -> usize
     seen
 }
 
-// Whether lists overlap much: judging marks more than one action ahead only where they do, and then most that follow.
+// Whether lists overlap much: judging marks more than one action ahead only where they do, and then most that follow. No
+// proof rests on the answer, only time.
 pub fn is_crowded(table: &[u8], marks: &[u8]) -> bool {
     4 <= marked_ahead(marks, table.len())
 }
