@@ -275,7 +275,7 @@ fn doubled() -> Vec<Case> {
 
 fn main() {
     print_group("Ordinary inputs", ordinary());
-    print_group("Clusters that overlap, and units that share arrays", hostile_clusters());
+    print_group("Clusters that overlap, units that share arrays, and a large machine", hostile_clusters());
     print_group("Lists that overlap", hostile_lists());
     print_group("Other hostile inputs", hostile_rest());
     print_group("Bytes, N, glyphs and distinct clusters doubled", doubled());
