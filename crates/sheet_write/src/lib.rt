@@ -94,7 +94,7 @@ fn write_by(
     WriteAnswer::Written(size as u32)
 }
 
-// With a draft for larger sheets. The lists are told apart where the marks say that they are crowded.
+// With a draft for larger sheets.
 fn write_large(table: &[u8], glyphs: usize, lists: &[u16], room: &mut [u8]) -> WriteAnswer
     requires { ⌜ (tableFault (now table) glyphs ≡ Clear) × Twins Kind.Lists (now table) (now lists) ⌝ }
     ensures { λ r. ⌜ record { said = saysWritten r; room = now (room .exit) } ≡ stored (sheetOf (now (table .entry)) glyphs) (now (room .entry)) ⌝ }
