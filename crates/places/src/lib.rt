@@ -93,12 +93,6 @@ fn leads(
     number::is_known(table, seen, twin_of(twins, place), number)
 }
 
-// How many values were found to lead to one item, and in how many turns.
-struct Led {
-    values: usize,
-    turns: usize,
-}
-
 // How many of `count` values from `place` on lead, one after the other, to the item that is known to have this number. Many
 // units of format 4 may share them: `alike` has by a value's position how many values from there on are known to lead to
 // one item, and those are passed in one turn.
@@ -112,24 +106,22 @@ fn known_values(
     place: usize,
     count: usize,
     number: u16,
-) -> Led
+) -> usize
     requires { ⌜ (base < 2 ^ 16) × (place + 2 * count < 2 ^ 42) ⌝ }
     requires { ⌜ Twins kind (now table) (now twins) × OneItem kind (now table) base (now alike) ⌝ }
-    ensures { λ r. ⌜ (r .values ≤ count) × Lead kind (now (table .entry)) base (now (seen .entry)) place number (r .values) ⌝ }
+    ensures { λ r. ⌜ (r ≤ count) × Lead kind (now (table .entry)) base (now (seen .entry)) place number r ⌝ }
 {
     let mut values: usize = 0;
-    let mut turns: usize = 0;
     while values < count {
         let p = place + 2 * values;
         if leads(table, kind, base, twins, seen, p, number) {
             let more = fields::larger(1, fields::u8_at(alike, p));
             values += fields::lower(more, count - values);
-            turns += 1;
         } else {
-            return Led { values, turns };
+            return values;
         }
     }
-    Led { values, turns }
+    values
 }
 
 // The same, and notes it for the next unit that shares these values.
@@ -149,8 +141,8 @@ fn same_values(
     ensures { λ r. ⌜ (r ≤ count) × Lead kind (now (table .entry)) base (now (seen .entry)) place number r × OneItem kind (now (table .entry)) base (now (alike .exit)) ⌝ }
 {
     let led = known_values(table, kind, base, twins, seen, alike, place, count, number);
-    values::note_values(place, led.values, led.turns, alike);
-    led.values
+    values::note_values(place, led, alike);
+    led
 }
 
 // How far the item with this number goes that `glyph` has, which stands in a run up to `until` or before it: to the

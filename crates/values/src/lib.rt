@@ -239,31 +239,21 @@ fn note(place: usize, count: usize, ahead: &mut [u8])
     fields::put_u8(ahead, place, told as u8);
 }
 
-// The same at each of the values, of which ever fewer are left.
-fn note_each(place: usize, count: usize, ahead: &mut [u8])
+// Notes it at the first value, and at each to which those that were told lead: one passed over is left as it was. So whoever
+// asks at one of them next is led to the end, and what took many turns once takes one.
+pub fn note_values(place: usize, count: usize, ahead: &mut [u8])
     requires { ⌜ place + 2 * count < 2 ^ 50 ⌝ }
     ensures { λ r. ⌜ Noted place count (now (ahead .entry)) (now (ahead .exit)) ⌝ }
 {
     let mut p = place;
     let mut left = count;
     while 0 < left {
+        let told = fields::larger(1, fields::u8_at(ahead, p));
         note(p, left, ahead);
-        p += 2;
-        left -= 1;
+        let part = fields::lower(told, left);
+        p += 2 * part;
+        left -= part;
     }
-}
-
-// Notes it at the first value where it took little work to find out: units that share these values will ask there. Else at
-// each, so that units whose values only overlap with these find it too.
-pub fn note_values(place: usize, count: usize, work: usize, ahead: &mut [u8])
-    requires { ⌜ place + 2 * count < 2 ^ 50 ⌝ }
-    ensures { λ r. ⌜ Noted place count (now (ahead .entry)) (now (ahead .exit)) ⌝ }
-{
-    if work <= 8 + count / 128 {
-        note(place, count, ahead);
-        return;
-    }
-    note_each(place, count, ahead);
 }
 
 // The first fault of what `count` values, which stand from `place` on and which units may share, lead to. `ahead` tells of each
@@ -284,14 +274,12 @@ fn places_fault(
 {
     let mut p = place;
     let mut left = count;
-    let mut work: usize = 0;
     while 0 < left {
         let known = fields::u8_at(ahead, p);
         if 0 < known {
             let part = fields::lower(known, left);
             p += 2 * part;
             left -= part;
-            work += 1;
         } else {
             let part = untold(p, left, ahead);
             let fault = stretch_fault(table, glyphs, kind, base, p, part, judged);
@@ -300,10 +288,9 @@ fn places_fault(
             }
             p += 2 * part;
             left -= part;
-            work += part;
         }
     }
-    note_values(place, count, work, ahead);
+    note_values(place, count, ahead);
     Fault::Clear
 }
 

@@ -8,14 +8,14 @@ use Rattle.places.proofs.known_values.Statement.{statement}
 use Rattle.places.proofs.known_values.Tie as tie
 
 abbrev Inv-loop : tie.InvT-loop
-Inv-loop table kind base twins seen alike place count number values₀ turns₀ values turns =
-    (values ≤ count) × Lead kind table base seen place number values × (turns ≤ values)
+Inv-loop table kind base twins seen alike place count number values₀ values =
+    (values ≤ count) × Lead kind table base seen place number values
 
 abbrev μ-loop : tie.MeasureT-loop
-μ-loop table kind base twins seen alike place count number values₀ turns₀ values turns = count - values
+μ-loop table kind base twins seen alike place count number values₀ values = count - values
 
 loop-holds : tie.Need-loop-holds Inv-loop μ-loop
-loop-holds c = (omega arith, (λ i l. absurd (omega arith)), omega arith)
+loop-holds c = (omega arith, λ i l. absurd (omega arith))
 
 mul-p : tie.Need-mul-p Inv-loop μ-loop
 mul-p c = omega (arith, (c .before .before .before .before .before .before .pre) .0 .1, (c .before .loop) .inv .0)
@@ -41,9 +41,6 @@ lower-requires c κs = search needs
 add-values : tie.Need-add-values Inv-loop μ-loop
 add-values c = omega (arith, (c .lower) .ensures, (c .before .before .before .before .before .before .loop) .inv .0, (c .before .before .before .before .before .before .before .before .before .before .before .pre) .0 .1)
 
-add-turns : tie.Need-add-turns Inv-loop μ-loop
-add-turns c = omega (arith, (c .before .before .before .before .before .before .loop) .inv .2, (c .before .before .before .before .before .before .loop) .inv .0, (c .before .before .before .before .before .before .before .before .before .before .before .pre) .0 .1)
-
 loop-less : tie.Need-loop-less Inv-loop μ-loop
 loop-less c = omega (arith, (c .lower) .ensures, (c .before .larger) .ensures, (c .before .before .before .before .before .loop-test) .taken)
 
@@ -57,7 +54,6 @@ loop-again c =
       lead-more (a .kind) t (a .base) (a .seen .now) (a .place) (a .number) (l .values) (n .result) _ refl (l .inv .1)
           (lead-alike (a .kind) t (a .base) (a .seen .now) (a .alike .now) _ (a .number) (n .result) ((c .before .before .before .before .before .before .before .before .before .before .before .pre) .1 .1) ((c .before .before .before .before .leads) .ensures ((c .before .before .before .if1) .taken))
           (omega (arith, n .ensures, (c .before .larger) .ensures, (c .before .before .u8-at) .ensures .0))),
-      omega (arith, n .ensures, (c .before .larger) .ensures, l .inv .2, (c .before .before .before .before .before .loop-test) .taken),
     )
 
 returns : tie.Need-returns Inv-loop μ-loop
@@ -81,7 +77,6 @@ known-values-spec =
     sub-lower
     lower-requires
     add-values
-    add-turns
     loop-less
     loop-again
     returns

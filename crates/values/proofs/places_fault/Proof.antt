@@ -3,7 +3,7 @@ use Rattle.values.specs.Values.{placeFault, Judged}
 use Rattle.fields.specs.Walk.{each, walk-none}
 use native.Mathlib.Omega.{arith}
 use mathlib.Core.Path.{_≡_, refl, sym, _∙_}
-use Prim.Native.Nat.{_+_, _*_, _≤_}
+use Prim.Native.Nat.{_+_, _*_}
 use lib.ListN.{length}
 use denote.Ref.{now}
 use borrow.Author.Needs.{needs}
@@ -11,18 +11,17 @@ use Rattle.values.proofs.places_fault.Statement.{statement}
 use Rattle.values.proofs.places_fault.Tie as tie
 
 abbrev Inv-loop : tie.InvT-loop
-Inv-loop table glyphs kind base place count judged₀ ahead p₀ left₀ work₀ judged p left work =
+Inv-loop table glyphs kind base place count judged₀ ahead p₀ left₀ judged p left =
     (each (placeFault table glyphs kind base) (λ q. q + 2) count place ≡ each (placeFault table glyphs kind base) (λ q. q + 2) left p)
     × Judged table glyphs judged
     × (length judged ≡ length judged₀)
     × (p + 2 * left ≡ place + 2 * count)
-    × (work + left ≤ count)
 
 abbrev μ-loop : tie.MeasureT-loop
-μ-loop table glyphs kind base place count judged₀ ahead p₀ left₀ work₀ judged p left work = left
+μ-loop table glyphs kind base place count judged₀ ahead p₀ left₀ judged p left = left
 
 loop-holds : tie.Need-loop-holds Inv-loop μ-loop
-loop-holds c = (refl, c .before .before .before .pre .1 .0, refl, refl, omega arith)
+loop-holds c = (refl, c .before .before .before .pre .1 .0, refl, refl)
 
 u8-at-requires : tie.Need-u8-at-requires Inv-loop μ-loop
 u8-at-requires c κs = search needs
@@ -39,9 +38,6 @@ add-p c = search needs
 sub-left : tie.Need-sub-left Inv-loop μ-loop
 sub-left c = search needs
 
-add-work : tie.Need-add-work Inv-loop μ-loop
-add-work c = search needs
-
 loop-less : tie.Need-loop-less Inv-loop μ-loop
 loop-less c = omega (arith, c .lower .ensures, c .before .if1 .taken, c .before .before .before .before .loop-test .taken)
 
@@ -53,7 +49,6 @@ loop-again c =
       c .before .before .before .before .before .loop .inv .1,
       c .before .before .before .before .before .loop .inv .2,
       omega (arith, c .lower .ensures, c .before .before .before .before .before .loop .inv .3),
-      omega (arith, c .lower .ensures, c .before .before .before .before .before .loop .inv .4, c .before .if1 .taken, c .before .before .before .before .loop-test .taken),
     )
 
 untold-requires : tie.Need-untold-requires Inv-loop μ-loop
@@ -91,9 +86,6 @@ add-p-2 c = search needs
 sub-left-2 : tie.Need-sub-left-2 Inv-loop μ-loop
 sub-left-2 c = search needs
 
-add-work-2 : tie.Need-add-work-2 Inv-loop μ-loop
-add-work-2 c = search needs
-
 loop-less-2 : tie.Need-loop-less-2 Inv-loop μ-loop
 loop-less-2 c = omega (arith, c .before .before .before .before .before .before .untold .ensures .0, c .before .before .before .before .before .before .untold .ensures .1)
 
@@ -105,7 +97,6 @@ loop-again-2 c =
       c .before .before .before .before .stretch-fault .ensures .1,
       search needs,
       omega (arith, c .before .before .before .before .before .before .untold .ensures .1, c .before .before .before .before .before .before .before .before .before .before .before .before .loop .inv .3),
-      omega (arith, c .before .before .before .before .before .before .untold .ensures .1, c .before .before .before .before .before .before .before .before .before .before .before .before .loop .inv .4),
     )
 
 note-values-requires : tie.Need-note-values-requires Inv-loop μ-loop
@@ -135,7 +126,6 @@ places-fault-spec =
     mul-p
     add-p
     sub-left
-    add-work
     loop-less
     loop-again
     untold-requires
@@ -148,7 +138,6 @@ places-fault-spec =
     mul-p-2
     add-p-2
     sub-left-2
-    add-work-2
     loop-less-2
     loop-again-2
     note-values-requires

@@ -5,8 +5,8 @@ use mathlib.Core.Path.{_≡_, refl}
 use Prim.Native.Nat.{_+_, _*_, _≤_}
 use lib.ListN.{length}
 use borrow.Author.Needs.{needs}
-use Rattle.values.proofs.note_each.Statement.{statement}
-use Rattle.values.proofs.note_each.Tie as tie
+use Rattle.values.proofs.note_values.Statement.{statement}
+use Rattle.values.proofs.note_values.Tie as tie
 
 abbrev Inv-loop : tie.InvT-loop
 Inv-loop place count ahead₀ p₀ left₀ ahead p left =
@@ -18,8 +18,20 @@ abbrev μ-loop : tie.MeasureT-loop
 loop-holds : tie.Need-loop-holds Inv-loop μ-loop
 loop-holds c = (noted-none _ _ _, refl, omega arith, refl)
 
+u8-at-requires : tie.Need-u8-at-requires Inv-loop μ-loop
+u8-at-requires c κs = search needs
+
+larger-requires : tie.Need-larger-requires Inv-loop μ-loop
+larger-requires c κs = search needs
+
 note-requires : tie.Need-note-requires Inv-loop μ-loop
 note-requires c κs = search needs
+
+lower-requires : tie.Need-lower-requires Inv-loop μ-loop
+lower-requires c κs = search needs
+
+mul-p : tie.Need-mul-p Inv-loop μ-loop
+mul-p c = search needs
 
 add-p : tie.Need-add-p Inv-loop μ-loop
 add-p c = search needs
@@ -28,15 +40,18 @@ sub-left : tie.Need-sub-left Inv-loop μ-loop
 sub-left c = search needs
 
 loop-less : tie.Need-loop-less Inv-loop μ-loop
-loop-less c = search needs
+loop-less c = omega (arith, c .lower .ensures, c .before .before .before .before .before .larger .ensures, c .before .before .before .before .before .before .before .before .loop-test .taken)
 
 loop-again : tie.Need-loop-again Inv-loop μ-loop
-loop-again c = (
-  noted-more (c .before .before .before .before .before .before .before .args .place) (c .before .before .before .before .before .before .before .args .count) (c .before .before .before .before .before .loop .p) (c .before .before .before .before .before .loop .left) (c .before .before .before .before .before .loop .inv .2) (c .before .before .before .before .before .loop .inv .1) (c .before .before .before .before .before .loop .inv .0) (c .before .before .note .ensures),
-  omega arith,
-  omega arith,
-  search needs,
-)
+loop-again c =
+    let a = c .before .before .before .before .before .before .before .before .before .before .before .args in
+    let l = c .before .before .before .before .before .before .before .before .before .loop in
+    let e = c .lower .ensures in (
+      noted-more (a .place) (a .count) (l .p) (l .left) (l .inv .2) (l .inv .1) (l .inv .0) (c .before .before .before .note .ensures),
+      omega (arith, e, l .inv .1),
+      omega (arith, e, l .inv .2),
+      search needs,
+    )
 
 same-length : tie.Need-same-length Inv-loop μ-loop
 same-length c = search needs
@@ -44,14 +59,18 @@ same-length c = search needs
 returns : tie.Need-returns Inv-loop μ-loop
 returns c = c .before .loop .inv .0
 
-pub note-each-spec : {M : Type 1} → statement M
-note-each-spec =
+pub note-values-spec : {M : Type 1} → statement M
+note-values-spec =
     tie.close
     (tie.spec
     Inv-loop
     μ-loop
     loop-holds
+    u8-at-requires
+    larger-requires
     note-requires
+    lower-requires
+    mul-p
     add-p
     sub-left
     loop-less
