@@ -1,7 +1,6 @@
 -- Pairs one after the other, and the bytes of a cluster.
 use Prim.Native.Nat.{ℕ, zero, suc, _+_, _-_, _*_, _%_, _≤_, _<_, min}
-use mathlib.Core.Path.{_≡_, refl, sym, ap, ap₂, _∙_, subst}
-use mathlib.Core.Bool.{Bool, true, false}
+use mathlib.Core.Path.{_≡_, refl, sym, ap, ap₂, _∙_}
 use mathlib.Core.List.{List, [], _∷_, _++_, head-eq-of-cons-eq, tail-eq-of-cons-eq}
 use native.Mathlib.Omega.{arith}
 use lib.ListN.{length, take}
@@ -12,7 +11,6 @@ use Rattle.lists.specs.Codes.{many, counted}
 use Rattle.lists.proofs.CodeLaws.{many-length}
 use Rattle.parts.specs.declared.Pair.{Pair}
 use Rattle.meaning.specs.Sheet.{pairCode}
-use Rattle.lists.specs.Tests.{Says}
 use Rattle.cluster.specs.Pairs.{pairAt, pairsAt, clusterAt}
 use Rattle.cluster.proofs.Laws.{pairs-length, cluster-length}
 use Rattle.cluster.specs.Faults.{classAt}
@@ -65,14 +63,38 @@ module _ (t : List ℕ) where
       ap (λ (k : ℕ). be32 k ++ many pairCode (pairsAt t n (at + 4))) (sym (pairs-length t n (at + 4)))
       ∙ ap (λ (k : ℕ). counted pairCode (pairsAt t k (at + 4))) e
 
--- what was asked of two values that stand for two others
-pub says-of : {A : Type 0} (r : Bool) {x x′ y y′ : A} → x ≡ x′ → y ≡ y′ → Says r (x ≡ y) → Says r (x′ ≡ y′)
-says-of {A} r {x} {x′} {y} {y′} e f s = subst (λ (b : A). Says r (x′ ≡ b)) f (subst (λ (a : A). Says r (a ≡ y)) e s)
+module _ (t : List ℕ) where
+  -- what is read of a pair is the same at two positions
+  abbrev pub FieldsSame : ℕ → ℕ → Type 0
+  FieldsSame a b =
+      (classAt t a ≡ classAt t b)
+      × (u32At t (a + 4) ≡ u32At t (b + 4))
+      × (fixedSize (u32At t (a + 8)) ≡ fixedSize (u32At t (b + 8)))
+      × (u32At t (a + 12) ≡ u32At t (b + 12))
+      × (fixedSize (u32At t (a + 16)) ≡ fixedSize (u32At t (b + 16)))
+      × (keptFlags (u16At t (a + 20)) ≡ keptFlags (u16At t (b + 20)))
+      × (keptFlags (u16At t (a + 22)) ≡ keptFlags (u16At t (b + 22)))
 
--- what is left to compare of two pairs
-pub same-flagged : (r : Bool) (x y : Pair) → x .class ≡ y .class → x .before ≡ y .before → x .after ≡ y .after → Says r (x .flags ≡ y .flags) → Says r (x ≡ y)
-same-flagged true x y c b a f = λ i. record { class = c i; before = b i; after = a i; flags = f i }
-same-flagged false x y c b a f = λ e. f (ap (λ (p : Pair). p .flags) e)
+  pub fields-of-same : (a b : ℕ) → pairAt t a ≡ pairAt t b → FieldsSame a b
+  unfolding pairAt
+  fields-of-same a b e = (
+    ap (λ (p : Pair). p .class) e,
+    ap (λ (p : Pair). p .before .grow) e,
+    ap (λ (p : Pair). p .before .shrink) e,
+    ap (λ (p : Pair). p .after .grow) e,
+    ap (λ (p : Pair). p .after .shrink) e,
+    ap (λ (p : Pair). p .flags .grow) e,
+    ap (λ (p : Pair). p .flags .shrink) e,
+  )
+
+  pub same-of-fields : (a b : ℕ) → FieldsSame a b → pairAt t a ≡ pairAt t b
+  unfolding pairAt
+  same-of-fields a b f = λ i. record {
+    class = f .0 i;
+    before = record { grow = f .1 i; shrink = f .2 i };
+    after = record { grow = f .3 i; shrink = f .4 i };
+    flags = record { grow = f .5 i; shrink = f .6 i };
+  }
 
 -- ---- the number of a cluster
 

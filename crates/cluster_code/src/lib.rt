@@ -31,18 +31,6 @@ fn same_limits(a: Limits, b: Limits) -> bool
     true
 }
 
-fn same_flags(a: Flags, b: Flags) -> bool
-    ensures { λ r. ⌜ Says r (a ≡ b) ⌝ }
-{
-    if a.grow != b.grow {
-        return false;
-    }
-    if a.shrink != b.shrink {
-        return false;
-    }
-    true
-}
-
 // The limits that begin at a position: grow, then shrink.
 fn limits_at(table: &[u8], at: usize) -> Limits
     requires { ⌜ at < 2 ^ 62 ⌝ }
@@ -65,7 +53,7 @@ fn flags_at(table: &[u8], at: usize) -> Flags
     }
 }
 
-// Whether two positions hold the same pair. Most that differ do so in their first fields.
+// Whether two positions hold the same pair: field by field, since where clusters overlap this is asked most.
 fn same_pair(table: &[u8], a: usize, b: usize) -> bool
     requires { ⌜ (a < 2 ^ 61) × (b < 2 ^ 61) ⌝ }
     ensures { λ r. ⌜ Says r (pairAt (now (table .entry)) a ≡ pairAt (now (table .entry)) b) ⌝ }
@@ -73,15 +61,25 @@ fn same_pair(table: &[u8], a: usize, b: usize) -> bool
     if cluster::class_at(table, a) != cluster::class_at(table, b) {
         return false;
     }
-    if same_limits(limits_at(table, a + 4), limits_at(table, b + 4)) {
-        if same_limits(limits_at(table, a + 12), limits_at(table, b + 12)) {
-            return same_flags(flags_at(table, a + 20), flags_at(table, b + 20));
-        } else {
-            return false;
-        }
-    } else {
+    if cluster::fixed_at(table, a + 4) != cluster::fixed_at(table, b + 4) {
         return false;
     }
+    if cluster::size_at(table, a + 8) != cluster::size_at(table, b + 8) {
+        return false;
+    }
+    if cluster::fixed_at(table, a + 12) != cluster::fixed_at(table, b + 12) {
+        return false;
+    }
+    if cluster::size_at(table, a + 16) != cluster::size_at(table, b + 16) {
+        return false;
+    }
+    if cluster::kept_at(table, a + 20) != cluster::kept_at(table, b + 20) {
+        return false;
+    }
+    if cluster::kept_at(table, a + 22) != cluster::kept_at(table, b + 22) {
+        return false;
+    }
+    true
 }
 
 // Past the pairs that are the same, of `count` from `first` on and from `second` on.
