@@ -244,6 +244,17 @@ fn put_large(
     )
 }
 
+// Whether the lookup at `at`, of format 2 or 6, has so many units that medium rooms seldom hold their stretches, two for each.
+// No proof rests on the answer, only time.
+fn has_many_units(table: &[u8], at: usize) -> bool
+    requires { ⌜ at < 2 ^ 32 ⌝ }
+{
+    if fields::u16_at(table, at) % 4 != 2 {
+        return false;
+    }
+    2040 < fields::u16_at(table, at + 4)
+}
+
 // With medium rooms if they are large enough.
 fn put_looked(
     table: &[u8],
@@ -258,6 +269,9 @@ fn put_looked(
     requires { ⌜ Ready kind (now table) glyphs (Source.Lookup at base) × (Twins kind (now table) (now twins) × (to < 2 ^ 38)) ⌝ }
     ensures { λ r. ⌜ Placed kind (now (table .entry)) glyphs (Source.Lookup at base) (now (out .entry)) (now (out .exit)) to r ⌝ }
 {
+    if has_many_units(table, at) {
+        return put_large(table, glyphs, kind, at, base, twins, out, to);
+    }
     let end = put_by_format(table, glyphs, kind, at, base, twins, out, to);
     if 0 < end {
         return end;

@@ -94,13 +94,33 @@ fn write_by(
     WriteAnswer::Written(size as u32)
 }
 
-// With a draft for larger sheets.
-fn write_large(table: &[u8], glyphs: usize, lists: &[u16], room: &mut [u8]) -> WriteAnswer
+// With a draft for most sheets.
+fn write_drafted(table: &[u8], glyphs: usize, lists: &[u16], room: &mut [u8]) -> WriteAnswer
     requires { ⌜ (tableFault (now table) glyphs ≡ Clear) × Twins Kind.Lists (now table) (now lists) ⌝ }
     ensures { λ r. ⌜ record { said = saysWritten r; room = now (room .exit) } ≡ stored (sheetOf (now (table .entry)) glyphs) (now (room .entry)) ⌝ }
 {
     let mut draft = [0u8; 32768];
     write_by(table, glyphs, lists, &mut draft, room)
+}
+
+// With a draft for long sheets. One that is longer yet is numbered twice, once to learn its length and once to store it.
+fn write_long(table: &[u8], glyphs: usize, lists: &[u16], room: &mut [u8]) -> WriteAnswer
+    requires { ⌜ (tableFault (now table) glyphs ≡ Clear) × Twins Kind.Lists (now table) (now lists) ⌝ }
+    ensures { λ r. ⌜ record { said = saysWritten r; room = now (room .exit) } ≡ stored (sheetOf (now (table .entry)) glyphs) (now (room .entry)) ⌝ }
+{
+    let mut draft = [0u8; 131072];
+    write_by(table, glyphs, lists, &mut draft, room)
+}
+
+// With the draft that is long enough for the room, or for a sheet eight times as long as its table, as few are.
+fn write_large(table: &[u8], glyphs: usize, lists: &[u16], room: &mut [u8]) -> WriteAnswer
+    requires { ⌜ (tableFault (now table) glyphs ≡ Clear) × Twins Kind.Lists (now table) (now lists) ⌝ }
+    ensures { λ r. ⌜ record { said = saysWritten r; room = now (room .exit) } ≡ stored (sheetOf (now (table .entry)) glyphs) (now (room .entry)) ⌝ }
+{
+    if fields::lower(table.len(), room.len() / 8) <= 4096 {
+        return write_drafted(table, glyphs, lists, room);
+    }
+    write_long(table, glyphs, lists, room)
 }
 
 // Where lists overlap much, those that hold the same are found first.
