@@ -105,7 +105,7 @@ module _ (t : List ℕ) where
   print-more n at print w h e =
       ap (λ (k : ℕ). pairsPrint ((31 * print + k) % 4294967296) (pairsAt t (n - 1) (at + 24))) e ∙ ap (pairsPrint print) (sym (pairs-cons t n at h))
 
-  pub print-none : (n at print : ℕ) → n ≤ 0 → pairsPrint print (pairsAt t n at) ≡ print % 1021
+  pub print-none : (n at print : ℕ) → n ≤ 0 → pairsPrint print (pairsAt t n at) ≡ print
   unfolding pairsPrint
   print-none n at print h = ap (pairsPrint print) (pairs-none t n at h)
 

@@ -1,4 +1,4 @@
--- A number below 1,021 for a cluster, the same for clusters that are the same: it tells where to look for one.
+-- A number below 2^32 for a cluster, the same for clusters that are the same: it tells where to look for one.
 use Prim.Native.Nat.{ℕ, _+_, _*_, _%_}
 use mathlib.Core.List.{List, [], _∷_}
 use lib.ListN.{length, take}
@@ -24,7 +24,7 @@ pairPrint p = 17 * p .class + (limitsPrint (p .before) + 5 * limitsPrint (p .aft
 
 -- that of pairs, after others or a count whose number is given
 unfoldable pub pairsPrint : ℕ → List Pair → ℕ
-pairsPrint print [] = print % 1021
+pairsPrint print [] = print
 pairsPrint print (p ∷ ps) = pairsPrint ((31 * print + pairPrint p) % 4294967296) ps
 
 -- that of a cluster: by its count and its first four pairs

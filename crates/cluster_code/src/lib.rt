@@ -223,10 +223,10 @@ fn pair_print(table: &[u8], at: usize) -> usize
     17 * (cluster::class_at(table, at) as usize) + sides + marks
 }
 
-// A number below 1,021 for the cluster at a position, the same for the same clusters: by its count and its first four pairs,
+// A number for the cluster at a position, the same for the same clusters: by its count and its first four pairs,
 // since clusters that begin alike share few bytes of a table, their classes rising.
 pub fn cluster_print(table: &[u8], at: u16) -> usize
-    ensures { λ r. ⌜ (r ≡ clusterPrint (clusterAt (now (table .entry)) at)) × (r < 1021) ⌝ }
+    ensures { λ r. ⌜ (r ≡ clusterPrint (clusterAt (now (table .entry)) at)) × (r < 2 ^ 32) ⌝ }
 {
     let count = fields::u32_at(table, at as usize);
     let mut left = fields::lower(count, 4);
@@ -237,7 +237,7 @@ pub fn cluster_print(table: &[u8], at: u16) -> usize
         first += 24;
         left -= 1;
     }
-    print % 1021
+    print
 }
 
 // How many bytes the cluster at a position is written in.

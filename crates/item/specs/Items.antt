@@ -48,7 +48,7 @@ unfoldable pub itemCode : (kind : Kind) → Item kind → List ℕ
 itemCode Clusters = counted pairCode
 itemCode Lists = counted actionCode
 
--- a number below 1,021, the same for items that are the same: it tells where to look for one
+-- a number below 2^32, the same for items that are the same: it tells where to look for one
 unfoldable pub itemPrint : (kind : Kind) → Item kind → ℕ
 itemPrint Clusters = clusterPrint
 itemPrint Lists = listPrint

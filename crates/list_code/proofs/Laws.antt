@@ -272,20 +272,10 @@ module _ (t : List ℕ) where
   print-more n at print w j h e ej =
       ap₂ (λ (k i : ℕ). actionsPrint ((31 * print + k) % 4294967296) (actionsAt t (n - 1) (at + i))) e ej ∙ ap (actionsPrint print) (sym (actions-cons t n at h))
 
-  pub print-none : (n at print : ℕ) → n ≤ 0 → actionsPrint print (actionsAt t n at) ≡ print % 1021
+  pub print-none : (n at print : ℕ) → n ≤ 0 → actionsPrint print (actionsAt t n at) ≡ print
   unfolding actionsPrint
   print-none n at print h = ap (actionsPrint print) (actions-none t n at h)
 
-  take-actions : (k n at : ℕ) → take k (actionsAt t n at) ≡ actionsAt t (min n k) at
-  unfolding actionsAt
-  take-actions zero n at = let e : 0 ≡ min n 0 = omega arith in ap (λ (m : ℕ). actionsAt t m at) e
-  take-actions (suc k) zero at = let e : 0 ≡ min 0 (suc k) = omega arith in ap (λ (m : ℕ). actionsAt t m at) e
-  take-actions (suc k) (suc n) at =
-      let e : suc (min n k) ≡ min (suc n) (suc k) = omega arith in
-      ap (λ (l : List Action). actionAt t at ∷ l) (take-actions k n (at + u32At t (at + 4))) ∙ ap (λ (m : ℕ). actionsAt t m at) e
-
-  pub print-all : (at n left : ℕ) → n ≡ u32At t at → left ≡ min n 4 → actionsPrint n (actionsAt t left (at + 4)) ≡ listPrint (listAt t at)
+  pub print-all : (at n : ℕ) → n ≡ u32At t at → actionsPrint n (actionsAt t n (at + 4)) ≡ listPrint (listAt t at)
   unfolding listAt
-  print-all at n left e f =
-      ap (λ (m : ℕ). actionsPrint n (actionsAt t m (at + 4))) (f ∙ ap (λ (k : ℕ). min k 4) e)
-      ∙ ap₂ actionsPrint (e ∙ sym (list-length t at)) (sym (take-actions 4 (u32At t at) (at + 4)))
+  print-all at n e = ap₂ actionsPrint (e ∙ sym (list-length t at)) (ap (λ (m : ℕ). actionsAt t m (at + 4)) e)

@@ -270,13 +270,13 @@ fn action_print(table: &[u8], at: usize) -> usize
     17 * fields::u16_at(table, at) + 19 * kind + content_weight(table, at, kind)
 }
 
-// A number below 1,021 for the list at a position, the same for the same lists: by its count and its first four actions.
+// A number for the list at a position, the same for the same lists: by its count and its actions.
 pub fn list_print(table: &[u8], place: u16) -> usize
     requires { ⌜ length (now table) ≤ 2 ^ 15 ⌝ }
-    ensures { λ r. ⌜ (r ≡ listPrint (listAt (now (table .entry)) place)) × (r < 1021) ⌝ }
+    ensures { λ r. ⌜ (r ≡ listPrint (listAt (now (table .entry)) place)) × (r < 2 ^ 32) ⌝ }
 {
     let count = fields::u32_at(table, place as usize);
-    let mut left = fields::lower(count, 4);
+    let mut left = count;
     let mut at = place as usize + 4;
     let mut print = count;
     while 0 < left {
@@ -284,7 +284,7 @@ pub fn list_print(table: &[u8], place: u16) -> usize
         at += fields::u32_at(table, at + 4);
         left -= 1;
     }
-    print % 1021
+    print
 }
 
 // How many bytes the action at `at` is written in.

@@ -1,12 +1,12 @@
 -- Items kept by print and by content: one is found, or it is none of them and joins them.
-use Prim.Native.Nat.{ℕ, zero, suc, _+_, _-_, _≤_, _<_}
+use Prim.Native.Nat.{ℕ, zero, suc, _+_, _-_, _%_, _≤_, _<_}
 use mathlib.Core.Path.{_≡_, refl, sym, ap, _∙_, subst}
 use mathlib.Core.Logic.{inl, inr}
 use mathlib.Core.List.{List, [], _∷_}
 use native.Mathlib.Decide.{ℕ-discrete, decLt}
 use native.Mathlib.Omega.{arith}
 use native.Mathlib.Numerals.{add-one}
-use lib.ListN.{length, getD, take, set}
+use lib.ListN.{length, getD, take, set, length-set}
 use lib.Seq.{getD-take, getD-set-same, getD-set-other, length-take-le, take-suc-set}
 use Rattle.fields.specs.Field.{u32At}
 use Rattle.lists.specs.Distinct.{index, Once}
@@ -14,7 +14,7 @@ use Rattle.lists.proofs.DistinctLaws.{index-le, getD-index, once-more}
 use Rattle.values.specs.declared.Kind.{Kind}
 use Rattle.item.specs.Items.{Item, itemAt, item-discrete, itemPrint, Earlier}
 use Rattle.item.proofs.Earlier.{earlier-not, earlier-total}
-use Rattle.number.specs.Numbered.{placed, numberOf, itemOf, otherOf, Sorted, Split, Inserted, Listed, Found, Kept, Entered, Blank}
+use Rattle.number.specs.Numbered.{placed, numberOf, itemOf, otherOf, Sorted, Split, Inserted, Listed, slotOf, Found, Kept, Entered, Blank}
 use Rattle.number.proofs.Laws.{map-length, map-more}
 use Rattle.number.proofs.NoneLaws.{number-some}
 
@@ -87,9 +87,9 @@ side s n = go (decLt s n) (ℕ-discrete s n)
     go (no l) (yes e) = same e
     go (no l) (no e) = above (omega (arith, l, e))
 
--- the item at `place`, which has the print p, is looked for
+-- the item at `place`, whose slot is p, is looked for
 module _ (kind : Kind) (t firsts others slots : List ℕ) (k place p : ℕ) (hf : k < length firsts) (some : u32At t place ≡ 0 → ⊥)
-    (ep : p ≡ itemPrint kind (itemAt kind t place)) (c : Kept kind t firsts others slots k) where
+    (ep : p ≡ slotOf kind (itemAt kind t place) slots) (c : Kept kind t firsts others slots k) where
   abbrev x : Item kind
   x = itemAt kind t place
 
@@ -136,9 +136,9 @@ module _ (kind : Kind) (t firsts others slots : List ℕ) (k place p : ℕ) (hf 
           new = λ l. (rw add-one (take-suc-set firsts k place hf), c′);
         }
 
-  -- the slot of its print is that of one that is the same
-  its-slot : (j : ℕ) → item j ≡ x → getD slots (itemPrint kind (item j)) 0 ≡ getD slots p 0
-  its-slot j e = ap (λ (y : Item kind). getD slots (itemPrint kind y) 0) e ∙ ap (λ (h : ℕ). getD slots h 0) (sym ep)
+  -- its slot is that of one that is the same
+  its-slot : (j : ℕ) → item j ≡ x → getD slots (slotOf kind (item j) slots) 0 ≡ getD slots p 0
+  its-slot j e = ap (λ (y : Item kind). getD slots (slotOf kind y slots) 0) e ∙ ap (λ (h : ℕ). getD slots h 0) (sym ep)
 
   -- ---- into its slot, which is empty
 
@@ -149,7 +149,7 @@ module _ (kind : Kind) (t firsts others slots : List ℕ) (k place p : ℕ) (hf 
     not-there : (j : ℕ) → j < k → item j ≡ x → ⊥
     not-there j b e = go (c .found j b)
       where
-        go : Found others (getD slots (itemPrint kind (item j)) 0) j → ⊥
+        go : Found others (getD slots (slotOf kind (item j) slots) 0) j → ⊥
         go (inl q) = omega (arith, q, its-slot j e, empty)
         go (inr q) = q .0 (its-slot j e ∙ empty)
 
@@ -163,18 +163,18 @@ module _ (kind : Kind) (t firsts others slots : List ℕ) (k place p : ℕ) (hf 
     taken : (h : ℕ) → (getD slots h 0 ≡ 0 → ⊥) → getD slots h 0 ≡ getD slots′ h 0
     taken h z = sym (getD-set-other slots p h (k + 1) 0 (λ e. z (ap (λ (i : ℕ). getD slots i 0) e ∙ empty)))
 
-    found′ : (j : ℕ) → j < k + 1 → Found others (getD slots′ (itemPrint kind (item′ j)) 0) j
-    found′ j b = go (side j k)
+    found′ : (j : ℕ) → j < k + 1 → Found others (getD slots′ (slotOf kind (item′ j) slots′) 0) j
+    found′ j b = subst (λ (n : ℕ). Found others (getD slots′ (itemPrint kind (item′ j) % n) 0) j) (sym (length-set slots p (k + 1))) (go (side j k))
       where
-        old : Found others (getD slots (itemPrint kind (item j)) 0) j → Found others (getD slots′ (itemPrint kind (item j)) 0) j
+        old : Found others (getD slots (slotOf kind (item j) slots) 0) j → Found others (getD slots′ (slotOf kind (item j) slots) 0) j
         old (inl q) = inl (sym (taken _ (λ z. omega (arith, q, z))) ∙ q)
         old (inr q) = inr ((λ z. q .0 (taken _ (q .0) ∙ z)), q .1)
 
-        go : Side j k → Found others (getD slots′ (itemPrint kind (item′ j)) 0) j
-        go (below l) = subst (λ (y : Item kind). Found others (getD slots′ (itemPrint kind y) 0) j) (still j l) (old (c .found j l))
+        go : Side j k → Found others (getD slots′ (slotOf kind (item′ j) slots) 0) j
+        go (below l) = subst (λ (y : Item kind). Found others (getD slots′ (slotOf kind y slots) 0) j) (still j l) (old (c .found j l))
         go (same e) =
             inl
-            (ap (λ (i : ℕ). getD slots′ (itemPrint kind (item′ i)) 0) e ∙ ap (λ (y : Item kind). getD slots′ (itemPrint kind y) 0) added
+            (ap (λ (i : ℕ). getD slots′ (slotOf kind (item′ i) slots) 0) e ∙ ap (λ (y : Item kind). getD slots′ (slotOf kind y slots) 0) added
             ∙ ap (λ (h : ℕ). getD slots′ h 0) (sym ep) ∙ getD-set-same slots p (k + 1) 0 hp ∙ ap (λ (i : ℕ). i + 1) (sym e))
         go (above l) = absurd (omega arith)
 
@@ -205,7 +205,7 @@ module _ (kind : Kind) (t firsts others slots : List ℕ) (k place p : ℕ) (hf 
     nowhere : (j : ℕ) → j < k → item j ≡ x → ⊥
     nowhere j b e = go (c .found j b)
       where
-        go : Found others (getD slots (itemPrint kind (item j)) 0) j → ⊥
+        go : Found others (getD slots (slotOf kind (item j) slots) 0) j → ⊥
         go (inl q) = let i : getD slots p 0 - 1 ≡ j = omega (arith, q, its-slot j e) in miss (ap item i ∙ e)
         go (inr q) = not-listed (q .1 .0) (q .1 .1) (ap item (q .1 .2) ∙ e)
 
@@ -270,20 +270,20 @@ module _ (kind : Kind) (t firsts others slots : List ℕ) (k place p : ℕ) (hf 
                 ap (λ (i : ℕ). getD others′ i 0) i ∙ inserted .after (w .0) (omega (arith, l)) (w .1) ∙ w .2,
               )
 
-      found″ : (j : ℕ) → j < k + 1 → Found others′ (getD slots (itemPrint kind (item′ j)) 0) j
+      found″ : (j : ℕ) → j < k + 1 → Found others′ (getD slots (slotOf kind (item′ j) slots) 0) j
       found″ j b = go (side j k)
         where
-          old : Found others (getD slots (itemPrint kind (item j)) 0) j → Found others′ (getD slots (itemPrint kind (item j)) 0) j
+          old : Found others (getD slots (slotOf kind (item j) slots) 0) j → Found others′ (getD slots (slotOf kind (item j) slots) 0) j
           old (inl q) = inl q
           old (inr q) = inr (q .0, listed′ j (q .1))
 
-          its : getD slots (itemPrint kind (item′ k)) 0 ≡ getD slots p 0
-          its = ap (λ (y : Item kind). getD slots (itemPrint kind y) 0) added ∙ ap (λ (h : ℕ). getD slots h 0) (sym ep)
+          its : getD slots (slotOf kind (item′ k) slots) 0 ≡ getD slots p 0
+          its = ap (λ (y : Item kind). getD slots (slotOf kind y slots) 0) added ∙ ap (λ (h : ℕ). getD slots h 0) (sym ep)
 
-          go : Side j k → Found others′ (getD slots (itemPrint kind (item′ j)) 0) j
-          go (below l) = subst (λ (y : Item kind). Found others′ (getD slots (itemPrint kind y) 0) j) (still j l) (old (c .found j l))
+          go : Side j k → Found others′ (getD slots (slotOf kind (item′ j) slots) 0) j
+          go (below l) = subst (λ (y : Item kind). Found others′ (getD slots (slotOf kind y slots) 0) j) (still j l) (old (c .found j l))
           go (same e) =
-              subst (λ (i : ℕ). Found others′ (getD slots (itemPrint kind (item′ i)) 0) i) (sym e)
+              subst (λ (i : ℕ). Found others′ (getD slots (slotOf kind (item′ i) slots) 0) i) (sym e)
               (inr ((λ z. full (sym its ∙ z)), (n, omega (arith, split .most, inserted .more), inserted .here)))
           go (above l) = absurd (omega arith)
 

@@ -1,6 +1,6 @@
 -- The distinct ones of some clusters or lists in order of first use, and the number of each among them (document 01, "The sheet", sections 5 to 8): an item
 -- is known by the place where it stands. A place past the table has none.
-use Prim.Native.Nat.{ℕ, _+_, _-_, _≤_, _<_}
+use Prim.Native.Nat.{ℕ, _+_, _-_, _%_, _≤_, _<_}
 use mathlib.Core.Path.{_≡_}
 use mathlib.Core.Logic.{_⊎_}
 use mathlib.Core.List.{List, [], _∷_, _++_, map}
@@ -60,17 +60,21 @@ pub record Inserted (others₀ others : List ℕ) (n index : ℕ) : Type 0 where
 abbrev pub Listed : List ℕ → ℕ → Type 0
 Listed others j = (s : ℕ) × (s < getD others 0 0) × (getD others (s + 1) 0 ≡ j)
 
--- what the slot of an item's print holds: the item's number, or that of another one, and then the item's index is listed
+-- the slot of an item, told by its print
+abbrev pub slotOf : (kind : Kind) → Item kind → List ℕ → ℕ
+slotOf kind x slots = itemPrint kind x % length slots
+
+-- what an item's slot holds: the item's number, or that of another one, and then the item's index is listed
 abbrev pub Found : List ℕ → ℕ → ℕ → Type 0
 Found others slot j = (slot ≡ j + 1) ⊎ ((slot ≡ 0 → ⊥) × Listed others j)
 
--- the items at the first k of `firsts`, no two of which are the same: `slots` has by print the number, counted from 1, of the first one with this print, 0
+-- the items at the first k of `firsts`, no two of which are the same: each slot has the number, counted from 1, of the first one whose slot it is, 0
 -- for none; the ones that found their slot taken are listed in `others`, sorted
 pub record Kept (kind : Kind) (t firsts others slots : List ℕ) (k : ℕ) : Type 0 where
   pub once : Once (item-discrete kind) (placed kind t (take k firsts))
   pub slot : (h : ℕ) → getD slots h 0 ≤ k
   pub sorted : Sorted kind t firsts others k
-  pub found : (j : ℕ) → j < k → Found others (getD slots (itemPrint kind (itemOf kind t firsts j)) 0) j
+  pub found : (j : ℕ) → j < k → Found others (getD slots (slotOf kind (itemOf kind t firsts j) slots) 0) j
 
 -- a place's item has the number n, none having 0; where it is not yet among those at the first k places it joins them
 pub record Entered (kind : Kind) (t firsts₀ firsts others slots : List ℕ) (k place n : ℕ) : Type 0 where

@@ -1,15 +1,15 @@
 // The clusters or the lists at some places, numbered in order of first use (document 01, "The sheet", sections 5 to 8),
 // without a heap: an array by position has the number of what was found there, an array of positions the distinct ones.
-// The item at a position that is seen for the first time is looked for by its print: `slots` has by print the number of
-// the first item with it. Those that find their slot taken are listed in `others`, which has how many they are and then
-// their indices, sorted as words in a dictionary, and searched by halves: many items of one print cost little more.
+// The item at a position that is seen for the first time is looked for in a slot that its print tells: `slots` has the number
+// of the first item whose slot it is. Those that find their slot taken are listed in `others`, which has how many they are and then
+// their indices, sorted as words in a dictionary, and searched by halves: many items of one slot cost little more.
 ghost use mathlib.Core.Path.{_≡_};
 ghost use mathlib.Core.Bool.{true};
-ghost use Prim.Native.Nat.{_+_, _≤_, _<_, _^_, max};
+ghost use Prim.Native.Nat.{_+_, _%_, _≤_, _<_, _^_, max};
 ghost use lib.ListN.{length, getD, set, replicate};
 ghost use Rattle.fields.specs.Field.{u32At};
 ghost use Rattle.lists.specs.Tests.{Says};
-ghost use Rattle.item.specs.Items.{itemAt};
+ghost use Rattle.item.specs.Items.{itemAt, itemPrint};
 ghost use Rattle.number.specs.Numbered.{otherOf, Sorted, Split, Inserted, Kept, Entered, Marked, Seen};
 use values::Kind;
 
@@ -81,6 +81,14 @@ fn insert(others: &mut [u16], n: usize, index: u16)
     others[0] = count as u16;
 }
 
+// The slot of the item at `place`, of `count` slots.
+fn slot_of(table: &[u8], kind: Kind, count: usize, place: u16) -> usize
+    requires { ⌜ (length (now table) ≤ 2 ^ 15) × (0 < count) ⌝ }
+    ensures { λ r. ⌜ (r ≡ itemPrint kind (itemAt kind (now (table .entry)) place) % count) × (r < count) ⌝ }
+{
+    item::item_print(table, kind, place) % count
+}
+
 // The number of the item at `place`, which is not none, among those at the first `k` of `firsts`; it joins them if it
 // is not there.
 fn enter(
@@ -93,14 +101,14 @@ fn enter(
     place: u16,
 ) -> usize
     requires { ⌜ (length (now table) ≤ 2 ^ 15) × ((u32At (now table) place ≡ 0 → ⊥) × Kept kind (now table) (now firsts) (now others) (now slots) k) ⌝ }
-    requires { ⌜ (k < 65535) × ((k < length (now firsts)) × ((k < length (now others)) × (length (now slots) ≡ 1021))) ⌝ }
+    requires { ⌜ (k < 65535) × ((k < length (now firsts)) × ((k < length (now others)) × (0 < length (now slots)))) ⌝ }
     ensures { λ r. ⌜ Entered kind (now (table .entry)) (now (firsts .entry)) (now (firsts .exit)) (now (others .exit)) (now (slots .exit)) k place r ⌝ }
 {
-    let print = item::item_print(table, kind, place);
-    let slot = slots[print] as usize;
+    let at = slot_of(table, kind, slots.len(), place);
+    let slot = slots[at] as usize;
     if slot == 0 {
         firsts[k] = place;
-        slots[print] = (k + 1) as u16;
+        slots[at] = (k + 1) as u16;
         return k + 1;
     }
     if item::same_item(table, kind, firsts[slot - 1], place) {
@@ -159,7 +167,7 @@ pub fn number_of(
     place: u16,
 ) -> usize
     requires { ⌜ (length (now table) ≤ 2 ^ 15) × (Kept kind (now table) (now firsts) (now others) (now slots) k × Seen kind (now table) (now firsts) (now seen) k) ⌝ }
-    requires { ⌜ (k < 65535) × ((k < length (now firsts)) × ((k < length (now others)) × (length (now slots) ≡ 1021))) ⌝ }
+    requires { ⌜ (k < 65535) × ((k < length (now firsts)) × ((k < length (now others)) × (0 < length (now slots)))) ⌝ }
     ensures { λ r. ⌜ Entered kind (now (table .entry)) (now (firsts .entry)) (now (firsts .exit)) (now (others .exit)) (now (slots .exit)) k place r
         × Seen kind (now (table .entry)) (now (firsts .exit)) (now (seen .exit)) (max k r) × (r ≤ k + 1) ⌝ }
 {

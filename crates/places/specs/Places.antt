@@ -95,7 +95,7 @@ pub record Rooms (ends nums firsts others slots : ℕ) : Type 0 where
   pub each : ends ≤ nums
   pub distinct : ends ≤ firsts
   pub listed : ends ≤ others
-  pub prints : slots ≡ 1021
+  pub prints : 0 < slots
 
 -- where a pass stands over n glyphs, which have the items `item 0`, `item 1` and so on: those below g are passed. The first m stretches have their numbers, and
 -- the first k of `firsts` are the places of their distinct items; what is left adds to these, and to the numbers, what all n glyphs come to

@@ -189,7 +189,7 @@ tried-done kind t n source room out₀ out to r firsts ends nums e a b c =
       done = λ z. record { end = a ∙ ap (λ (l : List ℕ). to + length l) e; near = b; bytes = c ∙ ap (sets out₀ to) e };
     }
 
--- fresh rooms for m stretches
-pub fresh : (m : ℕ) → Rooms (length (replicate {A = ℕ} m 0)) (length (replicate {A = ℕ} m 0)) (length (replicate {A = ℕ} m 0)) (length (replicate {A = ℕ} m 0))
-    (length (replicate {A = ℕ} 1021 0))
-fresh m = record { each = omega arith; distinct = omega arith; listed = omega arith; prints = length-replicate {A = ℕ} 1021 0 }
+-- fresh rooms for m stretches, with s slots
+pub fresh : (m s : ℕ) → 0 < s → Rooms (length (replicate {A = ℕ} m 0)) (length (replicate {A = ℕ} m 0)) (length (replicate {A = ℕ} m 0)) (length (replicate {A = ℕ} m 0))
+    (length (replicate {A = ℕ} s 0))
+fresh m s h = record { each = omega arith; distinct = omega arith; listed = omega arith; prints = omega (arith, length-replicate {A = ℕ} s 0) }

@@ -119,7 +119,7 @@ fn put_small(
     let mut nums = [0u16; 128];
     let mut firsts = [0u16; 128];
     let mut others = [0u16; 128];
-    let mut slots = [0u16; 1021];
+    let mut slots = [0u16; 251];
     let mut seen = [0u16; 512];
     let mut alike = [0u8; 512];
     put_with(
@@ -161,7 +161,7 @@ fn put_medium(
     let mut nums = [0u16; 4096];
     let mut firsts = [0u16; 4096];
     let mut others = [0u16; 4096];
-    let mut slots = [0u16; 1021];
+    let mut slots = [0u16; 8191];
     let mut seen = [0u16; 32768];
     put_with(
         table,
@@ -222,7 +222,7 @@ fn put_large(
     let mut nums = [0u16; 65536];
     let mut firsts = [0u16; 65536];
     let mut others = [0u16; 65536];
-    let mut slots = [0u16; 1021];
+    let mut slots = [0u16; 16381];
     let mut seen = [0u16; 32768];
     let mut alike = [0u8; 32768];
     put_with(

@@ -18,17 +18,14 @@ abbrev μ-loop : tie.MeasureT-loop
 u32-at-requires : tie.Need-u32-at-requires Inv-loop μ-loop
 u32-at-requires c κs = search needs
 
-lower-requires : tie.Need-lower-requires Inv-loop μ-loop
-lower-requires c κs = search needs
-
 add-at : tie.Need-add-at Inv-loop μ-loop
 add-at c = search needs
 
 loop-holds : tie.Need-loop-holds Inv-loop μ-loop
 loop-holds c =
-    let a = c .before .before .before .args in
-    let n = c .before .u32-at in
-    (omega arith, omega (arith, n .ensures .1), print-all (a .table .now) (a .place) (n .result) (c .lower .result) (n .ensures .0) (c .lower .ensures))
+    let a = c .before .before .args in
+    let n = c .u32-at in
+    (omega arith, omega (arith, n .ensures .1), print-all (a .table .now) (a .place) (n .result) (n .ensures .0))
 
 mul-print : tie.Need-mul-print Inv-loop μ-loop
 mul-print c = search needs
@@ -57,9 +54,9 @@ loop-less c = search needs
 loop-again : tie.Need-loop-again Inv-loop μ-loop
 loop-again c =
     let l = c .before .before .before .loop in
-    let t = c .before .before .before .before .before .before .before .args .table .now in
+    let t = c .before .before .before .before .before .before .args .table .now in
     let n = c .u32-at2 in (
-      near t (l .at) (n .result) (c .before .before .before .before .before .before .before .pre) (l .inv .0) (n .ensures .0) (n .ensures .1),
+      near t (l .at) (n .result) (c .before .before .before .before .before .before .pre) (l .inv .0) (n .ensures .0) (n .ensures .1),
       omega arith,
       print-more t (l .left) (l .at) (l .print) (c .before .action-print .result) (n .result) (omega arith) (c .before .action-print .ensures .0) (n .ensures .0) ∙ l .inv .2,
     )
@@ -67,7 +64,7 @@ loop-again c =
 returns : tie.Need-returns Inv-loop μ-loop
 returns c =
     let l = c .before .loop in
-    (sym (print-none (c .before .before .before .before .before .args .table .now) (l .left) (l .at) (l .print) (omega arith)) ∙ l .inv .2, omega arith)
+    (sym (print-none (c .before .before .before .before .args .table .now) (l .left) (l .at) (l .print) (omega arith)) ∙ l .inv .2, omega arith)
 
 pub list-print-spec : {M : Type 1} → statement M
 list-print-spec =
@@ -76,7 +73,6 @@ list-print-spec =
     Inv-loop
     μ-loop
     u32-at-requires
-    lower-requires
     add-at
     loop-holds
     mul-print

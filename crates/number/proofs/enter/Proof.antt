@@ -11,8 +11,8 @@ use borrow.Author.Needs.{needs}
 use Rattle.number.proofs.enter.Statement.{statement}
 use Rattle.number.proofs.enter.Tie as tie
 
-item-print-requires : tie.Need-item-print-requires
-item-print-requires c κs = search needs
+slot-of-requires : tie.Need-slot-of-requires
+slot-of-requires c κs = search needs
 
 mul-slot : tie.Need-mul-slot
 mul-slot c = search needs
@@ -21,7 +21,7 @@ slice-read-slot : tie.Need-slice-read-slot
 slice-read-slot c = search needs
 
 cast-slot : tie.Need-cast-slot
-cast-slot c = omega (arith, c .slice-known4 .given (c .before .item-print .result))
+cast-slot c = omega (arith, c .slice-known4 .given (c .before .slot-of .result))
 
 mul-firsts : tie.Need-mul-firsts
 mul-firsts c = search needs
@@ -54,17 +54,17 @@ returns : tie.Need-returns
 returns c =
     let a = c .before .before .before .before .before .before .before .args in
     let q = c .before .before .before .before .before .before .before .pre in
-    let p = c .before .before .item-print in
+    let p = c .before .before .slot-of in
     enters-slot (a .kind) (a .table .now) (a .firsts .now) (a .others .now) (a .slots .now) (a .k) (a .place) (p .result) (omega arith) (q .0 .1 .0) (p .ensures .0) (q .0 .1 .1) (omega (arith, p .ensures .1)) (c .if1 .taken)
 
 sub-same-item : tie.Need-sub-same-item
 sub-same-item c = search needs
 
 mul-same-item : tie.Need-mul-same-item
-mul-same-item c = omega (arith, c .before .before .before .before .before .before .before .pre .0 .1 .1 .slot (c .before .before .item-print .result))
+mul-same-item c = omega (arith, c .before .before .before .before .before .before .before .pre .0 .1 .1 .slot (c .before .before .slot-of .result))
 
 slice-read-same-item : tie.Need-slice-read-same-item
-slice-read-same-item c = omega (arith, c .before .before .before .before .before .before .before .before .pre .0 .1 .1 .slot (c .before .before .before .item-print .result))
+slice-read-same-item c = omega (arith, c .before .before .before .before .before .before .before .before .pre .0 .1 .1 .slot (c .before .before .before .slot-of .result))
 
 same-item-requires : tie.Need-same-item-requires
 same-item-requires c κs = search needs
@@ -73,7 +73,7 @@ returns-2 : tie.Need-returns-2
 returns-2 c =
     let a = c .before .before .before .before .before .before .before .before .before .before .args in
     let q = c .before .before .before .before .before .before .before .before .before .before .pre in
-    let p = c .before .before .before .before .before .item-print in
+    let p = c .before .before .before .before .before .slot-of in
     let slot = getD (a .slots .now) (p .result) 0 in
     let f = itemAt (a .kind) (a .table .now) in
     let z : slot - 1 + 1 ≡ slot = omega (arith, c .before .before .before .if1 .left) in
@@ -94,7 +94,7 @@ mul-result : tie.Need-mul-result
 mul-result c = search needs
 
 slice-read-result : tie.Need-slice-read-result
-slice-read-result c = omega (arith, c .before .before .before .before .before .earlier-count .ensures .most, c .before .before .before .before .before .before .before .before .before .before .before .before .before .before .before .before .before .before .pre .0 .1 .1 .sorted .few, c .before .before .before .before .before .before .before .before .before .before .before .before .before .before .before .before .before .before .pre .0 .1 .1 .slot (c .before .before .before .before .before .before .before .before .before .before .before .before .before .item-print .result), c .before .before .before .before .before .before .before .before .before .before .before .if1 .left)
+slice-read-result c = omega (arith, c .before .before .before .before .before .earlier-count .ensures .most, c .before .before .before .before .before .before .before .before .before .before .before .before .before .before .before .before .before .before .pre .0 .1 .1 .sorted .few, c .before .before .before .before .before .before .before .before .before .before .before .before .before .before .before .before .before .before .pre .0 .1 .1 .slot (c .before .before .before .before .before .before .before .before .before .before .before .before .before .slot-of .result), c .before .before .before .before .before .before .before .before .before .before .before .if1 .left)
 
 cast-result : tie.Need-cast-result
 cast-result c = omega (arith, c .slice-known6 .given (c .before .before .before .before .before .earlier-count .result + 1))
@@ -112,7 +112,7 @@ returns-3 : tie.Need-returns-3
 returns-3 c =
     let a = c .before .before .before .before .before .before .before .before .before .before .before .before .before .before .before .before .before .before .args in
     let q = c .before .before .before .before .before .before .before .before .before .before .before .before .before .before .before .before .before .before .pre in
-    let p = c .before .before .before .before .before .before .before .before .before .before .before .before .before .item-print in
+    let p = c .before .before .before .before .before .before .before .before .before .before .before .before .before .slot-of in
     let n = c .before .before .before .before .before .earlier-count .result in
     let f = itemAt (a .kind) (a .table .now) in
     let e = subst (λ (b : Bool). Says b ((n < getD (a .others .now) 0 0) × (otherOf (a .kind) (a .table .now) (a .firsts .now) (a .others .now) n ≡ f (a .place)))) (c .before .if3 .taken) (c .before .before .is-other .ensures) in
@@ -122,7 +122,7 @@ cast-insert : tie.Need-cast-insert
 cast-insert c = search needs
 
 insert-requires : tie.Need-insert-requires
-insert-requires c κs = (c .before .before .before .before .before .earlier-count .ensures .most, (omega (arith, c .before .before .before .before .before .before .before .before .before .before .before .before .before .before .before .before .before .before .pre .0 .1 .1 .sorted .few, c .before .before .before .before .before .before .before .before .before .before .before .before .before .before .before .before .before .before .pre .0 .1 .1 .slot (c .before .before .before .before .before .before .before .before .before .before .before .before .before .item-print .result), c .before .before .before .before .before .before .before .before .before .before .before .if1 .left), omega (arith, c .before .before .before .before .before .before .before .before .before .before .before .before .before .before .before .before .before .before .pre .0 .1 .1 .sorted .few)))
+insert-requires c κs = (c .before .before .before .before .before .earlier-count .ensures .most, (omega (arith, c .before .before .before .before .before .before .before .before .before .before .before .before .before .before .before .before .before .before .pre .0 .1 .1 .sorted .few, c .before .before .before .before .before .before .before .before .before .before .before .before .before .before .before .before .before .before .pre .0 .1 .1 .slot (c .before .before .before .before .before .before .before .before .before .before .before .before .before .slot-of .result), c .before .before .before .before .before .before .before .before .before .before .before .if1 .left), omega (arith, c .before .before .before .before .before .before .before .before .before .before .before .before .before .before .before .before .before .before .pre .0 .1 .1 .sorted .few)))
 
 mul-firsts-2 : tie.Need-mul-firsts-2
 mul-firsts-2 c = search needs
@@ -143,7 +143,7 @@ returns-4 : tie.Need-returns-4
 returns-4 c =
     let a = c .before .before .before .before .before .before .before .before .before .before .before .before .before .before .before .before .before .before .before .before .before .args in
     let q = c .before .before .before .before .before .before .before .before .before .before .before .before .before .before .before .before .before .before .before .before .before .pre in
-    let p = c .before .before .before .before .before .before .before .before .before .before .before .before .before .before .before .before .item-print in
+    let p = c .before .before .before .before .before .before .before .before .before .before .before .before .before .before .before .before .slot-of in
     let n = c .before .before .before .before .before .before .before .before .earlier-count .result in
     let slot = getD (a .slots .now) (p .result) 0 in
     let f = itemAt (a .kind) (a .table .now) in
@@ -155,7 +155,7 @@ pub enter-spec : {M : Type 1} → statement M
 enter-spec =
     tie.close
     (tie.spec
-    item-print-requires
+    slot-of-requires
     mul-slot
     slice-read-slot
     cast-slot

@@ -72,7 +72,7 @@ number-run-requires : tie.Need-number-run-requires Inv-loop μ-loop
 number-run-requires c κs =
     let l = (c .before .before .before .before .before .before .before .before .before .before .before .loop) in
     let o = (c .before .before .before .before .before .before .before .before .before .before .before .before .before .before .before .before .before .before .before .before .before .before .before .pre) .1 .0 .1 in
-    (((c .before .before .before .before .before .before .before .before .before .before .before .before .before .before .before .before .before .before .before .before .before .before .before .pre) .0 .0, ((c .before .before .before .before .before .before .before .before .before .before .before .before .before .before .before .before .before .before .before .before .before .before .before .pre) .0 .1 .0, ((c .before .before .before .before .before .before .before .before .before .before .before .before .before .before .before .before .before .before .before .before .before .before .before .pre) .0 .1 .1 .0, (c .before .before .before .before .before .before .before .before .before .before .before .before .before .u16-at) .ensures .0))), (((c .before .before .before .before .before .before .before .before .before .before .before .before .before .before .before .before .before .before .before .before .before .before .before .pre) .1 .0 .0, record { each = omega (arith, o .each, l .inv .2, l .inv .3); distinct = omega (arith, o .distinct, l .inv .2, l .inv .4); listed = omega (arith, o .listed, l .inv .2, l .inv .5); prints = l .inv .6 ∙ o .prints }), ((c .before .before .before .before .before .before .before .before .before .before .before .before .before .before .before .before .before .before .before .before .before .before .before .pre) .1 .1 .0, (l .inv .0, (l .inv .9, ((c .before .before .before .before .before .before .before .before .before .if1) .taken, ((c .before .before .before .before .before .before .before .if2) .left, l .inv .1 ((c .before .before .before .before .before .before .before .if2) .left) ((c .before .before .before .before .before .before .before .before .before .if1) .taken))))))))
+    (((c .before .before .before .before .before .before .before .before .before .before .before .before .before .before .before .before .before .before .before .before .before .before .before .pre) .0 .0, ((c .before .before .before .before .before .before .before .before .before .before .before .before .before .before .before .before .before .before .before .before .before .before .before .pre) .0 .1 .0, ((c .before .before .before .before .before .before .before .before .before .before .before .before .before .before .before .before .before .before .before .before .before .before .before .pre) .0 .1 .1 .0, (c .before .before .before .before .before .before .before .before .before .before .before .before .before .u16-at) .ensures .0))), (((c .before .before .before .before .before .before .before .before .before .before .before .before .before .before .before .before .before .before .before .before .before .before .before .pre) .1 .0 .0, record { each = omega (arith, o .each, l .inv .2, l .inv .3); distinct = omega (arith, o .distinct, l .inv .2, l .inv .4); listed = omega (arith, o .listed, l .inv .2, l .inv .5); prints = omega (arith, l .inv .6, o .prints) }), ((c .before .before .before .before .before .before .before .before .before .before .before .before .before .before .before .before .before .before .before .before .before .before .before .pre) .1 .1 .0, (l .inv .0, (l .inv .9, ((c .before .before .before .before .before .before .before .before .before .if1) .taken, ((c .before .before .before .before .before .before .before .if2) .left, l .inv .1 ((c .before .before .before .before .before .before .before .if2) .left) ((c .before .before .before .before .before .before .before .before .before .if1) .taken))))))))
 
 loop-less : tie.Need-loop-less Inv-loop μ-loop
 loop-less c = omega (arith, (c .before .before .before .before .before .before .before .before .before .before .before .before .before .before .number-run) .ensures .2, (c .before .before .before .before .before .before .before .before .before .before .before .before .before .before .before .before .before .before .before .before .before .before .before .before .if1) .taken)

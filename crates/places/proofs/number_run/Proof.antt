@@ -68,7 +68,7 @@ number-of-requires c κs =
     let l = (c .before .before .before .before .before .before .before .before .loop) in
     let s = l .inv .0 in
     let o = (c .before .before .before .before .before .before .before .before .before .before .before .before .before .before .before .before .before .before .before .before .before .before .pre) .1 .0 .1 in
-    (((c .before .before .before .before .before .before .before .before .before .before .before .before .before .before .before .before .before .before .before .before .before .before .pre) .1 .0 .0, (s .kept, s .known)), (omega (arith, stands-few (a .kind) (a .table .now) (glyphItem (a .kind) (a .table .now) (a .glyphs) (a .at) (a .base)) (a .glyphs) (l .ends) (l .nums) (l .firsts) (l .others) (l .slots) (l .seen) (l .stretches) (l .items) (l .glyph) s, (c .before .before .before .before .before .before .before .before .before .before .before .before .before .before .before .before .before .before .before .before .before .before .pre) .0 .1 .1 .0, (c .before .before .before .before .before .before .before .loop-test) .taken, (c .before .before .before .before .before .before .before .before .before .lower) .ensures), (omega (arith, s .few, o .distinct, l .inv .3, l .inv .5, (c .before .before .before .before .before .before .if1) .left), (omega (arith, s .few, o .listed, l .inv .3, l .inv .6, (c .before .before .before .before .before .before .if1) .left), l .inv .7 ∙ o .prints))))
+    (((c .before .before .before .before .before .before .before .before .before .before .before .before .before .before .before .before .before .before .before .before .before .before .pre) .1 .0 .0, (s .kept, s .known)), (omega (arith, stands-few (a .kind) (a .table .now) (glyphItem (a .kind) (a .table .now) (a .glyphs) (a .at) (a .base)) (a .glyphs) (l .ends) (l .nums) (l .firsts) (l .others) (l .slots) (l .seen) (l .stretches) (l .items) (l .glyph) s, (c .before .before .before .before .before .before .before .before .before .before .before .before .before .before .before .before .before .before .before .before .before .before .pre) .0 .1 .1 .0, (c .before .before .before .before .before .before .before .loop-test) .taken, (c .before .before .before .before .before .before .before .before .before .lower) .ensures), (omega (arith, s .few, o .distinct, l .inv .3, l .inv .5, (c .before .before .before .before .before .before .if1) .left), (omega (arith, s .few, o .listed, l .inv .3, l .inv .6, (c .before .before .before .before .before .before .if1) .left), omega (arith, l .inv .7, o .prints)))))
 
 cast-stretch-end : tie.Need-cast-stretch-end Inv-loop μ-loop
 cast-stretch-end c =
