@@ -167,29 +167,41 @@ fn name_by_print(table: &[u8], first: usize, eights: &mut [u32], slots: &mut [u1
     number
 }
 
-// Names the eight actions from `next` on, one action after `at`: by what is known there, or else by their print.
-fn name_next(table: &[u8], at: usize, next: usize, eights: &mut [u32], slots: &mut [u16]) -> usize
+// Names the eight actions from `next` on, one action after `at`: by what is known there, or else by their print if all eight stand
+// in a list. 0 where they are not named.
+fn name_next(
+    table: &[u8],
+    at: usize,
+    next: usize,
+    listed: bool,
+    eights: &mut [u32],
+    slots: &mut [u16],
+) -> usize
     requires { ⌜ (length (now table) ≤ 2 ^ 15) × ((next < 2 ^ 16) × (length (now slots) ≡ 8192)) ⌝ }
     requires { ⌜ (next ≡ at + u32At (now table) (at + 4)) × Eights (now table) (now eights) ⌝ }
     ensures { λ r. ⌜ Eights (now (table .entry)) (now (eights .exit)) ⌝ }
 {
     let name = next_name(table, at, eights);
-    if name == 0 {
+    if name != 0 {
+        put_eight(eights, next, name as u32);
+        return name;
+    }
+    if listed {
         return name_by_print(table, next, eights, slots);
     }
-    put_eight(eights, next, name as u32);
-    name
+    0
 }
 
-// Goes on from `first`, which was just named, along the actions that follow in the table, up to one that is named.
-fn name_on(table: &[u8], first: usize, eights: &mut [u32], slots: &mut [u16])
+// Goes on from `first`, which was just named, along the actions that follow in the table, up to one that is named. The `count`
+// actions from `first` on stand in a list; what follows them may be anything, and no print is taken of it.
+fn name_on(table: &[u8], first: usize, count: usize, eights: &mut [u32], slots: &mut [u16])
     requires { ⌜ (length (now table) ≤ 2 ^ 15) × ((first < 2 ^ 16) × (length (now slots) ≡ 8192)) ⌝ }
     requires { ⌜ Eights (now table) (now eights) ⌝ }
     ensures { λ r. ⌜ Eights (now (table .entry)) (now (eights .exit)) ⌝ }
 {
     let mut at = first;
-    let mut left: usize = 255;
-    while 0 < left {
+    let mut passed: usize = 1;
+    while passed < 256 {
         let next = at + fields::u32_at(table, at + 4);
         if table.len() <= next {
             return;
@@ -197,16 +209,17 @@ fn name_on(table: &[u8], first: usize, eights: &mut [u32], slots: &mut [u16])
         if eight_at(eights, next) != 0 {
             return;
         }
-        if name_next(table, at, next, eights, slots) == 0 {
+        if name_next(table, at, next, passed + 8 <= count, eights, slots) == 0 {
             return;
         }
         at = next;
-        left -= 1;
+        passed += 1;
     }
 }
 
-// What is known of the eight actions from `first` on, 0 where they go too far past the table.
-fn name_of(table: &[u8], first: usize, eights: &mut [u32], slots: &mut [u16]) -> usize
+// What is known of the eight actions from `first` on, 0 where they go too far past the table. They are the first of the `count`
+// that are left of a list.
+fn name_of(table: &[u8], first: usize, count: usize, eights: &mut [u32], slots: &mut [u16]) -> usize
     requires { ⌜ (length (now table) ≤ 2 ^ 15) × ((first < 2 ^ 16) × (length (now slots) ≡ 8192)) ⌝ }
     requires { ⌜ Eights (now table) (now eights) ⌝ }
     ensures { λ r. ⌜ ((r ≡ 0 → ⊥) → Names (now (table .entry)) first r) × (r < 2 ^ 32) × Eights (now (table .entry)) (now (eights .exit)) ⌝ }
@@ -219,7 +232,7 @@ fn name_of(table: &[u8], first: usize, eights: &mut [u32], slots: &mut [u16]) ->
     if name == 0 {
         return 0;
     }
-    name_on(table, first, eights, slots);
+    name_on(table, first, count, eights, slots);
     name
 }
 
@@ -237,7 +250,7 @@ fn slot_of(table: &[u8], place: usize, eights: &mut [u32], slots: &mut [u16]) ->
     let mut left = count;
     let mut print = count;
     while 7 < left {
-        let number = name_of(table, at, eights, slots);
+        let number = name_of(table, at, left, eights, slots);
         if number == 0 {
             return 0;
         }

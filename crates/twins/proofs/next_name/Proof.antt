@@ -1,13 +1,11 @@
 use Rattle.twins.proofs.Laws.{known, next-named}
-use Rattle.twins.specs.Eights.{Names}
 use Rattle.actions.specs.Actions.{actionsAt}
 use Rattle.lists.specs.Tests.{Says}
-use lib.ListN.{getD}
 use native.Mathlib.Omega.{arith}
 use mathlib.Core.Bool.{Bool}
 use borrow.Author.Tests.{not-false}
-use mathlib.Core.Path.{_≡_, refl, sym, _∙_, subst}
-use Prim.Native.Nat.{ℕ, _+_, _*_, _/_, _%_, _<_, _^_}
+use mathlib.Core.Path.{_≡_, refl, subst}
+use Prim.Native.Nat.{_%_}
 use borrow.Author.Needs.{needs}
 use Rattle.twins.proofs.next_name.Statement.{statement}
 use Rattle.twins.proofs.next_name.Tie as tie
