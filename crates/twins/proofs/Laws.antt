@@ -11,6 +11,7 @@ use Rattle.fields.specs.Field.{u32At}
 use Rattle.meaning.specs.Meaning.{Action}
 use Rattle.actions.specs.Actions.{actionAt, actionsAt, listAt, placeAfter}
 use Rattle.actions.proofs.Marks.{set-here, no-mark}
+use Rattle.list_code.proofs.Laws.{next-same}
 use Rattle.values.specs.declared.Kind.the-variants.{Lists}
 use Rattle.item.specs.Items.{itemAt, Twins}
 use Rattle.twins.specs.Eights.{Names, Eights}
@@ -47,6 +48,10 @@ module _ (t : List ℕ) where
   pub eights-set : (eights : List ℕ) (place number : ℕ) → Names t place number → Eights t eights → Eights t (set eights place number)
   eights-set eights place number h e = record { true = all-set (Names t) eights place number h (e .true) }
 
+  -- what was read of a place
+  pub known : {eights : List ℕ} {place number : ℕ} → Eights t eights → number ≡ getD eights place 0 → (number ≡ 0 → ⊥) → Names t place number
+  known {eights} {place} e r u = subst (Names t place) (sym r) (e .true place (λ z. u (r ∙ z)))
+
   abbrev Same : ℕ → ℕ → Type 0
   Same place twin = itemAt Lists t (twin - 1) ≡ itemAt Lists t place
 
@@ -69,15 +74,25 @@ module _ (t : List ℕ) where
       ap (λ (l : List Action). actionAt t at ∷ l)
       (actions-split m left next (omega arith) ∙ ap (λ (k : ℕ). actionsAt t m next ++ actionsAt t k (placeAfter t m next)) e)
 
+  -- the same actions up to some place, and the same after it
+  same-split : (m left a b : ℕ) → m ≤ left → actionsAt t m a ≡ actionsAt t m b
+      → actionsAt t (left - m) (placeAfter t m a) ≡ actionsAt t (left - m) (placeAfter t m b) → actionsAt t left a ≡ actionsAt t left b
+  same-split m left a b h e rest =
+      actions-split m left a h ∙ ap₂ (λ (l k : List Action). l ++ k) e rest ∙ sym (actions-split m left b h)
+
+  -- where the action stands that is one more after
+  after-last : (n at : ℕ) → placeAfter t n (at + u32At t (at + 4)) ≡ placeAfter t n at + u32At t (placeAfter t n at + 4)
+  unfolding placeAfter
+  after-last zero at = refl
+  after-last (suc n) at = after-last n (at + u32At t (at + 4))
+
   -- lists that go on after eights of one name
   pub same-eight : (left a b one other : ℕ) → 7 < left → Names t a one → Names t b other → one / 65536 ≡ other / 65536
       → actionsAt t (left - 8) (one % 65536) ≡ actionsAt t (left - 8) (other % 65536) → actionsAt t left a ≡ actionsAt t left b
   same-eight left a b one other h n m e rest =
-      actions-split 8 left a (omega arith)
-      ∙ ap₂ (λ (l k : List Action). l ++ k)
+      same-split 8 left a b (omega arith)
       (sym (n .same) ∙ ap (actionsAt t 8) e ∙ m .same)
       (ap (actionsAt t (left - 8)) (sym (n .after)) ∙ rest ∙ ap (actionsAt t (left - 8)) (m .after))
-      ∙ sym (actions-split 8 left b (omega arith))
 
   -- lists whose counts were read
   pub same-list : (first second n m : ℕ) → n ≡ u32At t first → m ≡ u32At t second → n ≡ m → actionsAt t n (first + 4) ≡ actionsAt t n (second + 4)
@@ -93,3 +108,17 @@ module _ (t : List ℕ) where
       let p : number / 65536 ≡ place = omega arith in
       let q : number % 65536 ≡ after = omega arith in
       record { same = ap (actionsAt t 8) p ∙ h; after = q ∙ a }
+
+  -- the eight actions one action further on, where those from `at` on have the name `one`: `other` and `name` are the names at the place that `one` tells of,
+  -- and one action further on from there, and the lengths of two actions were read as `j` and `k`
+  pub next-named : (at one other name j k number : ℕ) → Names t at one → Names t (one / 65536) other → j ≡ u32At t (one / 65536 + 4)
+      → Names t (one / 65536 + j) name → actionsAt t 1 (one % 65536) ≡ actionsAt t 1 (other % 65536) → k ≡ u32At t (one % 65536 + 4)
+      → one % 65536 + k < 65536 → number ≡ name / 65536 * 65536 + (one % 65536 + k) → Names t (at + u32At t (at + 4)) number
+  next-named at one other name j k number n m ej w ninth ek h e =
+      let nine : actionsAt t 9 (one / 65536) ≡ actionsAt t 9 at =
+      same-split 8 9 (one / 65536) at (omega arith) (n .same)
+      (ap (actionsAt t 1) (sym (m .after)) ∙ sym ninth ∙ ap (actionsAt t 1) (n .after)) in
+      named (name / 65536) (at + u32At t (at + 4)) (one % 65536 + k) number
+      (w .same ∙ next-same t 9 (one / 65536) at j (u32At t (at + 4)) (omega arith) ej refl nine)
+      (ap (λ (p : ℕ). one % 65536 + p) ek ∙ ap (λ (p : ℕ). p + u32At t (p + 4)) (n .after) ∙ sym (after-last 8 at))
+      h e

@@ -1,12 +1,14 @@
 // Lists of actions that hold the same, found before they are numbered (document 01, "The sheet", section 7). Lists can
 // overlap, so that a table of 32 KB has thousands of them with up to 64 actions each, and comparing each with another one
 // action by action would cost far more than the table's bytes. Here eight actions that follow each other are named by one place
-// where the same eight stand, and lists are compared by these names. What is found is true; what is not found, as where
-// two numbers that tell where to look are the same, is left to whoever numbers the lists.
+// where the same eight stand, and lists are compared by these names. Where eights are named, those one action further on are
+// the same if one more action is, so along chains of actions that are alike each costs one comparison. What is found is true;
+// what is not found, as where two numbers that tell where to look are the same, is left to whoever numbers the lists.
 ghost use mathlib.Core.Path.{_≡_};
 ghost use mathlib.Core.Bool.{true};
 ghost use Prim.Native.Nat.{_+_, _≤_, _<_, _^_};
 ghost use lib.ListN.{length, getD, set};
+ghost use Rattle.fields.specs.Field.{u32At};
 ghost use Rattle.actions.specs.Actions.{actionsAt, listAt, placeAfter};
 ghost use Rattle.item.specs.Items.{Twins};
 ghost use Rattle.twins.specs.Eights.{Names, Eights};
@@ -118,17 +120,43 @@ fn place_by(table: &[u8], first: usize, slot: usize, slots: &mut [u16]) -> usize
     first
 }
 
-// What is known of the eight actions from `first` on, 0 where they go too far past the table. The first 4,096 slots are for
+// What is known at `at` tells this of the eight actions from the next one on, 0 where nothing: they are the same as those one
+// action further on from the place that `at` is named by, if the ninth actions are the same.
+fn next_name(table: &[u8], at: usize, eights: &[u32]) -> usize
+    requires { ⌜ (length (now table) ≤ 2 ^ 15) × Eights (now table) (now eights) ⌝ }
+    ensures { λ r. ⌜ ((r ≡ 0 → ⊥) → Names (now (table .entry)) (at + u32At (now (table .entry)) (at + 4)) r) × (r < 2 ^ 32) ⌝ }
+{
+    let one = eight_at(eights, at);
+    if one == 0 {
+        return 0;
+    }
+    let twin = one / 65536;
+    let other = eight_at(eights, twin);
+    if other == 0 {
+        return 0;
+    }
+    let name = eight_at(eights, twin + fields::u32_at(table, twin + 4));
+    if name == 0 {
+        return 0;
+    }
+    let ninth = one % 65536;
+    if !list_code::same_actions(table, ninth, other % 65536, 1) {
+        return 0;
+    }
+    let after = ninth + fields::u32_at(table, ninth + 4);
+    if 65535 < after {
+        return 0;
+    }
+    name / 65536 * 65536 + after
+}
+
+// Names the eight actions from `first` on by their print; 0 where they go too far past the table. The first 4,096 slots are for
 // eights, the others for lists.
-fn name_of(table: &[u8], first: usize, eights: &mut [u32], slots: &mut [u16]) -> usize
+fn name_by_print(table: &[u8], first: usize, eights: &mut [u32], slots: &mut [u16]) -> usize
     requires { ⌜ (length (now table) ≤ 2 ^ 15) × ((first < 2 ^ 16) × (length (now slots) ≡ 8192)) ⌝ }
     requires { ⌜ Eights (now table) (now eights) ⌝ }
     ensures { λ r. ⌜ ((r ≡ 0 → ⊥) → Names (now (table .entry)) first r) × (r < 2 ^ 32) × Eights (now (table .entry)) (now (eights .exit)) ⌝ }
 {
-    let known = eight_at(eights, first);
-    if known != 0 {
-        return known;
-    }
     let passed = pass(table, first, 8, 0);
     if 65535 < passed.at {
         return 0;
@@ -137,6 +165,75 @@ fn name_of(table: &[u8], first: usize, eights: &mut [u32], slots: &mut [u16]) ->
     let number = place * 65536 + passed.at;
     put_eight(eights, first, number as u32);
     number
+}
+
+// Names the eight actions from `next` on, one action after `at`: by what is known there, or else by their print if all eight stand
+// in a list. 0 where they are not named.
+fn name_next(
+    table: &[u8],
+    at: usize,
+    next: usize,
+    listed: bool,
+    eights: &mut [u32],
+    slots: &mut [u16],
+) -> usize
+    requires { ⌜ (length (now table) ≤ 2 ^ 15) × ((next < 2 ^ 16) × (length (now slots) ≡ 8192)) ⌝ }
+    requires { ⌜ (next ≡ at + u32At (now table) (at + 4)) × Eights (now table) (now eights) ⌝ }
+    ensures { λ r. ⌜ Eights (now (table .entry)) (now (eights .exit)) ⌝ }
+{
+    let name = next_name(table, at, eights);
+    if name != 0 {
+        put_eight(eights, next, name as u32);
+        return name;
+    }
+    if listed {
+        return name_by_print(table, next, eights, slots);
+    }
+    0
+}
+
+// Goes on from `first`, which was just named, along the actions that follow in the table, up to one that is named. The `count`
+// actions from `first` on stand in a list; what follows them may be anything, and no print is taken of it.
+fn name_on(table: &[u8], first: usize, count: usize, eights: &mut [u32], slots: &mut [u16])
+    requires { ⌜ (length (now table) ≤ 2 ^ 15) × ((first < 2 ^ 16) × (length (now slots) ≡ 8192)) ⌝ }
+    requires { ⌜ Eights (now table) (now eights) ⌝ }
+    ensures { λ r. ⌜ Eights (now (table .entry)) (now (eights .exit)) ⌝ }
+{
+    let mut at = first;
+    let mut passed: usize = 1;
+    while passed < 256 {
+        let next = at + fields::u32_at(table, at + 4);
+        if table.len() <= next {
+            return;
+        }
+        if eight_at(eights, next) != 0 {
+            return;
+        }
+        if name_next(table, at, next, passed + 8 <= count, eights, slots) == 0 {
+            return;
+        }
+        at = next;
+        passed += 1;
+    }
+}
+
+// What is known of the eight actions from `first` on, 0 where they go too far past the table. They are the first of the `count`
+// that are left of a list.
+fn name_of(table: &[u8], first: usize, count: usize, eights: &mut [u32], slots: &mut [u16]) -> usize
+    requires { ⌜ (length (now table) ≤ 2 ^ 15) × ((first < 2 ^ 16) × (length (now slots) ≡ 8192)) ⌝ }
+    requires { ⌜ Eights (now table) (now eights) ⌝ }
+    ensures { λ r. ⌜ ((r ≡ 0 → ⊥) → Names (now (table .entry)) first r) × (r < 2 ^ 32) × Eights (now (table .entry)) (now (eights .exit)) ⌝ }
+{
+    let known = eight_at(eights, first);
+    if known != 0 {
+        return known;
+    }
+    let name = name_by_print(table, first, eights, slots);
+    if name == 0 {
+        return 0;
+    }
+    name_on(table, first, count, eights, slots);
+    name
 }
 
 // Where to look for the list at `place`: by the names of its eights and its last actions. 0 where that is not known.
@@ -153,7 +250,7 @@ fn slot_of(table: &[u8], place: usize, eights: &mut [u32], slots: &mut [u16]) ->
     let mut left = count;
     let mut print = count;
     while 7 < left {
-        let number = name_of(table, at, eights, slots);
+        let number = name_of(table, at, left, eights, slots);
         if number == 0 {
             return 0;
         }

@@ -1,8 +1,7 @@
-use Rattle.twins.specs.Eights.{Names}
 use Rattle.lists.specs.Tests.{Says}
-use mathlib.Core.Path.{sym, _∙_, subst}
+use mathlib.Core.Path.{sym, subst}
 use mathlib.Core.Bool.{Bool, true, true≢false}
-use Rattle.twins.proofs.Laws.{same-eight, same-list}
+use Rattle.twins.proofs.Laws.{known, same-eight, same-list}
 use Rattle.actions.specs.Actions.{actionsAt}
 use mathlib.Core.Path.{_≡_}
 use Prim.Native.Nat.{_+_, _-_, _≤_, _<_, _^_}
@@ -82,9 +81,9 @@ loop-again c =
     let t = c .before .before .before .before .before .before .before .before .before .before .before .before .args .table .now in
     let one = c .before .before .before .before .eight-at in
     let other = c .before .before .before .eight-at2 in
-    let kept = c .before .before .before .before .before .before .before .before .before .before .before .before .pre .1 .1 .1 .true in
-    let n = subst (Names t (l .a)) (sym (one .ensures .0)) (kept (l .a) (λ z. c .before .before .if2 .left (one .ensures .0 ∙ z))) in
-    let m = subst (Names t (l .b)) (sym (other .ensures .0)) (kept (l .b) (λ z. c .before .if3 .left (other .ensures .0 ∙ z))) in (
+    let kept = c .before .before .before .before .before .before .before .before .before .before .before .before .pre .1 .1 .1 in
+    let n = known t kept (one .ensures .0) (c .before .before .if2 .left) in
+    let m = known t kept (other .ensures .0) (c .before .if3 .left) in (
       omega arith,
       omega arith,
       (λ rest. l .inv .2 (same-eight t (l .left) (l .a) (l .b) (one .result) (other .result) (omega arith) n m (omega (arith, c .if4 .left)) rest)),
