@@ -31,25 +31,23 @@ fn mixed(print: usize, word: usize) -> usize
     (print + word) % 4294967296 * FACTOR % 4294967296
 }
 
-// The running sums of the words in `size` bytes, added up.
-fn weigh(table: &[u8], first: usize, size: usize) -> usize
-    requires { ⌜ (first < 2 ^ 60) × (size ≤ 76) ⌝ }
-    ensures { λ r. ⌜ r < 2 ^ 62 ⌝ }
+// A print with the words in `size` bytes mixed in.
+fn bytes_mixed(table: &[u8], first: usize, size: usize, before: usize) -> usize
+    requires { ⌜ (first < 2 ^ 60) × ((size ≤ 76) × (before < 2 ^ 32)) ⌝ }
+    ensures { λ r. ⌜ r < 2 ^ 32 ⌝ }
 {
     let mut at = first;
     let mut left = size;
-    let mut sum: usize = 0;
-    let mut total: usize = 0;
+    let mut print = before;
     while 3 < left {
-        sum += fields::u32_at(table, at);
-        total += sum;
+        print = mixed(print, fields::u32_at(table, at));
         at += 4;
         left -= 4;
     }
     if left < 2 {
-        return total;
+        return print;
     }
-    total + fields::u16_at(table, at)
+    mixed(print, fields::u16_at(table, at))
 }
 
 // A number for the action at `at`, by its class, type and data, mixed with `print`.
@@ -68,7 +66,7 @@ fn action_mixed(table: &[u8], at: usize, print: usize) -> usize
         return mixed(with, fields::u16_at(table, at + 10));
     }
     let size = fields::lower(list_code::content_size(table, at, kind), 76);
-    mixed(with, weigh(table, at + 8, size))
+    bytes_mixed(table, at + 8, size, with)
 }
 
 // The way past `count` actions from `first` on; `before` is the print of what stands before them.
