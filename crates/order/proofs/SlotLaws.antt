@@ -8,7 +8,7 @@ use lib.ListN.{length, getD, take}
 use lib.Seq.{slice, length-slice, getD-take, getD-drop}
 use Rattle.fields.specs.Field.{u16At, u32At}
 use Rattle.order.specs.Order.{stretch}
-use Rattle.order.specs.Slots.{mixed, edge, slotOf}
+use Rattle.order.specs.Slots.{mixed, mixedTo, edge, slotOf}
 use Rattle.order.proofs.MarkLaws.{slice-clipped}
 
 pub mixed-next : (s : List ℕ) (n at h : ℕ) → 0 < n → mixed s n at h ≡ mixed s (n - 1) (at + 4) ((h + u32At s at) % 4294967296 * 2654435761 % 4294967296)
@@ -47,13 +47,14 @@ module _ (s : List ℕ) where
   at : (a ae x j : ℕ) → x ≡ a + j → x < ae → getD s x 0 ≡ getD (slice a ae s) j 0
   at a ae x j e h = sym (getD-drop a (take ae s) j 0 ∙ ap (λ (i : ℕ). getD (take ae s) i 0) (sym e) ∙ getD-take ae s x 0 h)
 
-  mixed-alike : (a ae b be : ℕ) → ae ≤ length s → be ≤ length s → slice a ae s ≡ slice b be s → mixed s ((ae - a) / 4) a 0 ≡ mixed s ((be - b) / 4) b 0
+  mixed-alike : (a ae b be : ℕ) → ae ≤ length s → be ≤ length s → slice a ae s ≡ slice b be s → mixedTo s a ae ≡ mixedTo s b be
   mixed-alike a ae b be p q e =
       let l : ae - a ≡ be - b = sym (length-slice a ae s p) ∙ ap length e ∙ length-slice b be s q in
-      ap (λ (n : ℕ). mixed s (n / 4) a 0) l
-      ∙ same-words ((be - b) / 4) a b 0
+      let r = (be - b) % 4 in
+      ap (λ (n : ℕ). mixed s (n / 4) (a + n % 4) 0) l
+      ∙ same-words ((be - b) / 4) (a + r) (b + r) 0
       (λ j x y h ex ey.
-      at a ae x j ex (omega (arith, l)) ∙ ap (λ (t : List ℕ). getD t j 0) e ∙ sym (at b be y j ey (omega arith)))
+      at a ae x (r + j) (omega (arith, ex)) (omega (arith, l)) ∙ ap (λ (t : List ℕ). getD t (r + j) 0) e ∙ sym (at b be y (r + j) (omega (arith, ey)) (omega arith)))
 
 pub slot-alike : (s marks : List ℕ) (slots x y : ℕ) → stretch s marks x ≡ stretch s marks y → slotOf s marks slots x ≡ slotOf s marks slots y
 unfolding slotOf stretch
@@ -69,12 +70,12 @@ module _ (s marks : List ℕ) (slots k a b : ℕ) (ea : a ≡ edge s marks k) (e
   unfolding slotOf mixed
   slot-none h =
       let n : (edge s marks (k + 1) - edge s marks k) / 4 ≡ 0 = omega (arith, ea, eb) in
-      sym (ap (λ (m : ℕ). mixed s m (edge s marks k) 0 * slots / 4294967296) n ∙ nothing slots)
+      sym (ap (λ (m : ℕ). mixed s m (edge s marks k + (edge s marks (k + 1) - edge s marks k) % 4) 0 * slots / 4294967296) n ∙ nothing slots)
     where
       nothing : (slots : ℕ) → 0 * slots / 4294967296 ≡ 0
       nothing slots = omega arith
 
-  pub slot-is : (h : ℕ) → h ≡ mixed s ((b - a) / 4) a 0 → h * slots / 4294967296 ≡ slotOf s marks slots k
+  pub slot-is : (h : ℕ) → h ≡ mixedTo s a b → h * slots / 4294967296 ≡ slotOf s marks slots k
   unfolding slotOf
   slot-is h e =
-      ap (λ (m : ℕ). m * slots / 4294967296) (e ∙ ap₂ (λ (u v : ℕ). mixed s ((u - v) / 4) v 0) eb ea)
+      ap (λ (m : ℕ). m * slots / 4294967296) (e ∙ ap₂ (mixedTo s) ea eb)

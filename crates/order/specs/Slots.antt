@@ -15,9 +15,13 @@ mixed s (suc n) at h = mixed s n (at + 4) ((h + u32At s at) % 4294967296 * 26544
 abbrev pub edge : List ℕ → List ℕ → ℕ → ℕ
 edge s marks i = min (getD marks i 0) (length s)
 
+-- the words with which the bytes from one place to another end, mixed
+abbrev pub mixedTo : List ℕ → ℕ → ℕ → ℕ
+mixedTo s a b = mixed s ((b - a) / 4) (a + (b - a) % 4) 0
+
 -- the slot of stretch k
 unfoldable pub slotOf : List ℕ → List ℕ → ℕ → ℕ → ℕ
-slotOf s marks slots k = mixed s ((edge s marks (k + 1) - edge s marks k) / 4) (edge s marks k) 0 * slots / 4294967296
+slotOf s marks slots k = mixedTo s (edge s marks k) (edge s marks (k + 1)) * slots / 4294967296
 
 -- no slot is taken
 abbrev pub Unused : List ℕ → Type 0

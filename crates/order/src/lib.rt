@@ -243,7 +243,8 @@ fn mix(bytes: &[u8], at: usize, words: usize) -> usize
     sum
 }
 
-// The slot, of `slots`, of stretch k: the upper bits of its words mixed. What is past its last whole word is left out.
+// The slot, of `slots`, of stretch k: the upper bits of its words mixed. What stands before them, up to three bytes of the count
+// with which an item begins, is left out.
 fn slot_of(bytes: &[u8], marks: &[usize], k: usize, slots: usize) -> usize
     requires { ⌜ (k < 2 ^ 16) × (0 < slots) × (slots ≤ 2 ^ 17) ⌝ }
     ensures { λ r. ⌜ (r ≡ slotOf (now (bytes .entry)) (now (marks .entry)) slots k) × (r < slots) ⌝ }
@@ -253,7 +254,8 @@ fn slot_of(bytes: &[u8], marks: &[usize], k: usize, slots: usize) -> usize
     if end < at {
         return 0;
     }
-    mix(bytes, at, (end - at) / 4) * slots / 4294967296
+    let size = end - at;
+    mix(bytes, at + size % 4, size / 4) * slots / 4294967296
 }
 
 // Leaves the numbers, of the first `count` stretches, that are still to be compared with each other, and says how many.

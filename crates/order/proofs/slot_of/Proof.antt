@@ -19,6 +19,9 @@ returns c =
     let a = c .before .before .before .before .before .args in
     (slot-none (a .bytes .now) (a .marks .now) (a .slots) (a .k) _ _ (c .before .before .mark .ensures .0) (c .before .mark2 .ensures .0) (c .if1 .taken), omega arith)
 
+add-mix : tie.Need-add-mix
+add-mix c = search needs
+
 mix-requires : tie.Need-mix-requires
 mix-requires c κs = search needs
 
@@ -36,4 +39,4 @@ returns-2 c =
 pub slot-of-spec : {M : Type 1} → statement M
 slot-of-spec =
     tie.close
-    (tie.spec mark-requires add-mark mark-requires-2 returns mix-requires mul-result returns-2)
+    (tie.spec mark-requires add-mark mark-requires-2 returns add-mix mix-requires mul-result returns-2)
