@@ -149,10 +149,10 @@ fn limits_are_clear(table: &[u8], at: usize) -> bool
     requires { ⌜ at + 8 ≤ length (now table) ⌝ }
     ensures { λ r. ⌜ (r ≡ true → (growFault (now (table .entry)) at ≡ Clear) × (shrinkFault (now (table .entry)) (at + 4) ≡ Clear)) ⌝ }
 {
-    if 1048576 < fixed_at(table, at) {
+    if 1048576 < fields::u32_in(table, at) {
         return false;
     }
-    size_at(table, at + 4) <= 1048576
+    units::fixed_size(fields::u32_in(table, at + 4) as u32) <= 1048576
 }
 
 // Whether the flags at `at`, grow and then shrink, are.
@@ -160,10 +160,10 @@ fn flags_are_clear(table: &[u8], at: usize) -> bool
     requires { ⌜ at + 4 ≤ length (now table) ⌝ }
     ensures { λ r. ⌜ (r ≡ true → (flagsFault (now (table .entry)) at ≡ Clear) × (flagsFault (now (table .entry)) (at + 2) ≡ Clear)) ⌝ }
 {
-    if 3 < units::priority(flags_at(table, at)) {
+    if 3 < units::priority(fields::u16_in(table, at) as u16) {
         return false;
     }
-    units::priority(flags_at(table, at + 2)) <= 3
+    units::priority(fields::u16_in(table, at + 2) as u16) <= 3
 }
 
 // The least class that may follow the pair at `at`, where that pair is seen to be without fault; else 0.
