@@ -239,6 +239,20 @@ fn note(place: usize, count: usize, ahead: &mut [u8])
     fields::put_u8(ahead, place, told as u8);
 }
 
+// The same at each of the values, of which ever fewer are left.
+fn note_each(place: usize, count: usize, ahead: &mut [u8])
+    requires { ⌜ place + 2 * count < 2 ^ 50 ⌝ }
+    ensures { λ r. ⌜ Noted place count (now (ahead .entry)) (now (ahead .exit)) ⌝ }
+{
+    let mut p = place;
+    let mut left = count;
+    while 0 < left {
+        note(p, left, ahead);
+        p += 2;
+        left -= 1;
+    }
+}
+
 // Notes it at the first value, and at each to which those that were told lead: one passed over is left as it was. So whoever
 // asks at one of them next is led to the end, and what took many turns once takes one.
 pub fn note_values(place: usize, count: usize, ahead: &mut [u8])
@@ -286,6 +300,7 @@ fn places_fault(
             if let Fault::Bad { refusal: _, at: _ } = fault {
                 return fault;
             }
+            note_each(p, part, ahead);
             p += 2 * part;
             left -= part;
         }
