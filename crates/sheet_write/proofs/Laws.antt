@@ -1,15 +1,17 @@
 -- The sheet by its parts as they are stored, and what an accepted table gives them.
-use Prim.Native.Nat.{ℕ, zero, suc, _+_, _≤_, _<_, _^_}
+use Prim.Native.Nat.{ℕ, zero, suc, _+_, _-_, _≤_, _<_, _^_, min}
 use mathlib.Core.Path.{_≡_, refl, sym, ap, ap₂, _∙_}
 use mathlib.Core.List.{List, [], _∷_, _++_}
 use native.Mathlib.Omega.{arith}
+use native.Mathlib.Decide.{decLt}
 use lib.ListN.{length, getD, drop, take, set, length-append}
-use lib.Seq.{sets, length-sets}
+use lib.Seq.{sets, length-sets, sets-eq, slice, slice-cons, slice-empty, take-set-le, take-at, drop-at, length-take-le}
 use borrow.Author.Tests.{le-leb, lt-leb}
 use Rattle.fields.specs.declared.Refusal.{Refusal}
 use Rattle.fields.specs.declared.Fault.{Fault}
 use Rattle.fields.specs.declared.Fault.the-variants.{Clear, Bad}
 use Rattle.fields.specs.Field.{u16At, be32}
+use Rattle.fields.specs.Stores.{sets-out, put-two}
 use Rattle.fields.specs.Refusals.{numberOf}
 use Rattle.fields.specs.Laws.{then-first, then-second}
 use Rattle.meaning.specs.Sheet.{write}
@@ -56,6 +58,22 @@ module _ (t : List ℕ) (n : ℕ) where
 
     pub second-ready : (at : ℕ) → at < 2 ^ 16 → at ≡ u16At t 8 → Ready-side t n at
     second-ready at h e = side-ready at h (ap (directionFault t n) e ∙ second-clear)
+
+  -- the number of glyphs stored, then the one direction, then the other
+  module _ (first second end r : ℕ) (e₁ : first ≡ u16At t 6) (e₂ : second ≡ u16At t 8) (p : end ≡ 4 + length (sideBytes t n first))
+      (q : r ≡ end + length (sideBytes t n second)) where
+    pub parts-length : r ≡ length (sheetOf t n)
+    parts-length =
+        omega (arith, sheet-length, ap (λ (a : ℕ). length (sideBytes t n a)) e₁, ap (λ (a : ℕ). length (sideBytes t n a)) e₂)
+
+    pub parts-stored : (l₀ l₁ l₂ l₃ : List ℕ) → l₁ ≡ sets l₀ 0 (be32 n) → l₂ ≡ sets l₁ 4 (sideBytes t n first) → l₃ ≡ sets l₂ end (sideBytes t n second)
+        → l₃ ≡ sets l₀ 0 (sheetOf t n)
+    parts-stored l₀ l₁ l₂ l₃ a b c =
+        let h = sideBytes t n first in
+        let v = sideBytes t n second in
+        put-two (be32 n) (h ++ v) l₀ l₁ l₃ 0 4 refl a (put-two h v l₁ l₂ l₃ 4 end p b c)
+        ∙ ap₂ (λ (x y : ℕ). sets l₀ 0 (be32 n ++ (sideBytes t n x ++ sideBytes t n y))) e₁ e₂
+        ∙ ap (sets l₀ 0) (sym sheet-parts)
 
 -- ---- the room
 
@@ -121,3 +139,51 @@ copied-more bs l₀ l i hb hl e = ap (λ (x : List ℕ). set x i (getD bs i 0)) 
     go (b ∷ bs) (x ∷ l₀) (suc i) hb hl =
         let s : suc i + 1 ≡ suc (i + 1) = omega arith in
         ap (λ (r : List ℕ). b ∷ r) (go bs l₀ i (omega arith) (omega arith)) ∙ ap (λ (k : ℕ). take k (b ∷ bs) ++ drop k (x ∷ l₀)) (sym s)
+
+-- ---- bytes stored once more, after themselves
+
+-- after i of them
+module _ (l all : List ℕ) (from end i : ℕ) (e : sets l (end + i) (slice (from + i) end l) ≡ all) where
+  pub once-more : from + i < end → end ≤ length l
+      → sets (set l (end + i) (getD l (from + i) 0)) (end + (i + 1)) (slice (from + (i + 1)) end (set l (end + i) (getD l (from + i) 0))) ≡ all
+  once-more h k =
+      let b = getD l (from + i) 0 in
+      let p : end + (i + 1) ≡ suc (end + i) = omega arith in
+      let q : from + (i + 1) ≡ suc (from + i) = omega arith in
+      let o : end ≤ end + i = omega arith in
+      ap (λ (bs : List ℕ). sets (set l (end + i) b) (end + (i + 1)) bs) (ap (drop (from + (i + 1))) (take-set-le end l (end + i) b o))
+      ∙ ap₂ (λ (x y : ℕ). sets (set l (end + i) b) x (slice y end l)) p q
+      ∙ ap (sets l (end + i)) (sym (slice-cons (from + i) end l 0 h k))
+      ∙ e
+
+  pub once-all : from ≤ end → min (end - from) (length l - end) ≤ i → i ≤ end - from → l ≡ all
+  once-all f h k = go (decLt (from + i) end)
+    where
+      go : Dec (from + i < end) → l ≡ all
+      go (yes p) =
+          let o : length l ≤ end + i = omega arith in
+          sym (sets-out (slice (from + i) end l) l (end + i) o) ∙ e
+      go (no p) =
+          let q : end ≡ from + i = omega (arith, p) in
+          ap (sets l (end + i)) (sym (slice-empty end l) ∙ ap (λ (x : ℕ). slice x end l) q) ∙ e
+
+-- bytes that were stored stand there, as far as the room goes
+stand : (bs l₀ l₁ : List ℕ) (at end : ℕ) → end ≡ at + length bs → end ≤ length l₁ → l₁ ≡ sets l₀ at bs → slice at end l₁ ≡ bs
+stand bs l₀ l₁ at end e h s =
+    let o : at + length bs ≤ length l₀ = omega (arith, h, ap length s, length-sets l₀ at bs) in
+    let a : at ≤ length l₀ = omega arith in
+    let f = take at l₀ in
+    let n : length f ≡ at = length-take-le at l₀ a in
+    let m : length (f ++ bs) ≡ end = omega (arith, length-append f bs) in
+    let t : take end l₁ ≡ f ++ bs = ap (take end) (s ∙ sets-eq bs l₀ at o) ∙ take-at (f ++ bs) (drop (at + length bs) l₀) end m in
+    ap (drop at) t ∙ drop-at f bs at n
+
+-- a store, and what it stored copied after it
+pub put-twice : (bs l₀ l₁ l₂ : List ℕ) (at end : ℕ) → end ≡ at + length bs → l₁ ≡ sets l₀ at bs → l₂ ≡ sets l₁ end (slice at end l₁) → l₂ ≡ sets l₁ end bs
+put-twice bs l₀ l₁ l₂ at end e s c = c ∙ go (decLt (length l₁) end)
+  where
+    go : Dec (length l₁ < end) → sets l₁ end (slice at end l₁) ≡ sets l₁ end bs
+    go (yes p) =
+        let o : length l₁ ≤ end = omega arith in
+        sets-out (slice at end l₁) l₁ end o ∙ sym (sets-out bs l₁ end o)
+    go (no p) = ap (sets l₁ end) (stand bs l₀ l₁ at end e (omega (arith, p)) s)

@@ -4,7 +4,7 @@ ghost use mathlib.Core.Path.{_≡_};
 ghost use mathlib.Core.List.{_++_};
 ghost use Prim.Native.Nat.{_≤_, _<_, _^_};
 ghost use lib.ListN.{length, take, drop};
-ghost use lib.Seq.{sets};
+ghost use lib.Seq.{sets, slice};
 ghost use Rattle.fields.specs.declared.Fault.the-variants.{Clear};
 ghost use Rattle.item.specs.Items.{Twins};
 ghost use Rattle.values.specs.Values.{Judged};
@@ -26,6 +26,19 @@ pub enum WriteAnswer {
     Refused(Refusal),
 }
 
+// Stores the bytes that stand from `from` to `end` once more, after them; what would stand past the room is dropped.
+fn put_copy(room: &mut [u8], from: usize, end: usize)
+    requires { ⌜ from ≤ end ⌝ }
+    ensures { λ r. ⌜ now (room .exit) ≡ sets (now (room .entry)) end (slice from end (now (room .entry))) ⌝ }
+{
+    let count = fields::lower(end - from, fields::less(room.len(), end));
+    let mut i: usize = 0;
+    while i < count {
+        room[end + i] = room[from + i];
+        i += 1;
+    }
+}
+
 // Stores the sheet of an accepted table, and answers where it ends; what would stand past the room is dropped. `lists`, here
 // and below, tells of some places of lists that they hold the same as another.
 fn put_sheet(table: &[u8], glyphs: usize, lists: &[u16], room: &mut [u8]) -> usize
@@ -37,6 +50,11 @@ fn put_sheet(table: &[u8], glyphs: usize, lists: &[u16], room: &mut [u8]) -> usi
     let first = fields::u16_at(table, 6);
     let end = side_write::put_side(table, glyphs, first, lists, room, 4);
     let second = fields::u16_at(table, 8);
+    // directions at one offset are written alike
+    if first == second {
+        put_copy(room, 4, end);
+        return end + (end - 4);
+    }
     side_write::put_side(table, glyphs, second, lists, room, end)
 }
 

@@ -1,13 +1,10 @@
-use Prim.Native.Nat.{ℕ}
-use mathlib.Core.Path.{ap, ap₂, sym, _∙_, refl}
-use mathlib.Core.List.{List, _++_}
+use Prim.Native.Nat.{ℕ, _+_, _-_}
+use mathlib.Core.Path.{_≡_, ap, _∙_}
 use native.Mathlib.Omega.{arith}
-use lib.ListN.{length}
 use lib.Seq.{sets}
-use Rattle.fields.specs.Field.{be32}
-use Rattle.fields.specs.Stores.{put-two}
+use lib.ListN.{length}
 use Rattle.side_write.specs.Side.{sideBytes}
-use Rattle.sheet_write.proofs.Laws.{sheet-parts, sheet-length, first-ready, second-ready, glyphs-few}
+use Rattle.sheet_write.proofs.Laws.{parts-length, parts-stored, put-twice, first-ready, second-ready, glyphs-few}
 use borrow.Author.Needs.{needs}
 use Rattle.sheet_write.proofs.put_sheet.Statement.{statement}
 use Rattle.sheet_write.proofs.put_sheet.Tie as tie
@@ -27,31 +24,61 @@ put-side-requires c κs = (first-ready ((c .before .before .before .before .befo
 u16-at-requires-2 : tie.Need-u16-at-requires-2
 u16-at-requires-2 c κs = search needs
 
-put-side-requires-2 : tie.Need-put-side-requires-2
-put-side-requires-2 c κs = (second-ready ((c .before .before .before .before .before .before .before .before .before .before .before .before .before .before .args) .table .now) ((c .before .before .before .before .before .before .before .before .before .before .before .before .before .before .args) .glyphs) ((c .before .before .before .before .before .before .before .before .before .before .before .before .before .before .pre) .0) ((c .before .u16-at2) .result) ((c .before .u16-at2) .ensures .1) ((c .before .u16-at2) .ensures .0), ((c .before .before .before .before .before .before .before .before .before .before .before .before .before .before .pre) .1, omega (arith, (c .before .before .before .before .put-side) .ensures .1)))
+put-copy-requires : tie.Need-put-copy-requires
+put-copy-requires c κs = search needs
+
+sub-result : tie.Need-sub-result
+sub-result c = search needs
+
+add-result : tie.Need-add-result
+add-result c = search needs
 
 same-length : tie.Need-same-length
 same-length c = search needs
 
 returns : tie.Need-returns
 returns c =
-    let a = (c .before .before .before .before .before .before .before .before .before .before .before .before .before .before .before .before .before .args) in
+    let a = (c .before .before .before .before .before .before .before .before .before .before .before .before .before .before .before .before .before .before .args) in
     let t = a .table .now in
-    let l0 = a .room .now in
-    let l1 = (c .before .before .before .before .before .before .before .before .before .before .before .before .put-u32) .last .0 in
-    let l2 = (c .before .before .before .before .before .before .before .put-side) .last .1 .1 .1 .1 .0 in
+    let n = a .glyphs in
+    let l1 = (c .before .before .before .before .before .before .before .before .before .before .before .before .before .put-u32) .last .0 in
+    let l2 = (c .before .before .before .before .before .before .before .before .put-side) .last .1 .1 .1 .1 .0 in
+    let l3 = (c .before .before .put-copy) .last .0 in
+    let first = (c .before .before .before .before .before .before .before .before .before .before .u16-at) in
+    let second = (c .before .before .before .before .before .u16-at2) in
+    let side = (c .before .before .before .before .before .before .before .before .put-side) in
+    let end = side .result in
+    let same : first .result ≡ second .result = (c .before .before .before .before .if1) .taken in
+    let size : end + (end - 4) ≡ end + length (sideBytes t n (second .result)) = omega (arith, side .ensures .0, ap (λ (x : ℕ). length (sideBytes t n x)) same) in (
+      parts-length t n (first .result) (second .result) end (end + (end - 4)) (first .ensures .0) (second .ensures .0) (side .ensures .0) size,
+      omega (arith, side .ensures .1),
+      parts-stored t n (first .result) (second .result) end (end + (end - 4)) (first .ensures .0) (second .ensures .0) (side .ensures .0) size (a .room .now) l1 l2 l3
+          ((c .before .before .before .before .before .before .before .before .before .before .before .before .before .put-u32) .ensures) (side .ensures .2)
+          (put-twice (sideBytes t n (first .result)) l1 l2 l3 4 end (side .ensures .0) (side .ensures .2) ((c .before .before .put-copy) .ensures) ∙ ap (λ (x : ℕ). sets l2 end (sideBytes t n x)) same),
+    )
+
+put-side-requires-2 : tie.Need-put-side-requires-2
+put-side-requires-2 c κs = (second-ready ((c .before .before .before .before .before .before .before .before .before .before .before .before .before .before .before .args) .table .now) ((c .before .before .before .before .before .before .before .before .before .before .before .before .before .before .before .args) .glyphs) ((c .before .before .before .before .before .before .before .before .before .before .before .before .before .before .before .pre) .0) ((c .before .before .u16-at2) .result) ((c .before .before .u16-at2) .ensures .1) ((c .before .before .u16-at2) .ensures .0), ((c .before .before .before .before .before .before .before .before .before .before .before .before .before .before .before .pre) .1, omega (arith, (c .before .before .before .before .before .put-side) .ensures .1)))
+
+same-length-2 : tie.Need-same-length-2
+same-length-2 c = search needs
+
+returns-2 : tie.Need-returns-2
+returns-2 c =
+    let a = (c .before .before .before .before .before .before .before .before .before .before .before .before .before .before .before .before .before .before .args) in
+    let t = a .table .now in
+    let n = a .glyphs in
+    let l1 = (c .before .before .before .before .before .before .before .before .before .before .before .before .before .put-u32) .last .0 in
+    let l2 = (c .before .before .before .before .before .before .before .before .put-side) .last .1 .1 .1 .1 .0 in
     let l3 = (c .before .before .put-side2) .last .1 .1 .1 .1 .0 in
-    let h = sideBytes t (a .glyphs) ((c .before .before .before .before .before .before .before .before .before .u16-at) .result) in
-    let v = sideBytes t (a .glyphs) ((c .before .before .before .before .u16-at2) .result) in
-    let x = (c .before .before .before .before .before .before .before .put-side) .ensures in
-    let y = (c .before .before .put-side2) .ensures in
-    let eh = ap (sideBytes t (a .glyphs)) ((c .before .before .before .before .before .before .before .before .before .u16-at) .ensures .0) in
-    let ev = ap (sideBytes t (a .glyphs)) ((c .before .before .before .before .u16-at2) .ensures .0) in (
-      omega (arith, sheet-length t (a .glyphs), ap length eh, ap length ev, x .0, y .0),
-      omega (arith, x .1, y .1),
-      put-two (be32 (a .glyphs)) (h ++ v) l0 l1 l3 0 4 refl ((c .before .before .before .before .before .before .before .before .before .before .before .before .put-u32) .ensures) (put-two h v l1 l2 l3 4 ((c .before .before .before .before .before .before .before .put-side) .result) (x .0) (x .2) (y .2))
-          ∙ ap₂ (λ (p q : List ℕ). sets l0 0 (be32 (a .glyphs) ++ (p ++ q))) eh ev
-          ∙ ap (sets l0 0) (sym (sheet-parts t (a .glyphs))),
+    let first = (c .before .before .before .before .before .before .before .before .before .before .u16-at) in
+    let second = (c .before .before .before .before .before .u16-at2) in
+    let side = (c .before .before .before .before .before .before .before .before .put-side) in
+    let other = (c .before .before .put-side2) in (
+      parts-length t n (first .result) (second .result) (side .result) (other .result) (first .ensures .0) (second .ensures .0) (side .ensures .0) (other .ensures .0),
+      omega (arith, side .ensures .1, other .ensures .1),
+      parts-stored t n (first .result) (second .result) (side .result) (other .result) (first .ensures .0) (second .ensures .0) (side .ensures .0) (other .ensures .0) (a .room .now) l1 l2 l3
+          ((c .before .before .before .before .before .before .before .before .before .before .before .before .before .put-u32) .ensures) (side .ensures .2) (other .ensures .2),
     )
 
 pub put-sheet-spec : {M : Type 1} → statement M
@@ -63,6 +90,11 @@ put-sheet-spec =
     u16-at-requires
     put-side-requires
     u16-at-requires-2
-    put-side-requires-2
+    put-copy-requires
+    sub-result
+    add-result
     same-length
-    returns)
+    returns
+    put-side-requires-2
+    same-length-2
+    returns-2)
