@@ -260,11 +260,16 @@ module _ (t : List ℕ) where
   pub weight-plain : (at kind s : ℕ) → (kind ≡ 5 → ⊥) → s ≡ length (contentAt t at kind) → weight 0 0 (bytesAt t (at + 8) s) ≡ weight 0 0 (contentAt t at kind)
   weight-plain at kind s n e = ap (λ (k : ℕ). weight 0 0 (bytesAt t (at + 8) k)) e ∙ ap (weight 0 0) (sym (content-plain t at kind n))
 
-  pub action-print : (at c k w : ℕ) → c ≡ u16At t at → k ≡ u16At t (at + 2) → w ≡ weight 0 0 (contentAt t at k)
-      → 17 * c + 19 * k + w ≡ actionPrint (actionAt t at)
-  unfolding actionAt
-  action-print at c k w ec ek ew =
-      ap (λ (x : ℕ). 17 * c + 19 * k + x) ew ∙ ap₂ (λ (i j : ℕ). 17 * i + 19 * j + weight 0 0 (contentAt t at j)) ec ek
+  pub weight-3 : (at kind : ℕ) → kind ≡ 3 → 0 ≡ weight 0 0 (contentAt t at kind)
+  unfolding contentAt weight
+  weight-3 at kind e = rw e (sym (ap (weight 0 0) (bytes-none t 0 (at + 8) (omega arith))))
+
+  -- class and type were read as one number
+  pub action-print : Bytes t → (at h k w : ℕ) → h ≡ u32At t at → k ≡ h % 65536 → w ≡ weight 0 0 (contentAt t at k) → h + w ≡ actionPrint (actionAt t at)
+  unfolding actionAt u32At
+  action-print bytes at h k w eh ek ew =
+      let e : k ≡ u16At t (at + 2) = omega (arith, u16At-fits t (at + 2) bytes) in
+      ap₂ _+_ eh (ew ∙ ap (λ (j : ℕ). weight 0 0 (contentAt t at j)) e)
 
   pub print-more : (n at print w j : ℕ) → 0 < n → w ≡ actionPrint (actionAt t at) → j ≡ u32At t (at + 4)
       → actionsPrint ((31 * print + w) % 4294967296) (actionsAt t (n - 1) (at + j)) ≡ actionsPrint print (actionsAt t n at)

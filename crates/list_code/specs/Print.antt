@@ -10,7 +10,7 @@ weight sum total [] = total
 weight sum total (b ∷ bs) = weight (sum + b) (total + (sum + b)) bs
 
 abbrev pub actionPrint : Action → ℕ
-actionPrint a = 17 * a .class + 19 * a .kind + weight 0 0 (a .content)
+actionPrint a = a .class * 65536 + a .kind + weight 0 0 (a .content)
 
 -- that of actions, after others or a count whose number is given
 unfoldable pub actionsPrint : ℕ → List Action → ℕ

@@ -262,12 +262,17 @@ fn content_weight(table: &[u8], at: usize, kind: usize) -> usize
     weigh(table, at + 8, content_size(table, at, kind))
 }
 
+// Class and type are read as one number, as by `same_action`.
 fn action_print(table: &[u8], at: usize) -> usize
     requires { ⌜ at < 2 ^ 60 ⌝ }
     ensures { λ r. ⌜ (r ≡ actionPrint (actionAt (now (table .entry)) at)) × (r < 2 ^ 46) ⌝ }
 {
-    let kind = fields::u16_at(table, at + 2);
-    17 * fields::u16_at(table, at) + 19 * kind + content_weight(table, at, kind)
+    let head = fields::u32_at(table, at);
+    let kind = head % 65536;
+    if kind == 3 {
+        return head;
+    }
+    head + content_weight(table, at, kind)
 }
 
 // A number for the list at a position, the same for the same lists: by its count and its actions.

@@ -1,46 +1,43 @@
+use Prim.Native.Nat.{_%_}
+use mathlib.Core.Path.{refl}
 use native.Mathlib.Omega.{arith}
-use Rattle.list_code.proofs.Laws.{action-print}
+use Rattle.list_code.proofs.Laws.{weight-3, action-print}
 use borrow.Author.Needs.{needs}
 use Rattle.list_code.proofs.action_print.Statement.{statement}
 use Rattle.list_code.proofs.action_print.Tie as tie
+use Rattle.list_code.proofs.action_print.Reads as reads
+use Rattle.list_code.proofs.action_print.Lts as lts
+use Rattle.fields.proofs.u32_at.Reads as u32-at-reads
+use Rattle.list_code.proofs.content_weight.Reads as content-weight-reads
 
-add-u16-at : tie.Need-add-u16-at
-add-u16-at c = search needs
+-- src/lib.rt:270:9
+u32-at-requires : tie.Need-u32-at-requires
+u32-at-requires c κs = search needs
 
-u16-at-requires : tie.Need-u16-at-requires
-u16-at-requires c κs = search needs
+-- src/lib.rt:273:9
+returns : tie.Need-returns
+returns c =
+    let a = c .before .before .before .args in
+    let h = c .before .u32-at in
+    let e = action-print (a .table .now) (λ i. c .before .before .shared-slice-known .given i .fits) (a .at) (h .result) (h .result % 65536) 0 (h .ensures .0) refl (weight-3 (a .table .now) (a .at) (h .result % 65536) (c .if1 .taken)) in
+    (omega (arith, e), omega (arith, h .ensures .1))
 
-u16-at-requires-2 : tie.Need-u16-at-requires-2
-u16-at-requires-2 c κs = search needs
-
-mul-result : tie.Need-mul-result
-mul-result c = search needs
-
-mul-result-2 : tie.Need-mul-result-2
-mul-result-2 c = search needs
-
-add-result : tie.Need-add-result
-add-result c = search needs
-
+-- src/lib.rt:275:12
 content-weight-requires : tie.Need-content-weight-requires
 content-weight-requires c κs = search needs
 
-add-result-2 : tie.Need-add-result-2
-add-result-2 c = search needs
+-- src/lib.rt:275:5
+add-result : tie.Need-add-result
+add-result c = search needs
 
-returns : tie.Need-returns
-returns c = (action-print ((c .before .before .before .before .args) .table .now) ((c .before .before .before .before .args) .at) ((c .before .u16-at2) .result) ((c .before .before .u16-at) .result) ((c .content-weight) .result) ((c .before .u16-at2) .ensures .0) ((c .before .before .u16-at) .ensures .0) ((c .content-weight) .ensures .0), omega (arith, (c .before .before .u16-at) .ensures .1, (c .before .u16-at2) .ensures .1, (c .content-weight) .ensures .1))
+-- src/lib.rt:266:1
+returns-2 : tie.Need-returns-2
+returns-2 c =
+    let a = c .before .before .before .before .args in
+    let h = c .before .before .u32-at in
+    let w = c .content-weight in
+    (action-print (a .table .now) (λ i. c .before .before .before .shared-slice-known .given i .fits) (a .at) (h .result) (h .result % 65536) (w .result) (h .ensures .0) refl (w .ensures .0), omega (arith, h .ensures .1, w .ensures .1))
 
 pub action-print-spec : {M : Type 1} → statement M
 action-print-spec =
-    tie.close
-    (tie.spec
-    add-u16-at
-    u16-at-requires
-    u16-at-requires-2
-    mul-result
-    mul-result-2
-    add-result
-    content-weight-requires
-    add-result-2
-    returns)
+    tie.close (tie.spec u32-at-requires returns content-weight-requires add-result returns-2)
