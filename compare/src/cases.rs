@@ -1,17 +1,18 @@
 //! The inputs that are timed: tables, lines and sheets of ordinary and of hostile make.
 
 use crate::drafts;
+use crate::questions::Questions;
 use reference::examples::Fields;
 use reference::generate::LineCase;
 use reference::{sheet_of, Action, Cell, Direction, Parts, Sizes, WidthRecord};
 
 /// A cluster of one pair for class 0, in 28 bytes.
-fn cluster(fields: Fields, grow: u32) -> Fields {
+pub fn cluster(fields: Fields, grow: u32) -> Fields {
     fields.l(1).l(0).ls(&[grow, 0x100, grow, 0x100]).ws(&[1, 1])
 }
 
 /// The header of a table with a horizontal direction at 10 and clusters at `clusters`; the width lookup follows.
-fn head(clusters: u16) -> Fields {
+pub fn head(clusters: u16) -> Fields {
     Fields::new().l(0x0001_0000).ws(&[0, 10, 0]).ws(&[0, clusters, 0])
 }
 
@@ -28,7 +29,7 @@ pub fn ranges(units: u16, step: u16, distinct: u16) -> Vec<u8> {
 /// An ordinary table with clusters that has, with its sheet, about so many bytes, as far as a table can: three units of format 2
 /// to a cluster. Its glyph count stands beside it.
 pub fn ordinary_clusters(bytes: usize) -> (Vec<u8>, u32) {
-    let units = (bytes / 31).clamp(3, 2_100) as u16;
+    let units = (bytes / 31).clamp(3, 2_000) as u16;
     (ranges(units, 10, units / 3), 10 * u32::from(units))
 }
 
@@ -49,33 +50,42 @@ pub fn shared_array(width: u16, places: u16) -> Vec<u8> {
 }
 
 /// Format 8 for glyphs 0, 1, .., whose values are these offsets from the clusters.
-fn trimmed(values: &[u16]) -> Fields {
+pub fn trimmed(values: &[u16]) -> Fields {
     let count = values.len() as u16;
     head(22 + 2 * count).ws(&[8, 0, count]).ws(values)
 }
 
-/// Nine rows of 128 pairs, in which the flags of each pair are the count of a cluster that begins there: 1,152 clusters, one
-/// to a glyph, and a sheet of more than 1 MB where the rows differ.
-pub fn nested_rows() -> Vec<u8> {
-    rows_of(|row| row)
-}
-
-/// The same with rows that are all alike.
-pub fn equal_rows() -> Vec<u8> {
-    rows_of(|_| 0)
-}
-
-fn rows_of(grow: fn(u32) -> u32) -> Vec<u8> {
-    let values: Vec<u16> = (0..9u16).flat_map(|row| (0..128).map(move |pair| 3_076 * row + 24 * pair)).collect();
+/// Rows of pairs in which the flags of each pair are the count of a cluster that begins there, one to a glyph; each row grows as
+/// `grow` says.
+fn rows_of(rows: u16, pairs: u16, grow: fn(u16) -> u32) -> Vec<u8> {
+    let size = 24 * pairs + 4;
+    let values: Vec<u16> = (0..rows).flat_map(|row| (0..pairs).map(move |pair| size * row + 24 * pair)).collect();
     let mut fields = trimmed(&values);
-    for row in 0..9 {
-        fields = fields.l(128);
-        for pair in 0..128 {
-            let count = (1..128 - pair).rev().find(|count| count % 16 <= 3).unwrap_or(0);
+    for row in 0..rows {
+        fields = fields.l(pairs.into());
+        for pair in 0..u32::from(pairs) {
+            let count = (1..u32::from(pairs) - pair).rev().find(|count| count % 16 <= 3).unwrap_or(0);
             fields = fields.ls(&[pair, grow(row), 0x100, pair, 0x100, count]);
         }
     }
     fields.done()
+}
+
+/// Nine rows of 128 pairs that differ: 1,152 clusters and a sheet of more than 1 MB.
+pub fn nested_rows() -> Vec<u8> {
+    rows_of(9, 128, u32::from)
+}
+
+/// Rows that are all alike.
+pub fn equal_rows(rows: u16, pairs: u16) -> Vec<u8> {
+    rows_of(rows, pairs, |_| 0)
+}
+
+/// A row of clusters inside each other, or up to nine that differ, with about so many bytes of table and sheet.
+pub fn ordinary_rows(bytes: usize) -> (Vec<u8>, u32) {
+    let rows = (bytes / 188_000).clamp(1, 9) as u16;
+    let pairs = ((bytes / usize::from(rows)) as f64 / 11.5).sqrt().clamp(4.0, 128.0) as u16;
+    (rows_of(rows, pairs, u32::from), u32::from(rows) * u32::from(pairs))
 }
 
 /// Clusters of one pair that begin at each eighth byte, one to a glyph: these words stand between their counts.
@@ -90,15 +100,15 @@ pub fn overlapping_pairs(count: u32) -> Vec<u8> {
     overlapping(&words)
 }
 
-/// Such clusters, all different, for which the library's writer looks in one place: their prints are one, modulo 1,021. A
+/// Such clusters, all different, for which the library's writer looks in one slot: their prints are one, modulo 8,191. A
 /// cluster's words are its class, its before shrink and its after shrink, which weigh 17, 3 and 15.
 pub fn one_print(count: u32) -> Vec<u8> {
     let mut words = vec![0, 0];
     for number in 2..count + 4 {
         let [class, before] = [words[words.len() - 2] % 128, words[words.len() - 1]];
-        let rest = (17 * class + 3 * before) % 1_021;
-        // 953 is the inverse of 15.
-        words.push((1_021 - rest) * 953 % 1_021 + 1_021 * (number * 331 % 1_009));
+        let rest = (17 * class + 3 * before) % 8_191;
+        // 7,645 is the inverse of 15.
+        words.push((8_191 - rest) * 7_645 % 8_191 + 8_191 * (number * 331 % 127));
     }
     overlapping(&words)
 }
@@ -154,6 +164,17 @@ pub fn phased_lists(count: u16, length: u16, period: u16) -> Vec<u8> {
     let kind = if length < 24 { 3 } else { 4 };
     let class = |number: u16| u16::from(number / (length / 8) % period == period - 1);
     let word = |fields: Fields, number: u16| fields.l(length.into()).ws(&[class(number), kind]);
+    (0..count + length * length / 8).fold(with_lists(&values), word).l(length.into()).done()
+}
+
+/// Lists of `length` actions that begin at each eighth byte, of `classes` classes as if drawn, or, in all but one of `rare` places, of
+/// class 0: nearly all lists differ.
+pub fn drawn_lists(count: u16, length: u16, classes: u64, rare: u64) -> Vec<u8> {
+    let mut asked = Questions::new(1, 1);
+    let values: Vec<u16> = (0..count).map(|number| 6 + 2 * count + 8 * number).collect();
+    let mut class = || if asked.below(rare) == 0 { asked.below(classes) as u16 } else { 0 };
+    let kind = if length < 24 { 3 } else { 4 };
+    let word = |fields: Fields, _| fields.l(length.into()).ws(&[class(), kind]);
     (0..count + length * length / 8).fold(with_lists(&values), word).l(length.into()).done()
 }
 

@@ -1,9 +1,9 @@
 //! `bench [WORDS]`: the proved library against the second program, on the same input in the same run. Prints tables of
 //! times and ratios (the library's time over the second program's, medians of several rounds), and the library's time for
 //! each byte of table and sheet; for hostile tables and sheets also how many times that of an ordinary one of about as
-//! many bytes it is. With words, only cases whose name has them are run.
+//! many bytes it is, of several the one that costs least. With words, only cases whose name has them are run.
 
-use compare::{cases, clock, drafts, library, lines};
+use compare::{cases, clock, drafts, library, lines, peers};
 use just_raw::{Lent, Sheet, Table, Verdict};
 use reference::examples::{complex, simple};
 use reference::{Direction, Parts};
@@ -16,8 +16,8 @@ struct Case {
     bytes: usize,
     library: Box<dyn FnMut()>,
     second: Box<dyn FnMut()>,
-    /// The same call on an ordinary input.
-    beside: Option<Box<Case>>,
+    /// The same call on ordinary inputs.
+    beside: Vec<Case>,
 }
 
 impl Case {
@@ -29,11 +29,11 @@ impl Case {
     ) -> Case {
         let library = Box::new(move || drop(black_box(library())));
         let second = Box::new(move || drop(black_box(second())));
-        Case { name, bytes, library, second, beside: None }
+        Case { name, bytes, library, second, beside: Vec::new() }
     }
 
-    fn beside(self, ordinary: Case) -> Case {
-        Case { beside: Some(Box::new(ordinary)), ..self }
+    fn beside(self, ordinary: Vec<Case>) -> Case {
+        Case { beside: ordinary, ..self }
     }
 
     /// The library's time for a byte, in nanoseconds, as the median of nine rounds.
@@ -74,7 +74,8 @@ fn print_case(mut case: Case) {
     };
     let [ours, theirs] = times.each_mut().map(median);
     let (ratio, each) = (ours / theirs, ours / case.bytes as f64);
-    let times = case.beside.map_or(String::new(), |mut ordinary| format!("{:.1}", each / ordinary.each()));
+    let least = case.beside.iter_mut().map(Case::each).reduce(f64::min);
+    let times = least.map_or(String::new(), |least| format!("{:.1}", each / least));
     println!("| {} | {:.2} | {:.2} | {ratio:.2} | {each:.2} | {times} |", case.name, ours / 1000.0, theirs / 1000.0);
 }
 
@@ -182,45 +183,51 @@ fn ordinary() -> Vec<Case> {
     ]
 }
 
-/// Makes an ordinary table of about so many bytes, with its sheet.
-type Ordinary = fn(usize) -> (Vec<u8>, u32);
-
-/// Judging and writing a hostile table, each beside the same call on an ordinary one.
-fn hostile_table(ordinary: Ordinary, name: &str, table: &[u8], n: u32) -> [Case; 2] {
-    let (peer, count) = ordinary(bytes(table, n));
-    [check, write].map(|call| call(name, table, n).beside(call("ordinary", &peer, count)))
+/// Judging and writing a hostile table, each beside the same call on ordinary ones.
+fn hostile_table(name: &str, table: &[u8], n: u32) -> [Case; 2] {
+    let bytes = bytes(table, n);
+    let ordinary = |call: fn(&str, &[u8], u32) -> Case, peers: Vec<peers::Peer>| {
+        peers.iter().map(|(peer, count)| call("ordinary", peer, *count)).collect()
+    };
+    [
+        check(name, table, n).beside(ordinary(check, peers::judged(bytes))),
+        write(name, table, n).beside(ordinary(write, peers::written(bytes))),
+    ]
 }
 
 fn hostile_sheet(name: &str, bytes: &[u8]) -> Case {
     let glyphs = (bytes.len() / 34) as u32;
-    sheet(name, bytes).beside(sheet("ordinary", &cases::sheet(glyphs, glyphs)))
+    let beside = [glyphs, glyphs / 4].map(|distinct| sheet("ordinary", &cases::sheet(glyphs, distinct)));
+    sheet(name, bytes).beside(beside.into())
 }
 
 /// Tables whose clusters overlap or whose units share arrays, and one with a large machine.
 fn hostile_clusters() -> Vec<Case> {
     let (pairs, rows, shared) = (cases::overlapping_pairs(3_200), cases::nested_rows(), cases::shared_lookup(148));
     let both = cases::both_ways(shared.clone());
-    let tables: [(&str, Vec<u8>, u32); 11] = [
+    let tables: [(&str, Vec<u8>, u32); 13] = [
         ("a machine of 120 rows and 255 classes", cases::wide_machine(), 1),
         ("one cluster, N 65,535", cases::shared_array(255, 1), 65_535),
         ("one cluster at two places in turn, N 65,535", cases::shared_array(255, 2), 65_535),
         ("arrays that begin one value after each other", cases::shifted_arrays(148, 1), 65_416),
         ("arrays that begin nine values after each other", cases::shifted_arrays(148, 9), 65_416),
+        ("16 arrays of 4,000 values", cases::shifted_arrays(4_000, 1), 64_000),
         ("one lookup for clusters and lists, N 65,535", shared, 65_535),
         ("one lookup for clusters and lists, both directions, N 65,535", both, 65_535),
         ("clusters inside each other", rows, 1_152),
-        ("clusters inside each other, nine times the same", cases::equal_rows(), 1_152),
+        ("clusters inside each other, nine times the same", cases::equal_rows(9, 128), 1_152),
+        ("clusters inside each other, 17 times the same", cases::equal_rows(17, 64), 1_088),
         ("3,200 clusters at each eighth byte, all different", pairs, 3_200),
-        ("3,200 clusters at each eighth byte, all with one print", cases::one_print(3_200), 3_200),
+        ("3,200 clusters at each eighth byte, all with one slot", cases::one_print(3_200), 3_200),
     ];
-    tables.iter().flat_map(|(name, table, n)| hostile_table(cases::ordinary_clusters, name, table, *n)).collect()
+    tables.iter().flat_map(|(name, table, n)| hostile_table(name, table, *n)).collect()
 }
 
 /// Tables whose action lists overlap.
 fn hostile_lists() -> Vec<Case> {
     let (equal, ligatures) = (cases::equal_lists(2_800), cases::ligature_lists(1_330));
     let [equal_both, ligatures_both] = [&equal, &ligatures].map(|table| cases::both_ways(table.clone()));
-    let tables: [(&str, Vec<u8>, u32); 12] = [
+    let tables: [(&str, Vec<u8>, u32); 16] = [
         ("148 lists of 64 actions for 65,416 glyphs in turn", cases::shared_lists(148), 65_416),
         ("2,800 equal lists at each eighth byte", equal, 2_800),
         ("2,800 equal lists at each eighth byte, both directions", equal_both, 2_800),
@@ -231,10 +238,26 @@ fn hostile_lists() -> Vec<Case> {
         ("3,000 lists of 16 actions at each eighth byte in 8 phases", cases::phased_lists(3_000, 16, 8), 3_000),
         ("3,000 lists of 8 actions at each eighth byte in 4 phases", cases::phased_lists(3_000, 8, 4), 3_000),
         ("2,800 lists at each eighth byte with long common beginnings", cases::alike_lists(2_800), 2_800),
+        (
+            "3,200 lists of 8 actions, all alike, both directions",
+            cases::both_ways(cases::drawn_lists(3_200, 8, 1, 1)),
+            3_200,
+        ),
+        (
+            "3,200 lists of 8 actions, drawn, both directions",
+            cases::both_ways(cases::drawn_lists(3_200, 8, 3, 1)),
+            3_200,
+        ),
+        ("3,200 lists of 16 actions, drawn", cases::drawn_lists(3_200, 16, 2, 1), 3_200),
+        (
+            "2,700 lists of 64 actions, drawn, with long common beginnings",
+            cases::drawn_lists(2_700, 64, 128, 60),
+            2_700,
+        ),
         ("1,330 equal lists of ligatures", ligatures, 1_330),
         ("1,330 equal lists of ligatures, both directions", ligatures_both, 1_330),
     ];
-    tables.iter().flat_map(|(name, table, n)| hostile_table(cases::ordinary_lists, name, table, *n)).collect()
+    tables.iter().flat_map(|(name, table, n)| hostile_table(name, table, *n)).collect()
 }
 
 fn hostile_rest() -> Vec<Case> {

@@ -222,7 +222,7 @@ fn put_large(
     let mut nums = [0u16; 65536];
     let mut firsts = [0u16; 65536];
     let mut others = [0u16; 65536];
-    let mut slots = [0u16; 16381];
+    let mut slots = [0u16; 8191];
     let mut seen = [0u16; 32768];
     let mut alike = [0u8; 32768];
     put_with(

@@ -126,7 +126,7 @@ fn write_long(table: &[u8], glyphs: usize, lists: &[u16], room: &mut [u8]) -> Wr
     requires { ⌜ (tableFault (now table) glyphs ≡ Clear) × Twins Kind.Lists (now table) (now lists) ⌝ }
     ensures { λ r. ⌜ record { said = saysWritten r; room = now (room .exit) } ≡ stored (sheetOf (now (table .entry)) glyphs) (now (room .entry)) ⌝ }
 {
-    let mut draft = [0u8; 131072];
+    let mut draft = [0u8; 163840];
     write_by(table, glyphs, lists, &mut draft, room)
 }
 
