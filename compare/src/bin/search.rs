@@ -61,6 +61,10 @@ fn ordinary(known: &mut HashMap<u32, [f64; 2]>, bytes: usize) -> [f64; 2] {
     *known.entry(size).or_insert_with(time)
 }
 
+fn times(each: [f64; 2], beside: [f64; 2]) -> [f64; 2] {
+    [each[0] / beside[0], each[1] / beside[1]]
+}
+
 fn main() {
     let mut numbers = std::env::args().skip(1).map(|word| word.parse::<u64>().expect("a number"));
     let (seed, seconds) = (numbers.next().unwrap_or(1), numbers.next().unwrap_or(60));
@@ -69,12 +73,11 @@ fn main() {
         let drawn = hostile::draw(&mut Questions::new(seed, index));
         index += 1;
         let Some(timed) = Timed::new(drawn.table, drawn.glyphs) else { continue };
-        let beside = ordinary(&mut known, timed.bytes);
-        let times = |each: [f64; 2]| [each[0] / beside[0], each[1] / beside[1]];
         let floor = |list: &Vec<(f64, String)>| list.get(KEPT - 1).map_or(0.0, |last| last.0);
-        let mut found = times(timed.each(4));
+        let mut found = times(timed.each(4), ordinary(&mut known, timed.bytes));
+        // What would be printed is timed again, and ordinary ones with it: the machine's speed changes.
         if (0..2).any(|call| found[call] > floor(&worst[call])) {
-            found = times(timed.each(40));
+            found = times(timed.each(40), ordinary(&mut HashMap::new(), timed.bytes));
         }
         for (list, found) in worst.iter_mut().zip(found) {
             list.push((found, format!("{} ({} bytes)", drawn.name, timed.bytes)));
