@@ -298,10 +298,12 @@ pub fn line(table: Vec<u8>, n: u32, count: usize) -> LineCase {
     }
 }
 
-/// A meaning in which each glyph has a cluster of one record, these in turn; no table could hold many.
+/// A meaning in which each glyph has a cluster of one record, these in turn, and perhaps a ligature of one component, another one
+/// for each; no table could hold many.
 struct Spread {
     glyphs: u32,
     records: Vec<WidthRecord>,
+    ligatures: bool,
 }
 
 impl Parts for Spread {
@@ -323,18 +325,25 @@ impl Parts for Spread {
 
     fn width_record(&self, direction: Direction, glyph: u32, class: u32) -> Option<WidthRecord> {
         let asked = direction == Direction::Horizontal && class == 0;
-        asked.then(|| self.records[glyph as usize % self.records.len()])
+        asked.then(|| self.records.get(glyph as usize % self.records.len().max(1)).copied())?
     }
 
-    fn action(&self, _: Direction, _: u32, _: u32) -> Option<Action> {
-        None
+    fn action(&self, direction: Direction, glyph: u32, number: u32) -> Option<Action> {
+        let asked = self.ligatures && direction == Direction::Horizontal && number == 0;
+        let component = (glyph * 7_919 % self.glyphs) as u16;
+        asked.then(|| Action { class: 0, kind: 0, data: Fields::new().ls(&[0, 0]).ws(&[0, 1, component]).done() })
     }
 }
 
 /// The sheet of a meaning with so many glyphs and distinct clusters.
 pub fn sheet(glyphs: u32, distinct: u32) -> Vec<u8> {
     let records = (0..distinct).map(|number| drafts::grows(0x1000, number, 0)).collect();
-    sheet_of(&Spread { glyphs, records })
+    sheet_of(&Spread { glyphs, records, ligatures: false })
+}
+
+/// The sheet of a meaning with a ligature for each glyph: its lists differ in their last two bytes only.
+pub fn ligature_sheet(glyphs: u32) -> Vec<u8> {
+    sheet_of(&Spread { glyphs, records: Vec::new(), ligatures: true })
 }
 
 /// The sheet of a meaning whose clusters, one to a glyph and all different, find one slot when the library's reader tells
@@ -351,5 +360,5 @@ pub fn one_slot(count: u32) -> Vec<u8> {
         Some(WidthRecord { after_shrink: shrink, ..drafts::grows(0, after, 0) })
     };
     let records: Vec<WidthRecord> = (0..).filter_map(record).take(count as usize).collect();
-    sheet_of(&Spread { glyphs: count, records })
+    sheet_of(&Spread { glyphs: count, records, ligatures: false })
 }

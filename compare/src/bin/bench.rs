@@ -264,6 +264,7 @@ fn hostile_rest() -> Vec<Case> {
     vec![
         write("the empty table, N 65,535", &drafts::empty(), 65_535),
         hostile_sheet("20,000 clusters that find one slot", &cases::one_slot(20_000)),
+        hostile_sheet("20,000 lists that differ in one component", &cases::ligature_sheet(20_000)),
         hostile_sheet("lists with long common beginnings", &sheet_by_reference(&cases::alike_lists(2_800), 2_800)),
         line("64 actions a glyph, all fire", cases::many_actions(), 4, 1_024),
         line("256 entries a glyph", cases::long_walk(), 1, 1_024),

@@ -130,7 +130,8 @@ fn write_long(table: &[u8], glyphs: usize, lists: &[u16], room: &mut [u8]) -> Wr
     write_by(table, glyphs, lists, &mut draft, room)
 }
 
-// With the draft that is long enough for the room, or for a sheet eight times as long as its table, as few are.
+// With the shorter draft where the room is short, since a sheet that is longer than the room is refused, and where the table is:
+// few sheets have eight times as many bytes as their table.
 fn write_large(table: &[u8], glyphs: usize, lists: &[u16], room: &mut [u8]) -> WriteAnswer
     requires { ⌜ (tableFault (now table) glyphs ≡ Clear) × Twins Kind.Lists (now table) (now lists) ⌝ }
     ensures { λ r. ⌜ record { said = saysWritten r; room = now (room .exit) } ≡ stored (sheetOf (now (table .entry)) glyphs) (now (room .entry)) ⌝ }

@@ -253,8 +253,8 @@ fn note_each(place: usize, count: usize, ahead: &mut [u8])
     }
 }
 
-// Notes it at the first value, and at each to which those that were told lead: one passed over is left as it was. So whoever
-// asks at one of them next is led to the end, and what took many turns once takes one.
+// Notes it at the first value, at the one to which what was told there leads, and so on to the end. Whoever asks at one of these
+// next is led to the end at once; the values between them are left as they were.
 pub fn note_values(place: usize, count: usize, ahead: &mut [u8])
     requires { ⌜ place + 2 * count < 2 ^ 50 ⌝ }
     ensures { λ r. ⌜ Noted place count (now (ahead .entry)) (now (ahead .exit)) ⌝ }
