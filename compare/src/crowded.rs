@@ -1,12 +1,27 @@
-//! Tables whose action lists overlap, so that thousands of lists share the bytes of a few: drawn tables hardly ever have
+//! Tables whose parts overlap, so that thousands of lists or clusters share the bytes of a few: drawn tables hardly ever have
 //! more than two or three that do.
 
-use crate::cases;
 use crate::questions::Questions;
+use crate::{cases, hostile};
 
-/// Lists that begin at each eighth byte, of up to 64 actions of a few kinds, led to in any order; one table in three is
-/// damaged, and one in two has the vertical direction that the horizontal one is.
+/// A small one whose lists overlap, or one of the hostile ones; one table in three is damaged.
 pub fn draw(asked: &mut Questions) -> (Vec<u8>, u32) {
+    let (mut table, glyphs) = if asked.below(2) == 0 {
+        let drawn = hostile::draw(asked);
+        (drawn.table, drawn.glyphs)
+    } else {
+        lists(asked)
+    };
+    if asked.below(3) == 0 {
+        let at = asked.below(table.len() as u64) as usize;
+        table[at] = asked.number() as u8;
+    }
+    (table, glyphs)
+}
+
+/// Lists that begin at each eighth byte, of up to 64 actions of a few kinds, led to in any order; one table in two has the
+/// vertical direction that the horizontal one is.
+fn lists(asked: &mut Questions) -> (Vec<u8>, u32) {
     let most = if asked.below(8) == 0 { 2_500 } else { 300 };
     let glyphs = 20 + asked.below(most) as u16;
     // A length is also the count of the list that begins there.
@@ -18,13 +33,6 @@ pub fn draw(asked: &mut Questions) -> (Vec<u8>, u32) {
     let values: Vec<u16> = (0..glyphs).map(|_| place(asked.below(glyphs.into()))).collect();
     let fields = cases::with_lists(&values);
     let fields = words.iter().fold(fields, |fields, &class| fields.l(length.into()).ws(&[class, kind]));
-    let mut table = fields.l(length.into()).done();
-    if asked.below(3) == 0 {
-        let at = asked.below(table.len() as u64) as usize;
-        table[at] = asked.number() as u8;
-    }
-    if asked.below(2) == 0 {
-        table = cases::both_ways(table);
-    }
-    (table, glyphs.into())
+    let table = fields.l(length.into()).done();
+    (if asked.below(2) == 0 { cases::both_ways(table) } else { table }, glyphs.into())
 }

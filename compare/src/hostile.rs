@@ -1,5 +1,5 @@
 //! Tables drawn to cost the library more than their bytes: lists and clusters that overlap, rows of clusters inside each
-//! other, and arrays that units share. `search` times them.
+//! other, and arrays that units share. `search` times them, and `compare` holds the two programs against each other on them.
 
 use crate::cases;
 use crate::questions::Questions;
