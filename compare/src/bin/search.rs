@@ -65,6 +65,17 @@ fn times(each: [f64; 2], beside: [f64; 2]) -> [f64; 2] {
     [each[0] / beside[0], each[1] / beside[1]]
 }
 
+/// The table and ordinary ones in turn, five rounds, by the least times of each.
+fn in_turn(timed: &Timed) -> [f64; 2] {
+    let lower = |a: [f64; 2], b: [f64; 2]| [a[0].min(b[0]), a[1].min(b[1])];
+    let round = |(own, beside), _| {
+        let again = ordinary(&mut HashMap::new(), timed.bytes);
+        (lower(own, timed.each(20)), lower(beside, again))
+    };
+    let (own, beside) = (0..5).fold(([f64::MAX; 2], [f64::MAX; 2]), round);
+    times(own, beside)
+}
+
 fn main() {
     let mut numbers = std::env::args().skip(1).map(|word| word.parse::<u64>().expect("a number"));
     let (seed, seconds) = (numbers.next().unwrap_or(1), numbers.next().unwrap_or(60));
@@ -75,9 +86,9 @@ fn main() {
         let Some(timed) = Timed::new(drawn.table, drawn.glyphs) else { continue };
         let floor = |list: &Vec<(f64, String)>| list.get(KEPT - 1).map_or(0.0, |last| last.0);
         let mut found = times(timed.each(4), ordinary(&mut known, timed.bytes));
-        // What would be printed is timed again, and ordinary ones with it: the machine's speed changes.
+        // What would be printed is timed again, in turn with ordinary ones: the machine's speed changes.
         if (0..2).any(|call| found[call] > floor(&worst[call])) {
-            found = times(timed.each(40), ordinary(&mut HashMap::new(), timed.bytes));
+            found = in_turn(&timed);
         }
         for (list, found) in worst.iter_mut().zip(found) {
             list.push((found, format!("{} ({} bytes)", drawn.name, timed.bytes)));
