@@ -2,7 +2,7 @@
 // 8), in one pass over the lookup: by stretches of glyphs that have the same.
 ghost use mathlib.Core.Path.{_≡_};
 ghost use mathlib.Core.Bool.{true};
-ghost use Prim.Native.Nat.{ℕ, _+_, _*_, _≤_, _<_, _^_};
+ghost use Prim.Native.Nat.{_+_, _*_, _≤_, _<_, _^_};
 ghost use lib.ListN.{length};
 ghost use Rattle.fields.specs.declared.Fault.the-variants.{Clear};
 ghost use Rattle.fields.specs.Field.{u16At};

@@ -4,7 +4,7 @@ use Rattle.places.proofs.Laws.{alike-none}
 use Rattle.lookup.specs.Pass.{Serves}
 use lib.ListN.{length}
 use native.Mathlib.Omega.{arith}
-use mathlib.Core.Path.{_≡_, refl, _∙_}
+use mathlib.Core.Path.{_≡_, refl}
 use Prim.Native.Nat.{_-_, _<_}
 use borrow.Author.Needs.{needs}
 use Rattle.places.proofs.number_glyphs.Statement.{statement}

@@ -4,7 +4,7 @@ use mathlib.Core.Bool.{Bool, true, true≢false}
 use Rattle.twins.proofs.Laws.{known, same-eight, same-list}
 use Rattle.actions.specs.Actions.{actionsAt}
 use mathlib.Core.Path.{_≡_}
-use Prim.Native.Nat.{_+_, _-_, _≤_, _<_, _^_}
+use Prim.Native.Nat.{_+_, _-_, _<_, _^_}
 use borrow.Author.Needs.{needs}
 use native.Mathlib.Omega.{arith}
 use Rattle.twins.proofs.same_lists.Statement.{statement}
