@@ -12,6 +12,7 @@ use Rattle.meaning.specs.Meaning.{Machine, Action}
 use Rattle.share.specs.Line.{Glyph}
 use Rattle.verdict.specs.Verdict.{adds, stretches, kindFires, firesOf}
 use Rattle.lines.specs.Line.{Line, gapOf, shrinks, gapSize, kindOf, stageOf, partOf, firings}
+use Rattle.lines.specs.Edges.{leftEdge, rightEdge}
 
 -- two glyphs of 10 units each, with a target
 abbrev line : ℤ → Line
@@ -68,3 +69,17 @@ verdict place number = record { place = place; action = number; substitutes = fa
 pub numbers : firings 9 7 65536 (negℤ (pos 5)) 0 (action 8 3 ∷ action 7 1 ∷ action 7 3 ∷ action 7 4 ∷ []) ≡ verdict 9 2 ∷ verdict 9 3 ∷ []
 unfolding firings firesOf kindFires adds stretches
 numbers = refl
+
+-- three glyphs: the third one's edges count the advances and movements of the first two once each, its own before movement in both, its advance and after movement in the
+-- right edge alone
+abbrev widths : List ℤ
+widths = pos 100 ∷ pos 20 ∷ pos 3 ∷ []
+
+abbrev befores : List ℤ
+befores = pos 1000 ∷ pos 2000 ∷ pos 4000 ∷ []
+
+abbrev afters : List ℤ
+afters = pos 10000 ∷ pos 20000 ∷ pos 40000 ∷ []
+
+pub edges : (leftEdge widths befores afters 2 ≡ pos 37120) × (rightEdge widths befores afters 2 ≡ pos 77123)
+edges = (refl, refl)

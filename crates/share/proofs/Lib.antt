@@ -11,3 +11,4 @@ pub mod Fill
 pub mod Lines
 pub mod Sums
 pub mod Samples
+pub mod Rising

@@ -1,0 +1,57 @@
+-- A line that is answered under a narrower and a wider target, one of which shrinks it and one of which stretches it: `never-back` does not speak of nothing.
+use Prim.Native.Nat.{ℕ}
+use mathlib.Core.Path.{_≡_, refl}
+use mathlib.Core.Bool.{true}
+use mathlib.Core.List.{List, [], _∷_}
+use lib.IntN.{ℤ, pos, negℤ}
+use Rattle.fields.specs.Field.{u16At, u32At}
+use Rattle.fields.specs.Faults.{_then_, rule, inside}
+use Rattle.fields.specs.Walk.{walk}
+use Rattle.lists.specs.Upto.{from}
+use Rattle.parts.specs.declared.Direction.the-variants.{Horizontal}
+use Rattle.units.specs.Fixed.{fixedSize}
+use Rattle.units.specs.Flags.{widthFlags}
+use Rattle.meaning.specs.Meaning.{emptySide}
+use Rattle.lookup.specs.Find.{valueFrom, valueOf}
+use Rattle.lookup.specs.Lookup.{formatFault, lookupFault}
+use Rattle.cluster.specs.Faults.{classAt, classFault, growFault, shrinkFault, flagsFault, pairFault, clusterFault}
+use Rattle.cluster.specs.Pairs.{pairAt, pairsAt, clusterAt}
+use Rattle.values.specs.Values.{placeFault, glyphFault, valuesFault, clusterOf}
+use Rattle.table.specs.Table.{present, headerFault, offsetsFault, machinePart, actionPart, directionFault, tableFault}
+use Rattle.table.specs.Means.{machineOf, listsOf, sideAt, directionOf, meaningOf}
+use Rattle.share.specs.Share.{stages, goesBack, shares, stageMoves, stageLeft, movesBy, leftBy}
+use Rattle.share.specs.Line.{lineFits, lineMoves, lineLeft}
+use Rattle.lines.specs.Line.{Line, gapOf, walkOf, partsOf, beforeOf, afterOf, remainderOf, firings, verdictsFrom, verdictsOf}
+use Rattle.lines.specs.Edges.{aimed}
+use Rattle.line.specs.Justified.{Lent, lineFault, justified}
+use Rattle.line.specs.Settle.{lineBy, lentBy}
+use Rattle.line_laws.specs.Edges.{Shown, left, right}
+
+-- horizontal, at 10: no machine, no actions, clusters from 20 on, and a width lookup of format 0 whose one value is 0; the cluster at 20 has one pair, for class 0, whose
+-- limits are 10 and 20 units at 1 pt for growing, 10 and 30 for shrinking. Vertical is absent.
+unfoldable pub onePair : List ℕ
+onePair =
+    0 ∷ 1 ∷ 0 ∷ 0 ∷ 0 ∷ 0 ∷ 0 ∷ 10 ∷ 0 ∷ 0 ∷ 0 ∷ 0 ∷ 0 ∷ 20 ∷ 0 ∷ 0 ∷ 0 ∷ 0 ∷ 0 ∷ 0
+    ∷ 0 ∷ 0 ∷ 0 ∷ 1 ∷ 0 ∷ 0 ∷ 0 ∷ 0 ∷ 0 ∷ 0 ∷ 0 ∷ 10 ∷ 0 ∷ 0 ∷ 0 ∷ 10 ∷ 0 ∷ 0 ∷ 0 ∷ 20
+    ∷ 0 ∷ 0 ∷ 0 ∷ 30 ∷ 0 ∷ 0 ∷ 0 ∷ 0 ∷ []
+
+-- one glyph of 100 units at 1 pt
+abbrev pub oneGlyph : Line
+oneGlyph = lineBy Horizontal true true 65536 (0 ∷ []) (pos 100 ∷ []) (pos 100)
+
+abbrev pub room : Lent
+room = lentBy (7 ∷ []) (pos 7 ∷ []) (pos 7 ∷ []) []
+
+-- under this target the call answers, and the glyph's edges are these
+pub record Stands (target from to : ℤ) : Type 0 where
+  pub shown : Shown onePair 1 (aimed oneGlyph target) room
+  pub left-at : left onePair 1 (aimed oneGlyph target) room 0 ≡ from
+  pub right-at : right onePair 1 (aimed oneGlyph target) room 0 ≡ to
+
+-- 40 units narrower, each side shrinks by its limit; 30 units wider, each grows by its limit
+pub columns : Stands (pos 60) (negℤ (pos 10)) (pos 60) × Stands (pos 130) (pos 10) (pos 130)
+unfolding onePair justified lineFault tableFault headerFault directionFault present offsetsFault machinePart actionPart u16At u32At inside rule _then_ walk valuesFault lookupFault formatFault placeFault glyphFault valueOf valueFrom clusterFault pairFault classAt classFault growFault shrinkFault flagsFault fixedSize widthFlags pairAt pairsAt clusterAt clusterOf machineOf listsOf sideAt directionOf meaningOf emptySide from stages goesBack shares stageMoves stageLeft movesBy leftBy lineFits lineMoves lineLeft gapOf walkOf partsOf beforeOf afterOf remainderOf verdictsFrom verdictsOf firings
+columns = (
+  record { shown = record { remainder = pos 0; entries = 0; verdicts = 0; answer = refl }; left-at = refl; right-at = refl },
+  record { shown = record { remainder = pos 0; entries = 0; verdicts = 0; answer = refl }; left-at = refl; right-at = refl },
+)
