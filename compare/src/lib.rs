@@ -8,6 +8,7 @@ pub mod cases;
 pub mod clock;
 pub mod crowded;
 pub mod drafts;
+pub mod edges;
 pub mod guarded;
 pub mod hostile;
 pub mod library;

@@ -3,7 +3,7 @@
 
 use compare::questions::Questions;
 use compare::tally::Tally;
-use compare::{crowded, lines, marks, samples, sheets, tables, Outcome};
+use compare::{crowded, edges, lines, marks, samples, sheets, tables, Outcome};
 use just_raw::Table;
 use std::process::ExitCode;
 use std::time::{Duration, Instant};
@@ -41,10 +41,11 @@ fn asked() -> Result<Asked, String> {
 /// The kinds of cases, each with its comparison.
 type Kind = (&'static str, fn(u64, u64, &mut Tally) -> Outcome);
 
-const KINDS: [Kind; 5] = [
+const KINDS: [Kind; 6] = [
     ("table", table_case),
     ("sheet", sheet_case),
     ("line", line_case),
+    ("edges", edges_case),
     ("sample", sample_case),
     ("crowded", crowded_case),
 ];
@@ -73,6 +74,14 @@ fn line_case(seed: u64, index: u64, tally: &mut Tally) -> Outcome {
     let second = case.justify();
     marks::note(&case, &second, tally);
     lines::compare(&case, &second, &mut Questions::new(seed, index))
+}
+
+/// A line is justified nine times: every fourth case is one.
+fn edges_case(seed: u64, index: u64, tally: &mut Tally) -> Outcome {
+    if index % 4 != 3 {
+        return Ok(());
+    }
+    edges::compare(&lines::draw(seed, index), &mut Questions::new(seed, index), tally)
 }
 
 /// These are long: every fortieth case is one.

@@ -1,5 +1,6 @@
 //! What a drawn line shows, by name, and how often a long run has to meet each.
 
+use crate::edges;
 use crate::tally::Tally;
 use reference::generate::LineCase;
 use reference::line::{classes_of, rooms_of, MOST_TOTAL};
@@ -44,6 +45,7 @@ pub fn wanted() -> Vec<(String, u64)> {
     PLACES.iter().for_each(|count| want(format!("{count} glyphs")));
     ROOMS.iter().for_each(|room| want(format!("room {room}")));
     SHOWN.iter().for_each(|(shown, _)| want(shown.to_string()));
+    edges::MARKS.iter().for_each(|mark| want(mark.to_string()));
     BESIDE.iter().for_each(|beside| want(format!("a total {beside} the cap")));
     for buffer in BUFFERS {
         [false, true].iter().for_each(|&longer| want(length_mark(buffer, longer)));

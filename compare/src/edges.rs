@@ -1,0 +1,92 @@
+//! A glyph's edges under a narrower and a wider target (document 02, request 1/14): none may lie further back under the wider.
+
+use crate::questions::Questions;
+use crate::tally::Tally;
+use crate::{library, lines, Outcome};
+use just_raw::{Lent, Line, Verdict};
+use reference::generate::LineCase;
+use reference::line::MOST_WIDTH;
+
+/// The most actions that fire for one glyph.
+const MOST_ACTIONS: usize = 64;
+
+/// What a run has to meet: two targets of one line that are both accepted.
+pub const BOTH_GROW: &str = "edges, both targets growing";
+pub const BOTH_SHRINK: &str = "edges, both targets shrinking";
+pub const ONE_OF_EACH: &str = "edges, one target shrinking and one growing";
+pub const MARKS: [&str; 3] = [BOTH_GROW, BOTH_SHRINK, ONE_OF_EACH];
+
+/// The left and right edge of each glyph, in line order.
+type Edges = Vec<(i64, i64)>;
+
+/// Targets from narrow to wide: near the advances' sum, far from it, and at each end.
+fn targets(sum: i64, asked: &mut Questions) -> Vec<i64> {
+    let near = asked.below(1 << 20) as i64;
+    let mut all = vec![0, asked.below(sum as u64 + 1) as i64, sum - near, sum - asked.below(9) as i64, sum];
+    all.extend([sum + 1 + asked.below(9) as i64, sum + near, asked.below(MOST_WIDTH as u64) as i64, MOST_WIDTH]);
+    all.retain(|target| (0..=MOST_WIDTH).contains(target));
+    all.sort();
+    all
+}
+
+/// The edges that the library's answer shows; none where it refuses.
+fn edges(case: &LineCase, advances: &[i32], target: i64) -> Option<Edges> {
+    let count = case.glyphs.len();
+    let (mut classes, mut before, mut after) = (vec![0; count], vec![0; count], vec![0; count]);
+    let mut verdicts = vec![Verdict::default(); count * MOST_ACTIONS];
+    let lent = Lent { classes: &mut classes, before: &mut before, after: &mut after, verdicts: &mut verdicts };
+    let line = Line { target: target as i32, ..lines::line(case, advances) };
+    library::said(lines::table(case).justify(&line, lent)).ok()?;
+    let mut ahead = 0;
+    let sides = before.iter().zip(&after).zip(advances);
+    Some(
+        sides
+            .map(|((&before, &after), &advance)| {
+                let left = ahead + i64::from(before);
+                ahead = left + i64::from(advance) + i64::from(after);
+                (left, ahead)
+            })
+            .collect(),
+    )
+}
+
+/// Fails at a glyph whose edge under the wider target lies before its place under the narrower.
+fn hold(narrow: &Edges, wide: &Edges, targets: (i64, i64)) -> Outcome {
+    let back = narrow.iter().zip(wide).position(|(narrow, wide)| wide.0 < narrow.0 || wide.1 < narrow.1);
+    match back {
+        Some(place) => Err(format!(
+            "edges of glyph {place}: {:?} under {}, {:?} under {}",
+            narrow[place], targets.0, wide[place], targets.1
+        )),
+        None => Ok(()),
+    }
+}
+
+/// Justifies one line at several targets, and holds the edges of each two neighbours against each other. What holds of
+/// neighbours holds of any two.
+pub fn compare(case: &LineCase, asked: &mut Questions, tally: &mut Tally) -> Outcome {
+    let sum = case.advances.iter().sum();
+    if case.advances.len() != case.glyphs.len() || !(0..=MOST_WIDTH).contains(&sum) {
+        return Ok(());
+    }
+    let advances = lines::advances(case);
+    let shown: Vec<(i64, Edges)> =
+        targets(sum, asked).into_iter().filter_map(|target| Some((target, edges(case, &advances, target)?))).collect();
+    for pair in shown.windows(2) {
+        let [(narrow, narrow_edges), (wide, wide_edges)] = pair else { continue };
+        tally.note(mark(*narrow, *wide, sum).into());
+        hold(narrow_edges, wide_edges, (*narrow, *wide))?;
+    }
+    Ok(())
+}
+
+/// On which sides of the advances' sum two targets stand.
+fn mark(narrow: i64, wide: i64, sum: i64) -> &'static str {
+    if narrow >= sum {
+        BOTH_GROW
+    } else if wide < sum {
+        BOTH_SHRINK
+    } else {
+        ONE_OF_EACH
+    }
+}
