@@ -148,13 +148,17 @@ totals-are gs = (holds, tested)
 
     holds : lineFits gs ≡ true → SmallTotals gs
     holds e =
-        let e1 = and-right (t 0) (t 1 && (t 2 && true)) e in
-        let e2 = and-right (t 1) (t 2 && true) e1 in
+        let e1 = and-right (t 0) (t 1 && (t 2 && (t 3 && true))) e in
+        let e2 = and-right (t 1) (t 2 && (t 3 && true)) e1 in
+        let e3 = and-right (t 2) (t 3 && true) e2 in
         record {
-          first = leb-true _ _ (and-left (t 0) (t 1 && (t 2 && true)) e);
-          second = leb-true _ _ (and-left (t 1) (t 2 && true) e1);
-          third = leb-true _ _ (and-left (t 2) true e2);
+          first = leb-true _ _ (and-left (t 0) (t 1 && (t 2 && (t 3 && true))) e);
+          second = leb-true _ _ (and-left (t 1) (t 2 && (t 3 && true)) e1);
+          third = leb-true _ _ (and-left (t 2) (t 3 && true) e2);
+          fourth = leb-true _ _ (and-left (t 3) true e3);
         }
 
     tested : SmallTotals gs → lineFits gs ≡ true
-    tested h = and-both (le-leb _ _ (h .first)) (and-both (le-leb _ _ (h .second)) (and-both (le-leb (stageTotal gs 2) most (omega (arith, h .third))) refl))
+    tested h =
+        and-both (le-leb _ _ (h .first))
+        (and-both (le-leb _ _ (h .second)) (and-both (le-leb _ _ (h .third)) (and-both (le-leb (stageTotal gs 3) most (omega (arith, h .fourth))) refl)))

@@ -59,7 +59,7 @@ pub record Measured (l : Line) : Type 0 where
   pub target : l .target ≡ pos aim
   pub near : aim ≤ 1073741823
 
--- 15 does not bar the parts of its glyphs: the factor total of each of the three stages
+-- 15 does not bar the parts of its glyphs: the factor total of each of the four stages
 abbrev pub stageTotal : List Glyph → ℕ → ℕ
 stageTotal gs stage = total (ofStage stage (sideStages gs) (sideFactors gs))
 
@@ -67,6 +67,7 @@ pub record SmallTotals (gs : List Glyph) : Type 0 where
   pub first : stageTotal gs 0 ≤ 8589934592
   pub second : stageTotal gs 1 ≤ 8589934592
   pub third : stageTotal gs 2 ≤ 8589934592
+  pub fourth : stageTotal gs 3 ≤ 8589934592
 
 -- ---- the walk
 

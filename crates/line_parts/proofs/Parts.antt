@@ -14,14 +14,12 @@ use mir.ValLaws.{toZ-pos, toZ-ofZ}
 use native.Mathlib.Nat.{mul-le-mul-right, div-le-self}
 use native.Mathlib.Numerals.{add-one}
 use lib.ListN.{length, getD, drop, take, set, length-set, drop-of-length-le}
-use borrow.Author.Tests.{eq-eqb, ne-eqb}
 use Rattle.fields.specs.declared.Fault.the-variants.{Clear}
 use Rattle.fields.specs.Field.{Bytes}
 use Rattle.parts.specs.declared.Direction.{Direction}
 use Rattle.parts.specs.declared.Direction.the-variants.{Horizontal, Vertical}
 use Rattle.parts.specs.declared.Pair.{Pair}
 use Rattle.units.specs.Fixed.{roundedDown, factorOf}
-use Rattle.units.specs.Flags.{isUnlimited, priorityOf}
 use Rattle.units.proofs.Rounding.{near-pos}
 use Rattle.lists.specs.Codes.{All}
 use Rattle.lists.proofs.ListLaws.{all-getD}
@@ -35,10 +33,9 @@ use Rattle.table.specs.Means.{meaningOf}
 use Rattle.table_laws.proofs.Valid.{valid-meaning}
 use Rattle.table_parts.specs.Places.{clusterSpot}
 use Rattle.table_parts.proofs.Asked.{side-is, clusters-are}
-use Rattle.share.specs.Share.{noPart}
 use Rattle.share.specs.Line.{Glyph, apart}
 use Rattle.share.proofs.Fill.{fill-again, fill-end}
-use Rattle.lines.specs.Line.{recordFor, unitsOf, stageOf, partBy, partOf, partsOf}
+use Rattle.lines.specs.Line.{recordFor, unitsOf, partBy, partOf, partsOf}
 use Rattle.line_parts.specs.Parts.{Small, IsSize, PartOf, Room, Laid}
 use Rattle.line_parts.specs.declared.Part.{Part}
 
@@ -47,14 +44,6 @@ use Rattle.line_parts.specs.declared.Part.{Part}
 pub factor-plain : (a s : ℕ) → a ≤ 2 ^ 31 → factorOf (pos a) s ≡ pos (unitsOf a s)
 unfolding factorOf
 factor-plain a s h = ap (λ (b : Bool). cond b (pos 0) (roundedDown (pos a *ℤ pos s) 65536)) (near-pos a h)
-
--- ---- stages
-
-pub stage-none : (flags p : ℕ) → p ≡ priorityOf flags → p ≡ 3 → noPart ≡ stageOf flags
-stage-none flags p e z = sym (rw (← e, eq-eqb p 3 z))
-
-pub stage-some : (flags p : ℕ) → p ≡ priorityOf flags → (p ≡ 3 → ⊥) → p ≡ stageOf flags
-stage-some flags p e z = sym (rw (← e, ne-eqb p 3 z))
 
 -- ---- width records
 

@@ -39,7 +39,7 @@ pub enum Shared {
     Over,
 }
 
-// The mark of a glyph that takes no part.
+// The mark of a glyph that has no record, and takes no part: no stage.
 const APART: u8 = 255;
 
 // The walk of a line by the machine of a direction; with no machine, every class 0 and no entry taken.
@@ -81,8 +81,7 @@ fn units_of(limit: Ems, size: u32) -> Units
 fn stage_of(flags: u16) -> u8
     ensures { λ r. ⌜ r ≡ stageOf flags ⌝ }
 {
-    let priority = units::priority(flags);
-    if priority == 3 { APART } else { priority }
+    units::priority(flags)
 }
 
 // 1 for unlimited flags.

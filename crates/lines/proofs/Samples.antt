@@ -39,8 +39,8 @@ machine = record { rows = 2; classes = 5; kinds = 4 ∷ 4 ∷ []; cells = [] }
 pub kinds : map (kindOf machine) (0xFFFF ∷ 1 ∷ 2 ∷ []) ≡ 2 ∷ 4 ∷ 1 ∷ []
 kinds = refl
 
--- priorities 0 to 2 are stages; priority 3 takes no part, with or without the unlimited flag
-pub stages : map stageOf (0 ∷ 1 ∷ 2 ∷ 3 ∷ 0x1003 ∷ []) ≡ 0 ∷ 1 ∷ 2 ∷ 255 ∷ 255 ∷ []
+-- priorities 0 to 3 are stages, with or without the unlimited flag
+pub stages : map stageOf (0 ∷ 1 ∷ 2 ∷ 3 ∷ 0x1003 ∷ []) ≡ 0 ∷ 1 ∷ 2 ∷ 3 ∷ 3 ∷ []
 stages = refl
 
 -- at a size of one point, growing and shrinking, by the limits and flags of that side

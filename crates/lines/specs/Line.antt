@@ -20,7 +20,6 @@ use Rattle.meaning.specs.Ask.{recordOf}
 use Rattle.walk.specs.Walk.{Walk, going, stopped, walked, noWalk}
 use Rattle.walk.specs.Walk as walk
 use Rattle.walk.specs.Line.{lineOf}
-use Rattle.share.specs.Share.{noPart}
 use Rattle.share.specs.Line.{Glyph, apart, beforeMoves, afterMoves, lineLeft, lineFits, signedOf, sumℤ}
 use Rattle.verdict.specs.declared.Fires.{Fires}
 use Rattle.verdict.specs.declared.Fires.the-variants.{No, Plain, Substitutes}
@@ -91,9 +90,9 @@ recordFor s g c = recordOf c (getD (s .clusters) g [])
 abbrev pub unitsOf : ℕ → ℕ → ℕ
 unitsOf limit size = limit * size / 65536
 
--- the stage of a priority; priority 3 takes no part
+-- the stage of a priority is its number, the null priority's too (document 02, request 2/14)
 abbrev pub stageOf : ℕ → ℕ
-stageOf flags = cond (eqb (priorityOf flags) 3) noPart (priorityOf flags)
+stageOf flags = priorityOf flags
 
 -- a glyph's part by the flags and limits of one direction of the gap
 abbrev pub partBy : ℕ → ℕ → ℕ → ℕ → Glyph

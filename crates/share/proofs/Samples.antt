@@ -33,6 +33,15 @@ samples =
     ∷ record { glyphs = glyph 0 1 0 2 ∷ glyph 0 0 0 2 ∷ []; gap = 9; fits = true; before = 0 ∷ 0 ∷ []; after = 7 ∷ 2 ∷ []; left = 0 }
     -- one takes no part; what the stages leave goes back to stage 1, on top of its factors
     ∷ record { glyphs = glyph noPart 1 9 9 ∷ glyph 2 0 0 1 ∷ glyph 1 0 2 0 ∷ []; gap = 7; fits = true; before = 0 ∷ 0 ∷ 6 ∷ []; after = 0 ∷ 1 ∷ 0 ∷ []; left = 0 }
+    -- stage 3 comes after the other three, shares by the same steps, and is gone back to where it alone has factors
+    ∷ record { glyphs = glyph 3 0 4 0 ∷ glyph 2 0 3 0 ∷ []; gap = 5; fits = true; before = 2 ∷ 3 ∷ []; after = 0 ∷ 0 ∷ []; left = 0 }
+    ∷ record { glyphs = glyph 3 0 2 2 ∷ glyph 0 0 0 0 ∷ []; gap = 6; fits = true; before = 3 ∷ 0 ∷ []; after = 3 ∷ 0 ∷ []; left = 0 }
+    ∷ record { glyphs = glyph 3 1 1 0 ∷ glyph 1 0 0 2 ∷ []; gap = 8; fits = true; before = 1 ∷ 0 ∷ []; after = 5 ∷ 2 ∷ []; left = 0 }
+    -- there is a remainder only where all four stages are empty: of the same line, with nothing in stage 3 and with one unit
+    ∷ record { glyphs = glyph 0 0 0 0 ∷ glyph 1 0 0 0 ∷ glyph 2 0 0 0 ∷ glyph 3 0 0 0 ∷ []; gap = 5; fits = true; before = 0 ∷ 0 ∷ 0 ∷ 0 ∷ []; after = 0 ∷ 0 ∷ 0 ∷ 0 ∷ []; left = 5 }
+    ∷ record { glyphs = glyph 0 0 0 0 ∷ glyph 1 0 0 0 ∷ glyph 2 0 0 0 ∷ glyph 3 0 0 1 ∷ []; gap = 5; fits = true; before = 0 ∷ 0 ∷ 0 ∷ 0 ∷ []; after = 0 ∷ 0 ∷ 0 ∷ 5 ∷ []; left = 0 }
+    -- refusal 15 looks at stage 3
+    ∷ record { glyphs = glyph 0 0 0 3 ∷ glyph 3 0 8589934592 1 ∷ []; gap = 3; fits = false; before = 0 ∷ 0 ∷ []; after = 3 ∷ 0 ∷ []; left = 0 }
     -- the most that a stage's total may be, and one more in a stage that is not reached
     ∷ record { glyphs = glyph 0 0 8589934592 0 ∷ glyph 2 0 0 1 ∷ []; gap = 3; fits = true; before = 3 ∷ 0 ∷ []; after = 0 ∷ 0 ∷ []; left = 0 }
     ∷ record { glyphs = glyph 0 0 0 3 ∷ glyph 2 0 8589934592 1 ∷ []; gap = 3; fits = false; before = 0 ∷ 0 ∷ []; after = 3 ∷ 0 ∷ []; left = 0 }
@@ -59,4 +68,10 @@ worked-out =
     more (record { fits = refl; before = refl; after = refl; left = refl }) (
     more (record { fits = refl; before = refl; after = refl; left = refl }) (
     more (record { fits = refl; before = refl; after = refl; left = refl }) (
-    more (record { fits = refl; before = refl; after = refl; left = refl }) none))))))))
+    more (record { fits = refl; before = refl; after = refl; left = refl }) (
+    more (record { fits = refl; before = refl; after = refl; left = refl }) (
+    more (record { fits = refl; before = refl; after = refl; left = refl }) (
+    more (record { fits = refl; before = refl; after = refl; left = refl }) (
+    more (record { fits = refl; before = refl; after = refl; left = refl }) (
+    more (record { fits = refl; before = refl; after = refl; left = refl }) (
+    more (record { fits = refl; before = refl; after = refl; left = refl }) none))))))))))))))

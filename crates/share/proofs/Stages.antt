@@ -19,7 +19,8 @@ unfolding stages
 at-stage zero h = refl
 at-stage (suc zero) h = refl
 at-stage (suc (suc zero)) h = refl
-at-stage (suc (suc (suc s))) h = absurd (omega arith)
+at-stage (suc (suc (suc zero))) h = refl
+at-stage (suc (suc (suc (suc s)))) h = absurd (omega arith)
 
 pub at-end : (s : ℕ) → s ≡ stageCount → drop s stages ≡ []
 unfolding stages

@@ -15,11 +15,12 @@ use Rattle.share.specs.declared.Totals.{Totals}
 use Rattle.share.proofs.Sides.{rest, rest-hit, rest-miss, rest-end}
 use Rattle.share.proofs.Lines.{within-on, within-over, within-end, fit-low}
 
--- a stage past the first two is the last one
-pub total-two : (ts : Totals) (s : ℕ) → s < stageCount → (s ≡ 0 → ⊥) → (s ≡ 1 → ⊥) → ts .two ≡ totalAt ts s
-total-two ts zero h a b = absurd (a refl)
-total-two ts (suc zero) h a b = absurd (b refl)
-total-two ts (suc (suc s)) h a b = refl
+-- a stage past the first three is the last one
+pub total-three : (ts : Totals) (s : ℕ) → s < stageCount → (s ≡ 0 → ⊥) → (s ≡ 1 → ⊥) → (s ≡ 2 → ⊥) → ts .three ≡ totalAt ts s
+total-three ts zero h a b d = absurd (a refl)
+total-three ts (suc zero) h a b d = absurd (b refl)
+total-three ts (suc (suc zero)) h a b d = absurd (d refl)
+total-three ts (suc (suc (suc s))) h a b d = refl
 
 -- ---- the loop
 
@@ -56,14 +57,15 @@ pub record Sums (ks bs cs : List ℕ) (i : ℕ) (xs : List ℕ) : Type 0 where
   pub at : (s : ℕ) → s < stageCount → Summing s ks bs cs i (getD xs s 0)
 
 module _ (ks bs cs : List ℕ) where
-  pub sums-start : Sums ks bs cs 0 (0 ∷ 0 ∷ 0 ∷ [])
+  pub sums-start : Sums ks bs cs 0 (0 ∷ 0 ∷ 0 ∷ 0 ∷ [])
   sums-start = record { each = refl; at = go }
     where
-      go : (s : ℕ) → s < stageCount → Summing s ks bs cs 0 (getD (0 ∷ 0 ∷ 0 ∷ []) s 0)
+      go : (s : ℕ) → s < stageCount → Summing s ks bs cs 0 (getD (0 ∷ 0 ∷ 0 ∷ 0 ∷ []) s 0)
       go zero h = summing-start 0 ks bs cs
       go (suc zero) h = summing-start 1 ks bs cs
       go (suc (suc zero)) h = summing-start 2 ks bs cs
-      go (suc (suc (suc s))) h = absurd (omega arith)
+      go (suc (suc (suc zero))) h = summing-start 3 ks bs cs
+      go (suc (suc (suc (suc s)))) h = absurd (omega arith)
 
   module _ {i : ℕ} {xs : List ℕ} (g : Sums ks bs cs i xs) (hk : i < length ks) (hb : i < length bs) (hc : i < length cs) where
     pub sums-on : {b c : ℕ} → getD ks i 0 < stageCount → b ≡ min (getD bs i 0) (most + 1) → c ≡ min (getD cs i 0) (most + 1)
@@ -90,14 +92,15 @@ module _ (ks bs cs : List ℕ) where
     sums-past hm = record { each = g .each; at = λ s h. summing-miss s ks bs cs (g .at s h) hk hb hc (λ e. omega arith) }
 
   pub sums-end : {i : ℕ} {xs : List ℕ} → Sums ks bs cs i xs → length ks ≤ i
-      → TotalsOf (record { zero = getD xs 0 0; one = getD xs 1 0; two = getD xs 2 0 }) ks bs cs
+      → TotalsOf (record { zero = getD xs 0 0; one = getD xs 1 0; two = getD xs 2 0; three = getD xs 3 0 }) ks bs cs
   sums-end {i} {xs} g l = record { at = go }
     where
-      go : (s : ℕ) → s < stageCount → Told (totalAt (record { zero = getD xs 0 0; one = getD xs 1 0; two = getD xs 2 0 }) s) (total (factorsAt s ks bs cs))
+      go : (s : ℕ) → s < stageCount → Told (totalAt (record { zero = getD xs 0 0; one = getD xs 1 0; two = getD xs 2 0; three = getD xs 3 0 }) s) (total (factorsAt s ks bs cs))
       go zero h = summing-end 0 ks bs cs (g .at 0 h) l
       go (suc zero) h = summing-end 1 ks bs cs (g .at 1 h) l
       go (suc (suc zero)) h = summing-end 2 ks bs cs (g .at 2 h) l
-      go (suc (suc (suc s))) h = absurd (omega arith)
+      go (suc (suc (suc zero))) h = summing-end 3 ks bs cs (g .at 3 h) l
+      go (suc (suc (suc (suc s)))) h = absurd (omega arith)
 
 -- ---- what they say
 
@@ -131,14 +134,14 @@ module _ {ts : Totals} {ks bs cs : List ℕ} (w : TotalsOf ts ks bs cs) where
     low = λ s h. let l = fit-low ks bs cs e s h in omega (arith, w .at s h .exact l);
   }
 
-  pub fits-last : {b : Bool} → b ≡ within (weave ks ks) (weave bs cs) (drop 2 stages) → leb (ts .two) most ≡ b
-  fits-last {b} e = go (decLt most (ts .two))
+  pub fits-last : {b : Bool} → b ≡ within (weave ks ks) (weave bs cs) (drop 3 stages) → leb (ts .three) most ≡ b
+  fits-last {b} e = go (decLt most (ts .three))
     where
-      last : 2 < stageCount
+      last : 3 < stageCount
       last = omega arith
 
-      go : Dec (most < ts .two) → leb (ts .two) most ≡ b
-      go (yes h) = lt-leb (ts .two) most h ∙ fits-over 2 last h e
+      go : Dec (most < ts .three) → leb (ts .three) most ≡ b
+      go (yes h) = lt-leb (ts .three) most h ∙ fits-over 3 last h e
       go (no h) =
-          let l : ts .two ≤ most = omega arith in
-          le-leb (ts .two) most l ∙ within-end ks bs cs {s = 3} refl (fits-on 2 last l e)
+          let l : ts .three ≤ most = omega arith in
+          le-leb (ts .three) most l ∙ within-end ks bs cs {s = 4} refl (fits-on 3 last l e)

@@ -68,12 +68,13 @@ pub record Sides (n : ℕ) (bs cs : List ℕ) : Type 0 where
 -- ---- the totals of the stages
 
 abbrev pub stageCount : ℕ
-stageCount = 3
+stageCount = 4
 
 abbrev pub totalAt : Totals → ℕ → ℕ
 totalAt ts zero = ts .zero
 totalAt ts (suc zero) = ts .one
-totalAt ts (suc (suc s)) = ts .two
+totalAt ts (suc (suc zero)) = ts .two
+totalAt ts (suc (suc (suc s))) = ts .three
 
 -- what is found of a total: itself where it is no more than it may be, else some number above that
 pub record Told (found sum : ℕ) : Type 0 where

@@ -1,4 +1,4 @@
--- The staged rule (document 01, "Sharing the gap", and refusal 15), on sizes: numbers of units without signs.
+-- The staged rule (document 01, "Sharing the gap", and refusal 15; stage 3 by document 02, request 2/14), on sizes: numbers of units without signs.
 -- The sides of a line stand in line order, a glyph's before side ahead of its after side. Three lists say of each side its stage mark, its factor, and
 -- its extra weight: 1 on the after side of an unlimited glyph, else 0.
 use Prim.Native.Nat.{ℕ, _+_, _-_, _*_, _/_}
@@ -8,7 +8,7 @@ use lib.Dec.{leb, ltb, eqb}
 
 -- the stages in their order, and whether what they leave goes back, by step 3
 unfoldable pub stages : List ℕ
-stages = 0 ∷ 1 ∷ 2 ∷ []
+stages = 0 ∷ 1 ∷ 2 ∷ 3 ∷ []
 
 unfoldable pub goesBack : Bool
 goesBack = true

@@ -15,7 +15,7 @@ ghost use Rattle.share.specs.Inner.{weave, factorsAt, extrasAt, lineOf, 
 const MOST: u64 = 8589934592;
 
 // The stages are 0 to STAGES - 1.
-const STAGES: u8 = 3;
+const STAGES: u8 = 4;
 
 // Step 1's formula on its way from side to side: the amount, the total that it is shared over, the running total, and what the
 // sides so far have been given.
@@ -68,11 +68,12 @@ fn next_share(run: Running, weight: u64) -> Step
     }
 }
 
-// The totals of a line's stages 0, 1 and 2. In the place of one above the most that it may be stands some number above that.
+// The totals of a line's stages 0 to 3. In the place of one above the most that it may be stands some number above that.
 pub struct Totals {
     pub zero: u64,
     pub one: u64,
     pub two: u64,
+    pub three: u64,
 }
 
 // A stage's total.
@@ -86,7 +87,10 @@ fn total_of(totals: Totals, stage: u8) -> u64
     if stage == 1 {
         return totals.one;
     }
-    totals.two
+    if stage == 2 {
+        return totals.two;
+    }
+    totals.three
 }
 
 // A factor, or one more than the most that a stage's total may be where it is above that: enough for refusal 15, and the sums
@@ -102,7 +106,7 @@ pub fn line_totals(marks: &[u8], first: &[u64], second: &[u64]) -> Totals
     requires { ⌜ Parts (length (now marks)) (now marks) (now first) (now second) × (length (now marks) ≤ 1024) ⌝ }
     ensures { λ r. ⌜ TotalsOf r (now (marks .entry)) (now (first .entry)) (now (second .entry)) ⌝ }
 {
-    let mut sums = [0u64; 3];
+    let mut sums = [0u64; 4];
     let mut i = 0;
     while i < marks.len() {
         let stage = marks[i];
@@ -117,6 +121,7 @@ pub fn line_totals(marks: &[u8], first: &[u64], second: &[u64]) -> Totals
         zero: sums[0],
         one: sums[1],
         two: sums[2],
+        three: sums[3],
     }
 }
 
@@ -130,7 +135,10 @@ pub fn totals_fit(totals: Totals) -> bool
     if MOST < totals.one {
         return false;
     }
-    totals.two <= MOST
+    if MOST < totals.two {
+        return false;
+    }
+    totals.three <= MOST
 }
 
 // Adds to the sides of a stage their factors; answers how much extra weight its glyphs have: the number of unlimited ones.

@@ -9,10 +9,10 @@ use Rattle.share.proofs.go_back.Statement.{statement}
 use Rattle.share.proofs.go_back.Tie as tie
 
 abbrev Inv-loop : tie.InvT-loop
-Inv-loop left totals marks first second before₀ after₀ stage₀ before after stage = (stage ≤ 3) × Backing marks first second left before₀ after₀ stage before after
+Inv-loop left totals marks first second before₀ after₀ stage₀ before after stage = (stage ≤ 4) × Backing marks first second left before₀ after₀ stage before after
 
 abbrev μ-loop : tie.MeasureT-loop
-μ-loop left totals marks first second before₀ after₀ stage₀ before after stage = 3 - stage
+μ-loop left totals marks first second before₀ after₀ stage₀ before after stage = 4 - stage
 
 returns : tie.Need-returns Inv-loop μ-loop
 returns c = let a = c .before .before .before .before .before .before .args in

@@ -85,6 +85,9 @@ array-read-t31 c = omega (arith, c .before .loop .inv .1 .each)
 array-read-t34 : tie.Need-array-read-t34 Inv-loop μ-loop
 array-read-t34 c = omega (arith, c .before .loop .inv .1 .each)
 
+array-read-t37 : tie.Need-array-read-t37 Inv-loop μ-loop
+array-read-t37 c = omega (arith, c .before .loop .inv .1 .each)
+
 returns : tie.Need-returns Inv-loop μ-loop
 returns c = let a = c .before .before .before .before .before .args in
     sums-end (a .marks .now) (a .first .now) (a .second .now) (c .before .loop .inv .1) (omega arith)
@@ -118,4 +121,5 @@ line-totals-spec =
     array-read-t28
     array-read-t31
     array-read-t34
+    array-read-t37
     returns)

@@ -7,10 +7,10 @@ use Rattle.share.proofs.share_stages.Statement.{statement}
 use Rattle.share.proofs.share_stages.Tie as tie
 
 abbrev Inv-loop : tie.InvT-loop
-Inv-loop gap totals marks extras first second before₀ after₀ left₀ stage₀ before after left stage = (stage ≤ 3) × Staging (length marks) marks extras first second gap before₀ after₀ stage left before after
+Inv-loop gap totals marks extras first second before₀ after₀ left₀ stage₀ before after left stage = (stage ≤ 4) × Staging (length marks) marks extras first second gap before₀ after₀ stage left before after
 
 abbrev μ-loop : tie.MeasureT-loop
-μ-loop gap totals marks extras first second before₀ after₀ left₀ stage₀ before after left stage = 3 - stage
+μ-loop gap totals marks extras first second before₀ after₀ left₀ stage₀ before after left stage = 4 - stage
 
 loop-holds : tie.Need-loop-holds Inv-loop μ-loop
 loop-holds c = let a = c .before .before .before .before .before .before .args in
