@@ -5,6 +5,7 @@ use crate::questions::Questions;
 use reference::generate::LineCase;
 use reference::line::{MOST_SIZE, MOST_TOTAL};
 use reference::meaning::LIMIT;
+use reference::share::STAGES;
 use reference::{factor, WidthRecord};
 
 /// Two limits whose factors sum to `total`; none where a short search finds none.
@@ -42,9 +43,11 @@ fn shape(total: u64, asked: &mut Questions) -> (u32, u64, (u32, u32)) {
 /// A line whose total in one stage is within one of the cap.
 pub fn draw(asked: &mut Questions) -> LineCase {
     let (size, copies, limits) = shape(MOST_TOTAL - 1 + asked.below(3), asked);
-    let (stage, grow) = (asked.below(3) as u16, asked.below(2) == 0);
+    let stages = STAGES as u64;
+    let (stage, grow) = (asked.below(stages), asked.below(2) == 0);
     let unlimited = [0, 0x1000][asked.below(2) as usize];
-    let other = (stage + 1 + asked.below(2) as u16) % 3;
+    let other = (stage + 1 + asked.below(stages - 1)) % stages;
+    let (stage, other) = (stage as u16, other as u16);
     let records = [((LIMIT, LIMIT), stage), (limits, stage | unlimited), ((LIMIT, 1), other)];
     let records = records.map(|(limits, flags)| record(limits, flags, grow, asked));
     let mut glyphs = vec![0; copies as usize];

@@ -5,6 +5,7 @@ use crate::tally::Tally;
 use reference::generate::LineCase;
 use reference::line::{classes_of, rooms_of, MOST_TOTAL};
 use reference::meaning::DELETED;
+use reference::share::STAGES;
 use reference::{justify, read_table, totals, Justified};
 
 /// How many lines a run has at least before marks are asked of it.
@@ -29,6 +30,10 @@ const SHOWN: [Shown; 4] = [
     ("a substituting verdict", |_, answer| answer.verdicts.iter().any(|verdict| verdict.substituting)),
 ];
 
+fn cap_mark(beside: &str, stage: usize) -> String {
+    format!("a total of stage {stage} {beside} the cap")
+}
+
 fn gap_mark(way: &str, beside: &str, stage: usize) -> String {
     format!("{way} gap {beside} the totals of stages 0 to {stage}")
 }
@@ -46,12 +51,14 @@ pub fn wanted() -> Vec<(String, u64)> {
     ROOMS.iter().for_each(|room| want(format!("room {room}")));
     SHOWN.iter().for_each(|(shown, _)| want(shown.to_string()));
     edges::MARKS.iter().for_each(|mark| want(mark.to_string()));
-    BESIDE.iter().for_each(|beside| want(format!("a total {beside} the cap")));
+    for stage in 0..STAGES {
+        BESIDE.iter().for_each(|beside| want(cap_mark(beside, stage)));
+    }
     for buffer in BUFFERS {
         [false, true].iter().for_each(|&longer| want(length_mark(buffer, longer)));
     }
     for way in WAYS {
-        for stage in 0..3 {
+        for stage in 0..STAGES {
             BESIDE.iter().for_each(|beside| want(gap_mark(way, beside, stage)));
         }
     }
@@ -116,7 +123,7 @@ fn note_totals(case: &LineCase, tally: &mut Tally) {
     let mut so_far = 0;
     for (stage, total) in totals.into_iter().enumerate() {
         if let Some(beside) = beside(total, MOST_TOTAL) {
-            tally.note(format!("a total {beside} the cap"));
+            tally.note(cap_mark(beside, stage));
         }
         so_far += total;
         if let (true, Some(beside)) = (total > 0, beside(gap.unsigned_abs(), so_far)) {

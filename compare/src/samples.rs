@@ -1,4 +1,4 @@
-//! Document 01's sample lines, and lines at each limit, with the values that the page states.
+//! Document 01's sample lines, lines at each limit, and lines of document 02's requests, with the values that the pages state.
 
 use crate::drafts::{self, empty, grows, machine, table};
 use crate::{lines, questions::Questions, Outcome};
@@ -39,9 +39,9 @@ fn bare() -> LineCase {
     line(empty(), 1, &[0], 0, POINT)
 }
 
-/// Sides of factors 3, 3, 3 at one point, and a gap.
-fn threes(gap: i64) -> LineCase {
-    line(table(&[grows(3, 3, 0), grows(3, 0, 0)], &[], &[]), 2, &[0, 1], gap, POINT)
+/// Sides of one priority with factors 3, 3, 3 at one point, and a gap.
+fn threes(priority: u16, gap: i64) -> LineCase {
+    line(table(&[grows(3, 3, priority), grows(3, 0, priority)], &[], &[]), 2, &[0, 1], gap, POINT)
 }
 
 /// One unlimited glyph with a ligature that breaks outside 0 to 0.5 em, at 12 pt.
@@ -51,8 +51,8 @@ fn ligature(gap: i64) -> LineCase {
 }
 
 /// Eight sides of 16 em at 1,024 pt are the cap of a stage's total; one unit of an em more is above it.
-fn cap(past: bool) -> LineCase {
-    let records = [grows(LIMIT, LIMIT, 2), grows(0, 1, 2)];
+fn cap(priority: u16, past: bool) -> LineCase {
+    let records = [grows(LIMIT, LIMIT, priority), grows(0, 1, priority)];
     line(table(&records, &[], &[]), 2, if past { &[0, 0, 0, 0, 1] } else { &[0, 0, 0, 0] }, 0, 67_108_864)
 }
 
@@ -69,22 +69,35 @@ fn sharing() -> Vec<(&'static str, LineCase, Says)> {
     let breaks = Says::Moves(vec![0], vec![HALF_EM + 1], 0, 1);
     vec![
         ("2.5 em at 12 pt", line(tall, 2, &[0, 1], 1_966_081, 12 * POINT), moves(&[0, 0], &[1_966_080, 1])),
-        ("factors 3, 3, 3, gap 7", threes(7), moves(&[2, 3], &[2, 0])),
-        ("factors 3, 3, 3, gap 9", threes(9), moves(&[3, 3], &[3, 0])),
-        ("factors 3, 3, 3, gap 10", threes(10), moves(&[3, 4], &[3, 0])),
+        ("factors 3, 3, 3, gap 7", threes(0, 7), moves(&[2, 3], &[2, 0])),
+        ("factors 3, 3, 3, gap 9", threes(0, 9), moves(&[3, 3], &[3, 0])),
+        ("factors 3, 3, 3, gap 10", threes(0, 10), moves(&[3, 4], &[3, 0])),
         ("all factors 0", line(flat, 1, &[0, 0], 5, POINT), Says::Moves(vec![0, 0], vec![0, 0], 5, 0)),
         ("two unlimited", line(open, 2, &[0, 1, 0], 5, POINT), moves(&[0, 0, 0], &[2, 0, 3])),
         ("half an em keeps the ligature", ligature(HALF_EM), moves(&[0], &[HALF_EM])),
         ("one unit more breaks it", ligature(HALF_EM + 1), breaks.clone()),
         ("an empty line", line(empty(), 1, &[], 4, POINT), Says::Moves(vec![], vec![], 4, 0)),
         ("the walk starts elsewhere", endless(true), moves(&[0], &[0])),
-        ("a total at the cap", cap(false), moves(&[0; 4], &[0; 4])),
+        ("a total at the cap", cap(2, false), moves(&[0; 4], &[0; 4])),
         ("room for just that verdict", with(ligature(HALF_EM + 1), |case| case.room = 1), breaks),
         ("the smallest size", with(bare(), |case| case.size = 1), moves(&[0], &[0])),
         ("the greatest size", with(bare(), |case| case.size = 67_108_864), moves(&[0], &[0])),
         ("1,024 glyphs", line(empty(), 1, &[0; 1_024], 0, POINT), moves(&[0; 1_024], &[0; 1_024])),
         ("a deleted glyph", with(bare(), |case| case.glyphs[0] = 0xFFFF), moves(&[0], &[0])),
         ("the widest line", with(bare(), |case| (case.advances[0], case.target) = (WIDEST, WIDEST)), moves(&[0], &[0])),
+    ]
+}
+
+/// Lines of document 02, request 2/14.
+fn null_priority() -> Vec<(&'static str, LineCase, Says)> {
+    let after_others = table(&[grows(1, 5, 3), grows(0, 4, 0)], &[], &[]);
+    let open = table(&[grows(0, 0, 0x1003)], &[], &[]);
+    vec![
+        ("stage 3 alone, gap 7", threes(3, 7), moves(&[2, 3], &[2, 0])),
+        ("stage 3 alone, gone back to", threes(3, 10), moves(&[3, 4], &[3, 0])),
+        ("stage 3 after stage 0", line(after_others, 2, &[0, 1], 7, POINT), moves(&[0, 0], &[3, 4])),
+        ("two unlimited of priority 3", line(open, 2, &[0, 1, 0], 5, POINT), moves(&[0, 0, 0], &[2, 0, 3])),
+        ("a total of stage 3 at the cap", cap(3, false), moves(&[0; 4], &[0; 4])),
     ]
 }
 
@@ -108,7 +121,8 @@ fn refusals() -> Vec<(&'static str, LineCase, u32)> {
         ("target -1", with(bare(), |case| case.target = -1), 12),
         ("glyph N", with(bare(), |case| case.glyphs[0] = 1), 13),
         ("an endless walk", endless(false), 14),
-        ("a total above the cap", cap(true), 15),
+        ("a total above the cap", cap(2, true), 15),
+        ("a total of stage 3 above the cap", cap(3, true), 15),
         ("no room for the verdict", with(ligature(HALF_EM + 1), |case| case.room = 0), 16),
         ("size before advances", with(bare(), |case| (case.size, case.target) = (0, -1)), 11),
     ]
@@ -117,7 +131,8 @@ fn refusals() -> Vec<(&'static str, LineCase, u32)> {
 /// All samples, in a fixed order.
 pub static ALL: LazyLock<Vec<Sample>> = LazyLock::new(|| {
     let refused = refusals().into_iter().map(|(name, case, number)| (name, case, Says::Refused(number)));
-    sharing().into_iter().chain(refused).map(|(name, case, says)| Sample { name, case, says }).collect()
+    let answered = sharing().into_iter().chain(null_priority());
+    answered.chain(refused).map(|(name, case, says)| Sample { name, case, says }).collect()
 });
 
 /// The second program says what the page says, and the library what the second program says.

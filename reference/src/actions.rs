@@ -137,10 +137,7 @@ impl Found<'_> {
     /// The glyphs of a type 0 action; empty for any other.
     pub fn components(&self) -> Stretch {
         match self.kind {
-            0 => Stretch {
-                at: (self.at + DECOMPOSE) as usize,
-                length: 2 * get_u16(self.data, 10) as usize,
-            },
+            0 => Stretch { at: (self.at + DECOMPOSE) as usize, length: 2 * get_u16(self.data, 10) as usize },
             _ => Stretch::default(),
         }
     }

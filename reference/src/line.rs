@@ -4,7 +4,7 @@
 use crate::actions;
 use crate::machine::DELETED_CLASS;
 use crate::meaning::{Direction, Parts, WidthRecord, DELETED, PRIORITY, UNLIMITED};
-use crate::share::{factor, share, totals, Room, Shares, STAGES};
+use crate::share::{factor, share, totals, Room, Shares};
 use crate::table::{read_table, Table};
 use crate::verdict::{decide, Fires, VerdictRecord};
 use crate::walk::walk;
@@ -105,9 +105,7 @@ fn check_line(n: u32, line: &Line) -> Result<i64, u32> {
 /// The classes of a line's glyphs and the count of entries; without a machine
 /// all classes are 0 and nothing is counted. `None` where the walk never ends.
 pub fn classes_of(table: &Table, line: &Line) -> Option<(Vec<u8>, u64)> {
-    let (Some(machine), Some(known)) =
-        (table.machine(line.direction), table.glyph_classes(line.direction))
-    else {
+    let (Some(machine), Some(known)) = (table.machine(line.direction), table.glyph_classes(line.direction)) else {
         return Some((vec![0; line.glyphs.len()], 0));
     };
     let class = |&glyph: &u16| if glyph == DELETED { DELETED_CLASS } else { known.of(glyph as u32) };
@@ -115,32 +113,33 @@ pub fn classes_of(table: &Table, line: &Line) -> Option<(Vec<u8>, u64)> {
     walk(machine, &glyph_classes, line.starts, line.ends)
 }
 
-/// What each glyph brings to the sharing, in the gap's direction.
+/// What each glyph brings to the sharing, in the gap's direction; only one
+/// without a record for its class takes no part.
 pub fn rooms_of(table: &Table, line: &Line, classes: &[u8], grow: bool) -> Vec<Option<Room>> {
     let room = |(&glyph, &class): (&u16, &u8)| {
         if glyph == DELETED {
             return None;
         }
         let record = table.width_record(line.direction, glyph as u32, class as u32)?;
-        room_of(&record, line.size as u32, grow)
+        Some(room_of(&record, line.size as u32, grow))
     };
     line.glyphs.iter().zip(classes).map(room).collect()
 }
 
-/// A record's part in the sharing; none for priority 3.
-fn room_of(record: &WidthRecord, size: u32, grow: bool) -> Option<Room> {
+/// A record's part in the sharing: every priority has a stage (document 02,
+/// request 2/14).
+fn room_of(record: &WidthRecord, size: u32, grow: bool) -> Room {
     let (before, after, flags) = if grow {
         (record.before_grow, record.after_grow, record.grow_flags)
     } else {
         (record.before_shrink, record.after_shrink, record.shrink_flags)
     };
-    let stage = (flags & PRIORITY) as u8;
-    ((stage as usize) < STAGES).then(|| Room {
-        stage,
+    Room {
+        stage: (flags & PRIORITY) as u8,
         unlimited: flags & UNLIMITED != 0,
         before: factor(before, size),
         after: factor(after, size),
-    })
+    }
 }
 
 /// Shares with the gap's sign.

@@ -58,10 +58,7 @@ impl<'a> Lookup<'a> {
             2 => Shape::Segments { units: read_segments(bytes, base)? },
             4 => Shape::Arrays { units: read_segments(bytes, base)? },
             6 => Shape::Singles { units: read_singles(bytes, base)? },
-            8 => Shape::Trimmed {
-                first: bytes.u16(base + 2)? as u32,
-                count: bytes.u16(base + 4)? as u32,
-            },
+            8 => Shape::Trimmed { first: bytes.u16(base + 2)? as u32, count: bytes.u16(base + 4)? as u32 },
             _ => return Err(Fault::new(LOOKUP, base)),
         };
         let lookup = Lookup { bytes, base, n, shape };

@@ -1,12 +1,14 @@
-//! Sharing the gap (document 01, the section of that name).
+//! Sharing the gap (document 01, the section of that name; document 02,
+//! request 2/14, for stage 3).
 //!
 //! Everything here is on sizes; the line puts signs on at the end.
 
-/// The number of stages; priority 3 takes no part in any.
-pub const STAGES: usize = 3;
+/// The number of stages, one for each priority: document 02, request 2/14,
+/// brings in the null priority, 3.
+pub const STAGES: usize = 4;
 
-/// What one glyph brings to the sharing: its stage, whether it is unlimited,
-/// and the factors of its two sides.
+/// What one glyph brings to the sharing: its stage (0 to 3), whether it is
+/// unlimited, and the factors of its two sides.
 #[derive(Clone, Copy, Debug, PartialEq, Eq)]
 pub struct Room {
     pub stage: u8,
@@ -32,9 +34,7 @@ pub fn factor(limit: u32, size: u32) -> u64 {
 pub fn totals(rooms: &[Option<Room>]) -> [u64; STAGES] {
     let mut totals = [0; STAGES];
     for room in rooms.iter().flatten() {
-        if let Some(total) = totals.get_mut(room.stage as usize) {
-            *total += room.before + room.after;
-        }
+        totals[room.stage as usize] += room.before + room.after;
     }
     totals
 }

@@ -46,9 +46,8 @@ fn simple_parts() {
 
 #[test]
 fn simple_sheet() {
-    let pair = |limit: u32, flags: u16| {
-        Fields::new().l(1).l(0).ls(&[limit, 0xB00, limit, 0xB00]).w(flags).w(flags).done()
-    };
+    let pair =
+        |limit: u32, flags: u16| Fields::new().l(1).l(0).ls(&[limit, 0xB00, limit, 0xB00]).w(flags).w(flags).done();
     let horizontal = Fields::new().ls(&[0, 0, 0, 0]);
     let horizontal = horizontal.l(2).bs(&pair(0x8000, 1)).bs(&pair(0x2500, 2));
     let horizontal = horizontal.l(2).ws(&[2, 2, 0]).ws(&[3, 275, 1]).ls(&[0, 0]).done();

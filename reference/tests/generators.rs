@@ -1,6 +1,8 @@
 //! The generators: the same draw for the same seed and index, about half of
 //! the draws accepted, and every refusal among 5,000.
 
+use std::collections::BTreeMap;
+
 use reference::generate;
 use reference::line::{classes_of, rooms_of};
 use reference::*;
@@ -56,7 +58,8 @@ fn sound_tables_reach_every_limit() {
             note(9, read.list_runs(direction).any(|(_, at)| count(at) == 0));
             let whole = |at| actions::list(read.bytes(), at).any(|found| found.components().length == 64);
             note(10, read.list_runs(direction).any(|(_, at)| whole(at)));
-            let offset = table[6 + 2 * direction.index() + 1] as usize | (table[6 + 2 * direction.index()] as usize) << 8;
+            let offset =
+                table[6 + 2 * direction.index() + 1] as usize | (table[6 + 2 * direction.index()] as usize) << 8;
             if offset != 0 {
                 formats[table[offset + 7] as usize] += 1;
             }
@@ -92,7 +95,8 @@ fn tables_meet_every_refusal() {
 #[test]
 fn lines_meet_every_refusal() {
     let mut counts = [0usize; 17];
-    let mut kinds = [0usize; 9];
+    let mut kinds = Kinds::new();
+    let mut past = [0usize; 4];
     for index in 0..DRAWS {
         let case = generate::line(SEED, index);
         match case.justify() {
@@ -100,41 +104,73 @@ fn lines_meet_every_refusal() {
                 counts[0] += 1;
                 note_kinds(&case, &answer, &mut kinds);
             }
-            Err(number) => counts[number as usize] += 1,
+            Err(number) => {
+                counts[number as usize] += 1;
+                if number == 15 {
+                    stages_past_the_cap(&case).iter().for_each(|&stage| past[stage] += 1);
+                }
+            }
         }
     }
     println!("lines accepted {}, refused 1 to 8: {:?}, 9 to 16: {:?}", counts[0], &counts[1..9], &counts[9..]);
-    println!("done in stage 0, 1, 2; unlimited; past all stages; remainder; marks; verdicts; substituting: {kinds:?}");
+    println!("past the cap in stages 0 to 3: {past:?}; {kinds:?}");
     about_half(counts[0]);
     assert!(counts[9..].iter().all(|&count| count >= 20), "{counts:?}");
-    assert!(kinds.iter().all(|&count| count >= 20), "{kinds:?}");
+    assert!(past.iter().all(|&count| count >= 10), "{past:?}");
+    let rare: Vec<String> =
+        wanted_kinds().into_iter().filter(|kind| kinds.get(kind).is_none_or(|&met| met < 15)).collect();
+    assert!(rare.is_empty(), "{rare:?}");
 }
 
-/// Which way through the sharing a line took, and what else turned up.
-fn note_kinds(case: &generate::LineCase, answer: &Justified, kinds: &mut [usize; 9]) {
+/// What a line showed, by name.
+type Kinds = BTreeMap<String, usize>;
+
+/// The ways through the sharing and what else has to turn up.
+fn wanted_kinds() -> Vec<String> {
+    let ways = ["done in", "unlimited in", "back to"];
+    let stages = ways.iter().flat_map(|way| (0..4).map(move |stage| format!("{way} stage {stage}")));
+    let others = ["remainder", "stage 3 after another", "classes", "verdicts", "substituting"];
+    stages.chain(others.map(String::from)).collect()
+}
+
+/// Which way through the sharing a gap takes.
+fn way_of(rooms: &[Option<Room>], gap: u64) -> String {
+    let sums = totals(rooms);
+    let open = |stage: usize| rooms.iter().flatten().any(|room| room.stage as usize == stage && room.unlimited);
+    let mut left = gap;
+    for (stage, &sum) in sums.iter().enumerate() {
+        if left <= sum {
+            return format!("done in stage {stage}");
+        }
+        left -= sum;
+        if open(stage) {
+            return format!("unlimited in stage {stage}");
+        }
+    }
+    sums.iter().position(|&sum| sum > 0).map_or("remainder".into(), |stage| format!("back to stage {stage}"))
+}
+
+fn note_kinds(case: &generate::LineCase, answer: &Justified, kinds: &mut Kinds) {
+    let mut note = |kind: &str, met: bool| *kinds.entry(kind.into()).or_default() += met as usize;
     let gap = case.target - case.advances.iter().sum::<i64>();
     let table = read_table(&case.table, case.n).unwrap();
     let (classes, _) = classes_of(&table, &case.line()).unwrap();
     let rooms = rooms_of(&table, &case.line(), &classes, gap >= 0);
-    let sums = totals(&rooms);
-    let open = |stage: usize| rooms.iter().flatten().any(|room| room.stage as usize == stage && room.unlimited);
-    let mut left = gap.unsigned_abs();
-    let mut way = if sums.iter().any(|&sum| sum > 0) { 4 } else { 5 };
-    for (stage, &sum) in sums.iter().enumerate() {
-        if left <= sum {
-            way = stage;
-            break;
-        }
-        left -= sum;
-        if open(stage) {
-            way = 3;
-            break;
-        }
-    }
-    kinds[way] += (gap != 0) as usize;
-    kinds[6] += answer.classes.iter().any(|&class| class != 0) as usize;
-    kinds[7] += !answer.verdicts.is_empty() as usize;
-    kinds[8] += answer.verdicts.iter().any(|verdict| verdict.substituting) as usize;
+    let way = way_of(&rooms, gap.unsigned_abs());
+    note(&way, gap != 0);
+    note("stage 3 after another", way == "done in stage 3" && totals(&rooms)[..3].iter().any(|&sum| sum > 0));
+    note("classes", answer.classes.iter().any(|&class| class != 0));
+    note("verdicts", !answer.verdicts.is_empty());
+    note("substituting", answer.verdicts.iter().any(|verdict| verdict.substituting));
+}
+
+/// The stages whose totals are too great in the gap's direction.
+fn stages_past_the_cap(case: &generate::LineCase) -> Vec<usize> {
+    let gap = case.target - case.advances.iter().sum::<i64>();
+    let table = read_table(&case.table, case.n).unwrap();
+    let (classes, _) = classes_of(&table, &case.line()).unwrap();
+    let sums = totals(&rooms_of(&table, &case.line(), &classes, gap >= 0));
+    (0..sums.len()).filter(|&stage| sums[stage] > 1 << 33).collect()
 }
 
 #[test]

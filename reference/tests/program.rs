@@ -17,11 +17,8 @@ fn the_sample() {
     let expected = "00000001\n".to_string() + &"00000000\n".repeat(16);
     let input = Fields::new().w(1).l(0x0001_0000).ws(&[0, 0, 0]).done();
     assert_eq!(print(&input), expected);
-    let mut child = Command::new(env!("CARGO_BIN_EXE_sheet_print"))
-        .stdin(Stdio::piped())
-        .stdout(Stdio::piped())
-        .spawn()
-        .unwrap();
+    let mut child =
+        Command::new(env!("CARGO_BIN_EXE_sheet_print")).stdin(Stdio::piped()).stdout(Stdio::piped()).spawn().unwrap();
     child.stdin.take().unwrap().write_all(&input).unwrap();
     let output = child.wait_with_output().unwrap();
     assert_eq!(String::from_utf8(output.stdout).unwrap(), expected);

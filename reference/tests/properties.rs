@@ -138,9 +138,9 @@ fn plain_value(table: &[u8], base: usize, n: u32, glyph: u32) -> Option<u16> {
     match word(base) {
         0 => Some(word(base + 2 + 2 * glyph as usize)),
         2 => unit(6).find(|&u| (word(u + 2) as u32..=word(u) as u32).contains(&glyph)).map(|u| word(u + 4)),
-        4 => unit(6).find(|&u| (word(u + 2) as u32..=word(u) as u32).contains(&glyph)).map(|u| {
-            word(base + word(u + 4) as usize + 2 * (glyph as usize - word(u + 2) as usize))
-        }),
+        4 => unit(6)
+            .find(|&u| (word(u + 2) as u32..=word(u) as u32).contains(&glyph))
+            .map(|u| word(base + word(u + 4) as usize + 2 * (glyph as usize - word(u + 2) as usize))),
         6 => unit(4).find(|&u| word(u) as u32 == glyph).map(|u| word(u + 2)),
         _ => {
             let (first, count) = (word(base + 2) as u32, word(base + 4) as u32);
@@ -187,7 +187,13 @@ fn plain_walk(machine: &Machine, glyphs: &[u8], starts: bool, ends: bool) -> Opt
     let (mut row, mut place, mut marked) = (if starts { 0 } else { 1 }, 0, usize::MAX);
     let mut classes = vec![0; glyphs.len()];
     for taken in 1..=most {
-        let class = if place < glyphs.len() { glyphs[place] } else if ends { 0 } else { 3 };
+        let class = if place < glyphs.len() {
+            glyphs[place]
+        } else if ends {
+            0
+        } else {
+            3
+        };
         let cell = machine.cell(row, class as u32).unwrap();
         let (mark, stay) = (cell.flags & 0x8000 != 0, cell.flags & 0x4000 != 0);
         let (mark_class, current_class) = ((cell.flags / 128 % 128) as u8, (cell.flags % 128) as u8);
@@ -267,7 +273,7 @@ fn plain_share(rooms: &[Option<Room>], gap: u64) -> (Vec<u64>, u64) {
     };
     let mut given = vec![0u64; count];
     let mut left = gap as u128;
-    for stage in 0..3 {
+    for stage in 0..4 {
         if left <= total(stage) {
             if left > 0 {
                 (0..count).for_each(|k| given[k] += portion(stage, left, k));
@@ -287,7 +293,7 @@ fn plain_share(rooms: &[Option<Room>], gap: u64) -> (Vec<u64>, u64) {
             return (given, 0);
         }
     }
-    match (0..3).find(|&stage| total(stage) > 0) {
+    match (0..4).find(|&stage| total(stage) > 0) {
         Some(stage) => (0..count).for_each(|k| given[k] += portion(stage, left, k)),
         None => return (given, left as u64),
     }
@@ -300,18 +306,19 @@ fn shares_agree_with_plain_sums() {
     for _ in 0..20_000 {
         let most = rng.pick(&[1, 2, 10, 1_000, 1 << 30]);
         let open = rng.pick(&[0, 0, 30]);
+        let stages: &[u8] = rng.pick(&[&[0, 1, 2, 3], &[0, 1, 2, 3], &[3], &[1, 3]]);
         let rooms: Vec<Option<Room>> = (0..rng.below(8))
             .map(|_| {
                 let (before, after) = (rng.below(most), rng.below(most));
-                let room = Room { stage: rng.below(4) as u8, unlimited: rng.chance(open), before, after };
+                let room = Room { stage: rng.pick(stages), unlimited: rng.chance(open), before, after };
                 rng.chance(85).then_some(room)
             })
             .collect();
         let sums = totals(&rooms);
-        let marks = [0, sums[0], sums[0] + sums[1], sums[0] + sums[1] + sums[2]];
+        let marks: Vec<u64> = (0..=sums.len()).map(|end| sums[..end].iter().sum()).collect();
         let gap = match rng.below(3) {
             0 => (rng.pick(&marks) + rng.below(3)).saturating_sub(1),
-            1 => rng.below(2 * marks[3] + 10),
+            1 => rng.below(2 * marks[4] + 10),
             _ => rng.below(1 << 30),
         };
         let shares = share(&rooms, gap);
@@ -338,7 +345,8 @@ fn from_sheet(meaning: &Meaning, line: &Line) -> Justified {
     let gap = line.target - line.advances.iter().sum::<i64>();
     let room = |place: usize| {
         let glyph = line.glyphs[place];
-        let record = meaning.width_record(direction, glyph as u32, classes[place] as u32).filter(|_| !deleted(glyph))?;
+        let record =
+            meaning.width_record(direction, glyph as u32, classes[place] as u32).filter(|_| !deleted(glyph))?;
         let (before, after, flags) = match gap < 0 {
             false => (record.before_grow, record.after_grow, record.grow_flags),
             true => (record.before_shrink, record.after_shrink, record.shrink_flags),

@@ -1,4 +1,5 @@
-//! The sample lines of document 01, with the values it states.
+//! The sample lines of document 01, with the values it states, and lines for
+//! the requests of document 02.
 
 mod common;
 
@@ -30,8 +31,8 @@ fn three_equal_factors() {
     for gap in [7, 9, 10] {
         assert_eq!(share(&rooms, gap).remainder, 0);
     }
-    // The same in each other stage, and with one side to a glyph.
-    for stage in 0..3 {
+    // The same in each stage, and with one side to a glyph.
+    for stage in 0..4 {
         let rooms = [side(stage, 0, 3), side(stage, 0, 3), side(stage, 0, 3)];
         assert_eq!(share(&rooms, 7).after, [2, 2, 3]);
         assert_eq!(share(&rooms, 9).after, [3, 3, 3]);
@@ -226,29 +227,49 @@ fn line_refusals_in_order() {
 #[test]
 fn stage_totals_at_their_limit() {
     // 16 em at 1,024 pt is 2^30 a side: eight sides are the limit, 2^33.
+    // Stage 3 has the same limit (document 02, request 2/14).
     let limit = 16 << 16;
-    let table = table_with_records(&[([limit, limit, 0, 0], [2, 2]), ([0, 1, 0, 0], [2, 2])]);
     let size = 67_108_864;
-    let of = |glyphs: &[u16], target: i64| {
-        let mut advances = vec![0; glyphs.len()];
-        advances[0] = 10;
-        run(&table, 2, line(glyphs, &advances, target, size), 0).map(|answer| answer.remainder)
-    };
-    assert_eq!(of(&[0, 0, 0, 0], 10), Ok(0));
-    assert_eq!(of(&[0, 0, 0, 0, 1], 10), Err(15));
-    assert_eq!(of(&[0, 0, 0, 0, 1], 11), Err(15));
-    // Shrinking, the totals are 0, and nothing can move.
-    assert_eq!(of(&[0, 0, 0, 0, 1], 9), Ok(-1));
+    for stage in 0..4 {
+        let flags = [stage, stage];
+        let table = table_with_records(&[([limit, limit, 0, 0], flags), ([0, 1, 0, 0], flags)]);
+        let of = |glyphs: &[u16], target: i64| {
+            let mut advances = vec![0; glyphs.len()];
+            advances[0] = 10;
+            run(&table, 2, line(glyphs, &advances, target, size), 0).map(|answer| answer.remainder)
+        };
+        assert_eq!(of(&[0, 0, 0, 0], 10), Ok(0));
+        assert_eq!(of(&[0, 0, 0, 0, 1], 10), Err(15));
+        assert_eq!(of(&[0, 0, 0, 0, 1], 11), Err(15));
+        // Shrinking, the totals are 0, and nothing can move.
+        assert_eq!(of(&[0, 0, 0, 0, 1], 9), Ok(-1));
+    }
+}
+
+#[test]
+fn stage_totals_one_past_their_limit() {
+    // At this size eight sides of 16 em lack just what a last glyph adds.
+    let (full, size) = (16 << 16, 65_541_460);
+    let [at, past] = [[200_604, 7], [200_611, 0]];
+    let total = |last: [u32; 2]| 8 * factor(full, size) + factor(last[0], size) + factor(last[1], size);
+    assert_eq!((total(at), total(past)), (1 << 33, (1 << 33) + 1));
+    for stage in 0..4 {
+        let record = |[before, after]: [u32; 2]| ([before, after, before, after], [stage, stage]);
+        let table = table_with_records(&[record([full, full]), record(at), record(past)]);
+        let of = |last: u16, gap: i64| {
+            let (glyphs, advances) = ([0, 0, 0, 0, last], [0, 0, 0, 0, 10]);
+            run(&table, 3, line(&glyphs, &advances, 10 + gap, size.into()), 0).map(|answer| answer.remainder)
+        };
+        for gap in [-10, 0, 10] {
+            assert_eq!((of(1, gap), of(2, gap)), (Ok(0), Err(15)));
+        }
+    }
 }
 
 #[test]
 fn stages_in_turn() {
-    // Stage 0: 4 and 6; stage 2: 5 unlimited; priority 3 takes no part.
-    let table = table_with_records(&[
-        ([4, 6, 0, 0], [0, 3]),
-        ([0, 5, 0, 0], [0x1002, 3]),
-        ([9, 9, 0, 0], [0x1003, 3]),
-    ]);
+    // Stage 0: 4 and 6; stage 2: 5 unlimited; stage 3 is never reached.
+    let table = table_with_records(&[([4, 6, 0, 0], [0, 3]), ([0, 5, 0, 0], [0x1002, 3]), ([9, 9, 0, 0], [0x1003, 3])]);
     let of = |gap: i64| run(&table, 3, line(&[2, 0, 1], &[0, 0, 0], gap, 65_536), 0).unwrap();
     let sides = |gap: i64| (of(gap).before, of(gap).after, of(gap).remainder);
     assert_eq!(sides(0), (vec![0, 0, 0], vec![0, 0, 0], 0));
@@ -257,6 +278,65 @@ fn stages_in_turn() {
     assert_eq!(sides(11), (vec![0, 4, 0], vec![0, 6, 1], 0));
     assert_eq!(sides(15), (vec![0, 4, 0], vec![0, 6, 5], 0));
     assert_eq!(sides(100), (vec![0, 4, 0], vec![0, 6, 90], 0));
+}
+
+// Document 02, request 2/14.
+
+#[test]
+fn stage_three_comes_after_the_others() {
+    // Stages 0 to 3 with factors 4, 3, 2 and, on two sides, 1 and 5.
+    let rooms = [side(3, 1, 5), side(2, 0, 2), side(1, 0, 3), side(0, 0, 4)];
+    assert_eq!(in_order(&share(&rooms, 9)), [0, 0, 0, 2, 0, 3, 0, 4]);
+    assert_eq!(in_order(&share(&rooms, 12)), [0, 3, 0, 2, 0, 3, 0, 4]);
+    assert_eq!(in_order(&share(&rooms, 15)), [1, 5, 0, 2, 0, 3, 0, 4]);
+    // What is left goes back to stage 0, the first with a total.
+    assert_eq!(in_order(&share(&rooms, 20)), [1, 5, 0, 2, 0, 3, 0, 9]);
+    // On a line, growing and shrinking.
+    let table = table_with_records(&[([1, 5, 1, 5], [3, 3]), ([0, 4, 0, 4], [0, 0])]);
+    for sign in [1, -1] {
+        let answer = run(&table, 2, line(&[0, 1], &[50, 50], 100 + sign * 7, 65_536), 0).unwrap();
+        assert_eq!((answer.before, answer.after), (vec![0, 0], vec![sign * 3, sign * 4]));
+        let answer = run(&table, 2, line(&[0, 1], &[50, 50], 100 + sign * 12, 65_536), 0).unwrap();
+        assert_eq!((answer.before, answer.after), (vec![sign, 0], vec![sign * 5, sign * 6]));
+        assert_eq!(answer.remainder, 0);
+    }
+}
+
+#[test]
+fn stage_three_alone_is_gone_back_to() {
+    let rooms = [side(3, 2, 4), side(0, 0, 0), None];
+    assert_eq!(share(&rooms, 6), Shares { before: vec![2, 0, 0], after: vec![4, 0, 0], remainder: 0 });
+    // 10 more over 2 and 4: floor(20/6) = 3, and the rest is 7.
+    assert_eq!(share(&rooms, 16), Shares { before: vec![5, 0, 0], after: vec![11, 0, 0], remainder: 0 });
+}
+
+#[test]
+fn a_remainder_needs_four_empty_stages() {
+    let empty = [side(0, 0, 0), side(1, 0, 0), side(2, 0, 0), side(3, 0, 0), None];
+    assert_eq!(share(&empty, 5), Shares { before: vec![0; 5], after: vec![0; 5], remainder: 5 });
+    for place in 0..4 {
+        let mut rooms = empty;
+        rooms[place] = side(place as u8, 0, 1);
+        let shares = share(&rooms, 5);
+        assert_eq!((shares.after[place], shares.remainder), (5, 0));
+    }
+    // A glyph without a record takes no part still.
+    let table = table_with_records(&[([9, 9, 9, 9], [3, 3])]);
+    let answer = run(&table, 2, line(&[1, 0xFFFF], &[5, 5], 17, 65_536), 0).unwrap();
+    assert_eq!((answer.before, answer.after, answer.remainder), (vec![0; 2], vec![0; 2], 7));
+}
+
+#[test]
+fn unlimited_glyphs_of_priority_three() {
+    let open = |stage| Some(Room { stage, unlimited: true, before: 0, after: 0 });
+    assert_eq!(share(&[open(3), side(0, 0, 2), open(3)], 7).after, [2, 2, 3]);
+    // An unlimited glyph of an earlier stage takes all first.
+    assert_eq!(share(&[open(3), open(2)], 7).after, [0, 7]);
+    let table = table_with_records(&[([1, 2, 0, 0], [0x1003, 0x1003])]);
+    let answer = run(&table, 1, line(&[0, 0], &[50, 50], 111, 65_536), 0).unwrap();
+    assert_eq!((answer.before, answer.after, answer.remainder), (vec![1, 1], vec![4, 5], 0));
+    let answer = run(&table, 1, line(&[0, 0], &[50, 50], 95, 65_536), 0).unwrap();
+    assert_eq!((answer.before, answer.after, answer.remainder), (vec![0, 0], vec![-2, -3], 0));
 }
 
 #[test]

@@ -1,6 +1,6 @@
 //! Lines: a table, a line on it, and the lent lengths; some with a fault.
 
-use super::parts::Style;
+use super::parts::{Style, ALL_PRIORITIES};
 use super::rng::Rng;
 use super::tables;
 use crate::actions;
@@ -164,12 +164,24 @@ fn table_for(rng: &mut Rng, aim: Aim) -> (Vec<u8>, u32) {
         1 => rng.between(13, 300) as u32,
         _ => tables::glyph_count(rng),
     };
+    let priorities = priorities(rng, aim);
     let style = match aim {
-        Aim::Stay => Style { stays: 50, ..Style::LINE },
-        Aim::Wide => Style { wide: true, stays: 2, ..Style::LINE },
-        _ => Style { stays: rng.pick(&[0, 4, 10]), ..Style::LINE },
+        Aim::Stay => Style { stays: 50, priorities, ..Style::LINE },
+        Aim::Wide => Style { wide: true, stays: 2, priorities, ..Style::LINE },
+        _ => Style { stays: rng.pick(&[0, 4, 10]), priorities, ..Style::LINE },
     };
     (tables::sound(rng, n, style).bytes, n)
+}
+
+/// All priorities, or the null priority alone or with one other. A wide line
+/// has few, so that one stage's total may pass its cap.
+fn priorities(rng: &mut Rng, aim: Aim) -> &'static [u32] {
+    const NULL_AND_ONE: [&[u32]; 4] = [&[3], &[0, 3], &[1, 3], &[2, 3]];
+    match aim {
+        Aim::Wide => rng.pick(&[&[0, 1], &[0, 1], &[2, 3], &[3]]),
+        _ if rng.chance(60) => ALL_PRIORITIES,
+        _ => rng.pick(&NULL_AND_ONE),
+    }
 }
 
 fn glyph(rng: &mut Rng, n: u32) -> u16 {
@@ -227,15 +239,19 @@ fn choose_target(rng: &mut Rng, case: &mut LineCase, aim: Aim) {
     }
 }
 
-/// The sums of the stages' totals so far, and small steps past them.
+/// The sums of the stages' totals so far, places within each stage, and one
+/// past all of them.
 fn landmarks(case: &LineCase, grow: bool) -> Vec<i64> {
     let Ok(table) = read_table(&case.table, case.n) else { return vec![1] };
     let Some((classes, _)) = classes_of(&table, &case.line()) else { return vec![1] };
-    let totals = totals(&rooms_of(&table, &case.line(), &classes, grow)).map(|total| total as i64);
-    let (first, second) = (totals[0], totals[0] + totals[1]);
-    let third = second + totals[2];
-    let past = third + third / 2 + 7;
-    [first, second, third, past, first / 2, (first + second) / 2].map(|gap| gap.min(1 << 40)).to_vec()
+    let mut gaps = Vec::new();
+    let mut so_far = 0;
+    for total in totals(&rooms_of(&table, &case.line(), &classes, grow)) {
+        gaps.extend([so_far + total, so_far + total, so_far + total / 2]);
+        so_far += total;
+    }
+    gaps.push(so_far + so_far / 2 + 7);
+    gaps.into_iter().map(|gap| gap.min(1 << 40) as i64).collect()
 }
 
 /// Moves one limit or threshold of an action right to the growth of its glyph,

@@ -18,12 +18,16 @@ pub struct Style {
     pub wide: bool,
     /// Large parts may turn up.
     pub large: bool,
+    /// The priorities that flags choose from.
+    pub priorities: &'static [u32],
 }
 
+pub const ALL_PRIORITIES: &[u32] = &[0, 1, 2, 3];
+
 impl Style {
-    pub const PLAIN: Style = Style { dense: false, stays: 15, wide: false, large: true };
+    pub const PLAIN: Style = Style { dense: false, stays: 15, wide: false, large: true, priorities: ALL_PRIORITIES };
     pub const SMALL: Style = Style { large: false, ..Style::PLAIN };
-    pub const LINE: Style = Style { dense: true, stays: 12, wide: false, large: false };
+    pub const LINE: Style = Style { dense: true, stays: 12, ..Style::SMALL };
 }
 
 /// A lookup whose values are still choices between parts: the places of the
@@ -259,7 +263,7 @@ fn shrink(rng: &mut Rng, style: Style) -> u32 {
 
 /// Flags with any ignored bits.
 fn flags(rng: &mut Rng, style: Style) -> u32 {
-    let priority = if style.wide { rng.below(2) as u32 } else { rng.below(4) as u32 };
+    let priority = rng.pick(style.priorities);
     let unlimited = if rng.chance(25) { 0x1000 } else { 0 };
     let ignored = if rng.chance(30) { rng.u32() & 0xEFF0 } else { 0 };
     priority | unlimited | ignored
@@ -395,11 +399,7 @@ pub fn action_list(rng: &mut Rng, n: u32, style: Style) -> Draft {
 }
 
 fn action(rng: &mut Rng, draft: &mut Draft, n: u32, style: Style, last: bool) {
-    let class = if style.dense {
-        rng.pick(&[0, 0, 0, 1, 1, 2])
-    } else {
-        rng.pick(&[0, 1, 2, 3, 4, 64, 126, 127])
-    };
+    let class = if style.dense { rng.pick(&[0, 0, 0, 1, 1, 2]) } else { rng.pick(&[0, 1, 2, 3, 4, 64, 126, 127]) };
     let kind = rng.below(6) as u32;
     draft.put(Kind::ActionClass, 2, class as u32);
     draft.put(Kind::ActionKind, 2, kind);

@@ -326,7 +326,15 @@ fn miss_machine(rng: &mut Rng, side: &mut Side) -> Option<()> {
         10 => {
             let (a, b) = (any(rng, &side.entries)?, any(rng, &side.entries)?);
             side.entries.swap(a, b);
-            let swapped = |&c: &u8| if c as usize == a { b as u8 } else if c as usize == b { a as u8 } else { c };
+            let swapped = |&c: &u8| {
+                if c as usize == a {
+                    b as u8
+                } else if c as usize == b {
+                    a as u8
+                } else {
+                    c
+                }
+            };
             side.cells = side.cells.iter().map(swapped).collect();
         }
         _ => {
@@ -377,7 +385,9 @@ fn miss_cluster(rng: &mut Rng, side: &mut Side) -> Option<()> {
     let pair = any(rng, cluster)?;
     match rng.below(6) {
         0 => cluster[pair].class = rng.pick(&[128, 127, 0, 0x80 | cluster[pair].class, u32::MAX]),
-        1 => cluster[pair].limits[rng.below(4) as usize] = rng.pick(&[LIMIT, LIMIT + 1, u32::MAX, LIMIT.wrapping_neg()]),
+        1 => {
+            cluster[pair].limits[rng.below(4) as usize] = rng.pick(&[LIMIT, LIMIT + 1, u32::MAX, LIMIT.wrapping_neg()])
+        }
         2 => cluster[pair].flags[rng.below(2) as usize] = rng.pick(&[3, 4, 15, 16, 0x2000, 0x8001, 0x1003, 0x1004]),
         3 => cluster.clear(),
         4 => cluster.insert(pair, cluster[pair].clone()),
@@ -396,7 +406,8 @@ fn miss_list(rng: &mut Rng, n: u32, side: &mut Side) -> Option<()> {
     // Each type that is there is as likely as the others.
     let places = |kind: u16| {
         let lists = side.lists.iter().enumerate();
-        let all = lists.flat_map(|(at, list)| list.iter().enumerate().map(move |(number, deed)| (at, number, deed.kind)));
+        let all =
+            lists.flat_map(|(at, list)| list.iter().enumerate().map(move |(number, deed)| (at, number, deed.kind)));
         all.filter(move |&(_, _, k)| k == kind).map(|(at, number, _)| (at, number)).collect::<Vec<_>>()
     };
     let kinds: Vec<Vec<(usize, usize)>> = (0..6).map(places).filter(|found| !found.is_empty()).collect();
