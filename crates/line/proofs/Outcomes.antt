@@ -9,7 +9,7 @@ use lib.IntN.{ℤ}
 use lib.ListN.{length, take, replicate}
 use borrow.Author.Tests.{le-leb, lt-leb, leb-true, eqb-true}
 use Rattle.fields.specs.declared.Refusal.{Refusal}
-use Rattle.fields.specs.declared.Refusal.the-variants.{UnequalLengths, LongLine, ShortRoom}
+use Rattle.fields.specs.declared.Refusal.the-variants.{UnequalLengths, LongLine, PointSize, ShortRoom}
 use Rattle.fields.specs.declared.Fault.{Fault}
 use Rattle.fields.specs.declared.Fault.the-variants.{Clear, Bad}
 use Rattle.fields.specs.Faults.{_then_, rule}
@@ -160,6 +160,7 @@ module _ (t : List ℕ) (n : ℕ) (l : Line) (cs : List ℕ) (bs fs : List ℤ) 
     pub classes : length cs ≡ length (l .glyphs)
     pub before : length bs ≡ length (l .glyphs)
     pub after : length fs ≡ length (l .glyphs)
+    pub small : l .size ≤ 67108864
 
   pub input-clear : {f : Fault} → f ≡ input → f ≡ Clear → Input
   unfolding inputFault
@@ -176,6 +177,7 @@ module _ (t : List ℕ) (n : ℕ) (l : Line) (cs : List ℕ) (bs fs : List ℤ) 
         classes = eqb-true _ _ (and-right (eqb (length (l .advances)) m) (eqb (length cs) m) two);
         before = eqb-true _ _ (and-right (eqb (length (l .advances)) m && eqb (length cs) m) (eqb (length bs) m) three);
         after = eqb-true _ _ (and-right (eqb (length (l .advances)) m && eqb (length cs) m && eqb (length bs) m) (eqb (length fs) m) same);
+        small = leb-true _ _ (and-right (leb 1 (l .size)) (leb (l .size) 67108864) (rule-holds _ PointSize 0 (then-second _ _ (then-second _ _ b))));
       }
 
   pub whole-clear : {f : Fault} {room : ℕ} {answer : Settled} {cs′ : List ℕ} {bs′ fs′ : List ℤ} → f ≡ input → f ≡ Clear

@@ -225,7 +225,7 @@ fn work_out(
 ) -> Worked
     requires { ⌜
         (tableFault (now table) count ≡ Clear) × (length (now glyphs) ≤ 1024)
-        × Room (length (now glyphs)) (now held) (now befores) (now afters)
+        × Room (length (now glyphs)) (now held) (now befores) (now afters) × (size ≤ 67108864)
         ⌝ }
     ensures { λ r. ⌜
         WorkedOut (sideOf direction (meaningOf (now (table .entry)) count)) count
@@ -351,7 +351,7 @@ fn settle_in<'a, 'b>(
     requires { ⌜ (tableFault (now table) count ≡ Clear) × (length (now glyphs) ≤ 1024) ⌝ }
     requires { ⌜
         Room (length (now glyphs)) (now held) (now befores) (now afters)
-        × Room (length (now glyphs)) (now classes) (now before) (now after)
+        × Room (length (now glyphs)) (now classes) (now before) (now after) × (size ≤ 67108864)
         ⌝ }
     ensures { λ r. ⌜
         SettledIn (sideOf direction (meaningOf (now (table .entry)) count)) count

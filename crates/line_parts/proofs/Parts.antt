@@ -11,7 +11,7 @@ use lib.Signed.{nonNeg}
 use mir.Syntax.{w64}
 use mir.Val.{Fits, SFits, toZ, ofZ}
 use mir.ValLaws.{toZ-pos, toZ-ofZ}
-use native.Mathlib.Nat.{mul-le-mul-right, div-le-self}
+use native.Mathlib.Nat.{mul-le-mul}
 use native.Mathlib.Numerals.{add-one}
 use lib.ListN.{length, getD, drop, take, set, length-set, drop-of-length-le}
 use Rattle.fields.specs.declared.Fault.the-variants.{Clear}
@@ -24,7 +24,7 @@ use Rattle.units.proofs.Rounding.{near-pos}
 use Rattle.lists.specs.Codes.{All}
 use Rattle.lists.proofs.ListLaws.{all-getD}
 use Rattle.meaning.specs.Meaning.{Side}
-use Rattle.meaning.specs.Limits.{OkPair, OkCluster, OkSide, Valid}
+use Rattle.meaning.specs.Limits.{emLimit, OkPair, OkCluster, OkSide, Valid}
 use Rattle.meaning.specs.Ask.{sideOf, recordOf}
 use Rattle.actions.specs.declared.Spot.{Spot}
 use Rattle.values.specs.Values.{clusterHere}
@@ -33,7 +33,9 @@ use Rattle.table.specs.Means.{meaningOf}
 use Rattle.table_laws.proofs.Valid.{valid-meaning}
 use Rattle.table_parts.specs.Places.{clusterSpot}
 use Rattle.table_parts.proofs.Asked.{side-is, clusters-are}
-use Rattle.share.specs.Line.{Glyph, apart}
+use Rattle.share.specs.Carry.{widest}
+use Rattle.share.specs.Line.{Glyph, apart, Narrow}
+use Rattle.share.proofs.Lists.{div-mono}
 use Rattle.share.proofs.Fill.{fill-again, fill-end}
 use Rattle.lines.specs.Line.{recordFor, unitsOf, partBy, partOf, partsOf}
 use Rattle.line_parts.specs.Parts.{Small, IsSize, PartOf, Room, Laid}
@@ -76,6 +78,33 @@ pub record-is : (t : List ℕ) (n : ℕ) (d : Direction) (g c : ℕ) {s : Spot} 
 record-is t n d g c {s} e =
     ap (λ (l : List Pair). recordOf c l)
     (ap (clusterHere t) e ∙ sym (clusters-are t n d g) ∙ ap (λ (s : Side). getD (s .clusters) g []) (sym (side-is t n d)))
+
+-- ---- factors of limits of at most 16 em, at a size of at most 1,024 pt, are no wider than sharing may multiply
+
+units-narrow : (limit size : ℕ) → limit ≤ emLimit → size ≤ 67108864 → unitsOf limit size ≤ widest
+units-narrow limit size h k = div-mono 65536 (mul-le-mul h k)
+
+part-narrow : (shrink : Bool) (size : ℕ) (o : Option Pair) → Small o → size ≤ 67108864
+    → (partOf shrink size o .before ≤ widest) × (partOf shrink size o .after ≤ widest)
+part-narrow shrink size none w k = (omega arith, omega arith)
+part-narrow true size (some p) w k = (units-narrow (p .before .shrink) size (w .0 .1) k, units-narrow (p .after .shrink) size (w .1 .1) k)
+part-narrow false size (some p) w k = (units-narrow (p .before .grow) size (w .0 .0) k, units-narrow (p .after .grow) size (w .1 .0) k)
+
+more-narrow : {x : ℕ} (xs : List ℕ) → x ≤ widest → Narrow xs → Narrow (x ∷ xs)
+more-narrow xs h r zero = h
+more-narrow xs h r (suc i) = r i
+
+pub parts-narrow : (s : Side) (shrink : Bool) (size : ℕ) → ((g c : ℕ) → Small (recordFor s g c)) → size ≤ 67108864 → (gs cs : List ℕ)
+    → Narrow (map (λ (g : Glyph). g .before) (partsOf s shrink size gs cs)) × Narrow (map (λ (g : Glyph). g .after) (partsOf s shrink size gs cs))
+unfolding partsOf
+parts-narrow s shrink size w k [] cs = (λ i. omega arith, λ i. omega arith)
+parts-narrow s shrink size w k (g ∷ gs) [] = (λ i. omega arith, λ i. omega arith)
+parts-narrow s shrink size w k (g ∷ gs) (c ∷ cs) =
+    let one = part-narrow shrink size (recordFor s g c) (w g c) k in
+    let more = parts-narrow s shrink size w k gs cs in (
+      more-narrow (map (λ (g : Glyph). g .before) (partsOf s shrink size gs cs)) (one .0) (more .0),
+      more-narrow (map (λ (g : Glyph). g .after) (partsOf s shrink size gs cs)) (one .1) (more .1),
+    )
 
 -- ---- the parts in four lists
 

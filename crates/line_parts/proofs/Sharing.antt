@@ -1,40 +1,47 @@
 -- From parts that stand in four lists to a gap that is shared.
 use Prim.Native.Nat.{ℕ, _≤_}
-use mathlib.Core.Path.{_≡_, refl, sym, ap, _∙_}
+use mathlib.Core.Path.{_≡_, refl, sym, ap, _∙_, subst}
 use mathlib.Core.Bool.{Bool, true, false, cond}
 use mathlib.Core.List.{List, map}
 use native.Mathlib.Omega.{arith}
 use lib.IntN.{ℤ}
 use lib.ListN.{length, length-map}
-use Rattle.share.specs.Line.{Glyph, glyphsOf, Lent, Parts, lineLeft, lineFits, beforeMoves, afterMoves, signedOf}
+use Rattle.share.specs.Line.{Glyph, Narrow, glyphsOf, Lent, Parts, lineLeft, lineFits, beforeMoves, afterMoves, signedOf}
 use Rattle.share.proofs.Lines.{glyphsOf-parts, line-sum}
 use Rattle.line_parts.specs.declared.Shared.the-variants.{Left, Over}
 use Rattle.line_parts.specs.Parts.{Laid, SharedOut}
 
 module _ {ps : List Glyph} {ks us bs cs : List ℕ} (w : Laid ps ks us bs cs) where
+  laid-narrow : {xs : List ℕ} (f : Glyph → ℕ) → xs ≡ map f ps → Narrow (map f ps) → Narrow xs
+  laid-narrow f e n = subst Narrow (sym e) n
+
   count : {xs : List ℕ} (f : Glyph → ℕ) → xs ≡ map f ps → length xs ≡ length ps
   count f e = ap length e ∙ length-map ps f
 
-  pub laid-lent : length ps ≤ 1024 → Lent (length ks) ks us bs cs
-  laid-lent h =
+  pub laid-lent : length ps ≤ 1024 → Narrow (map (λ (g : Glyph). g .before) ps) × Narrow (map (λ (g : Glyph). g .after) ps) → Lent (length ks) ks us bs cs
+  laid-lent h n =
       let k = count (λ (g : Glyph). g .stage) (w .marks) in
       record {
         stages = refl;
         extras = count (λ (g : Glyph). g .extra) (w .extras) ∙ sym k;
         first = count (λ (g : Glyph). g .before) (w .first) ∙ sym k;
         second = count (λ (g : Glyph). g .after) (w .second) ∙ sym k;
+        low-first = laid-narrow (λ (g : Glyph). g .before) (w .first) (n .0);
+        low-second = laid-narrow (λ (g : Glyph). g .after) (w .second) (n .1);
         short = omega arith;
       }
 
   pub laid-marks : length ks ≡ length ps
   laid-marks = count (λ (g : Glyph). g .stage) (w .marks)
 
-  pub laid-parts : Parts (length ks) ks bs cs
-  laid-parts =
+  pub laid-parts : Narrow (map (λ (g : Glyph). g .before) ps) × Narrow (map (λ (g : Glyph). g .after) ps) → Parts (length ks) ks bs cs
+  laid-parts n =
       record {
         stages = refl;
         first = count (λ (g : Glyph). g .before) (w .first) ∙ sym laid-marks;
         second = count (λ (g : Glyph). g .after) (w .second) ∙ sym laid-marks;
+        low-first = laid-narrow (λ (g : Glyph). g .before) (w .first) (n .0);
+        low-second = laid-narrow (λ (g : Glyph). g .after) (w .second) (n .1);
       }
 
   pub laid-glyphs : glyphsOf ks us bs cs ≡ ps

@@ -212,7 +212,7 @@ fn share_parts(
 ) -> Shared
     requires { ⌜ (tableFault (now table) count ≡ Clear) × (length (now classes) ≡ length (now glyphs)) ⌝ }
     requires { ⌜ Room (length (now glyphs)) (now marks) (now extras) (now first) (now second) ⌝ }
-    requires { ⌜ (length (now before) ≡ length (now glyphs)) × (length (now after) ≡ length (now glyphs)) × (length (now glyphs) ≤ 1024) × (gap ≤ 1073741823) ⌝ }
+    requires { ⌜ (length (now before) ≡ length (now glyphs)) × (length (now after) ≡ length (now glyphs)) × (length (now glyphs) ≤ 1024) × (gap ≤ 1073741823) × (size ≤ 67108864) ⌝ }
     ensures { λ r. ⌜ SharedOut shrink gap (partsOf (sideOf direction (meaningOf (now (table .entry)) count)) shrink size (now (glyphs .entry)) (now (classes .entry))) (now (before .entry)) (now (after .entry)) r (now (before .exit)) (now (after .exit)) ⌝ }
 {
     lay_parts(
@@ -260,7 +260,7 @@ fn share_short(
     after: &mut [i32],
 ) -> Shared
     requires { ⌜ (tableFault (now table) count ≡ Clear) × (length (now classes) ≡ length (now glyphs)) ⌝ }
-    requires { ⌜ (length (now before) ≡ length (now glyphs)) × (length (now after) ≡ length (now glyphs)) × (length (now glyphs) ≤ 128) × (gap ≤ 1073741823) ⌝ }
+    requires { ⌜ (length (now before) ≡ length (now glyphs)) × (length (now after) ≡ length (now glyphs)) × (length (now glyphs) ≤ 128) × (gap ≤ 1073741823) × (size ≤ 67108864) ⌝ }
     ensures { λ r. ⌜ SharedOut shrink gap (partsOf (sideOf direction (meaningOf (now (table .entry)) count)) shrink size (now (glyphs .entry)) (now (classes .entry))) (now (before .entry)) (now (after .entry)) r (now (before .exit)) (now (after .exit)) ⌝ }
 {
     let n = glyphs.len();
@@ -300,7 +300,7 @@ fn share_long(
     after: &mut [i32],
 ) -> Shared
     requires { ⌜ (tableFault (now table) count ≡ Clear) × (length (now classes) ≡ length (now glyphs)) ⌝ }
-    requires { ⌜ (length (now before) ≡ length (now glyphs)) × (length (now after) ≡ length (now glyphs)) × (length (now glyphs) ≤ 1024) × (gap ≤ 1073741823) ⌝ }
+    requires { ⌜ (length (now before) ≡ length (now glyphs)) × (length (now after) ≡ length (now glyphs)) × (length (now glyphs) ≤ 1024) × (gap ≤ 1073741823) × (size ≤ 67108864) ⌝ }
     ensures { λ r. ⌜ SharedOut shrink gap (partsOf (sideOf direction (meaningOf (now (table .entry)) count)) shrink size (now (glyphs .entry)) (now (classes .entry))) (now (before .entry)) (now (after .entry)) r (now (before .exit)) (now (after .exit)) ⌝ }
 {
     let n = glyphs.len();
@@ -341,7 +341,7 @@ pub fn share_glyphs(
     after: &mut [i32],
 ) -> Shared
     requires { ⌜ (tableFault (now table) count ≡ Clear) × (length (now classes) ≡ length (now glyphs)) ⌝ }
-    requires { ⌜ (length (now before) ≡ length (now glyphs)) × (length (now after) ≡ length (now glyphs)) × (length (now glyphs) ≤ 1024) × (gap ≤ 1073741823) ⌝ }
+    requires { ⌜ (length (now before) ≡ length (now glyphs)) × (length (now after) ≡ length (now glyphs)) × (length (now glyphs) ≤ 1024) × (gap ≤ 1073741823) × (size ≤ 67108864) ⌝ }
     ensures { λ r. ⌜ SharedOut shrink gap (partsOf (sideOf direction (meaningOf (now (table .entry)) count)) shrink size (now (glyphs .entry)) (now (classes .entry))) (now (before .entry)) (now (after .entry)) r (now (before .exit)) (now (after .exit)) ⌝ }
 {
     if glyphs.len() <= 128 {

@@ -1,11 +1,12 @@
 -- The loops that hand an amount out, side by side: what holds at each turn.
 use mathlib.Core.Path.{_≡_, refl, sym, ap, _∙_}
 use mathlib.Core.List.{List, [], _∷_, _++_}
-use Prim.Native.Nat.{ℕ, _+_, _-_, _*_, _/_, _^_, _≤_, _<_}
+use Prim.Native.Nat.{ℕ, _+_, _*_, _/_, _^_, _≤_, _<_}
 use native.Mathlib.Omega.{arith}
 use native.Mathlib.Nat.{add-zero}
 use lib.ListN.{length, take, drop, getD, set, length-set}
 use Rattle.share.specs.Share.{total, plus, shareAt, sharesFrom, shares, most}
+use Rattle.share.specs.Carry.{widest}
 use Rattle.share.specs.Line.{evens, odds}
 use Rattle.share.specs.Inner.{factorsAt, extrasAt, Runs, Ready, Stepped, Moved}
 use Rattle.share.specs.declared.Running.{Running}
@@ -113,12 +114,12 @@ module _ {r t s : ℕ} {ks fs gs bs₀ cs₀ : List ℕ} {run : Running} {bs cs 
     within : g .at + x + y ≤ t
     within = omega (arith, g .left, ap total e)
 
-    pub ready-first : r ≤ 1073741823 → t ≤ most → 0 < t → Ready run x
-    ready-first h k p = ready x (g .runs) h k p (omega (arith, within))
+    pub ready-first : r ≤ 1073741823 → t ≤ most → 0 < t → x ≤ widest → Ready run x
+    ready-first h k p n = ready x (g .runs) h k p (omega (arith, within)) n
 
     module _ {one : Step} (f : Stepped run x one) where
-      pub ready-second : r ≤ 1073741823 → t ≤ most → 0 < t → Ready (one .next) y
-      ready-second h k p = ready y (f .next r t (g .at) (g .runs)) h k p within
+      pub ready-second : r ≤ 1073741823 → t ≤ most → 0 < t → y ≤ widest → Ready (one .next) y
+      ready-second h k p n = ready y (f .next r t (g .at) (g .runs)) h k p within n
 
       first-rises : one .share + r * g .at / t ≤ r * (g .at + x + y) / t
       first-rises = omega (arith, f .share r t (g .at) (g .runs), share-rises r t (g .at) x, share-rises r t (g .at + x) y)
@@ -198,8 +199,8 @@ pub record Extra (r t s : ℕ) (ks us cs₀ : List ℕ) (run : Running) (cs : Li
 
 module _ {r t s : ℕ} {ks us cs₀ : List ℕ} {run : Running} {cs : List ℕ} {i : ℕ} (g : Extra r t s ks us cs₀ run cs i) where
   module _ {x : ℕ} {todo : List ℕ} (e : extras s ks us i ≡ 0 ∷ x ∷ todo) where
-    pub ready-extra : r ≤ 1073741823 → t ≤ most → 0 < t → Ready run x
-    ready-extra h k p = ready x (g .runs) h k p (omega (arith, g .left, ap total e))
+    pub ready-extra : r ≤ 1073741823 → t ≤ most → 0 < t → x ≤ widest → Ready run x
+    ready-extra h k p n = ready x (g .runs) h k p (omega (arith, g .left, ap total e)) n
 
     module _ {one : Step} (f : Stepped run x one) where
       extra-rises : one .share + r * g .at / t ≤ r * (g .at + x) / t

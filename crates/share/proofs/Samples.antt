@@ -3,6 +3,7 @@ use mathlib.Core.Path.{_≡_, refl}
 use mathlib.Core.Bool.{Bool, true, false}
 use mathlib.Core.List.{List, [], _∷_}
 use Prim.Native.Nat.{ℕ}
+use lib.ListN.{replicate}
 use Rattle.share.specs.Share.{shares, stageMoves, stageLeft, stages, goesBack, noPart, movesBy, leftBy}
 use Rattle.share.specs.Line.{Glyph, lineMoves, beforeMoves, afterMoves, lineLeft, lineFits}
 
@@ -17,6 +18,10 @@ pub record Sample : Type 0 where
 
 abbrev glyph : ℕ → ℕ → ℕ → ℕ → Glyph
 glyph stage extra before after = record { stage = stage; extra = extra; before = before; after = after }
+
+-- four glyphs of a stage whose sides have the widest factor, 16 em at 1,024 pt: together the most that a stage's total may be
+abbrev pub eightWide : ℕ → List Glyph
+eightWide stage = replicate 4 (glyph stage 0 1073741824 1073741824)
 
 abbrev pub samples : List Sample
 samples =
@@ -41,10 +46,10 @@ samples =
     ∷ record { glyphs = glyph 0 0 0 0 ∷ glyph 1 0 0 0 ∷ glyph 2 0 0 0 ∷ glyph 3 0 0 0 ∷ []; gap = 5; fits = true; before = 0 ∷ 0 ∷ 0 ∷ 0 ∷ []; after = 0 ∷ 0 ∷ 0 ∷ 0 ∷ []; left = 5 }
     ∷ record { glyphs = glyph 0 0 0 0 ∷ glyph 1 0 0 0 ∷ glyph 2 0 0 0 ∷ glyph 3 0 0 1 ∷ []; gap = 5; fits = true; before = 0 ∷ 0 ∷ 0 ∷ 0 ∷ []; after = 0 ∷ 0 ∷ 0 ∷ 5 ∷ []; left = 0 }
     -- refusal 15 looks at stage 3
-    ∷ record { glyphs = glyph 0 0 0 3 ∷ glyph 3 0 8589934592 1 ∷ []; gap = 3; fits = false; before = 0 ∷ 0 ∷ []; after = 3 ∷ 0 ∷ []; left = 0 }
+    ∷ record { glyphs = glyph 0 0 0 3 ∷ glyph 3 0 0 1 ∷ eightWide 3; gap = 3; fits = false; before = 0 ∷ 0 ∷ 0 ∷ 0 ∷ 0 ∷ 0 ∷ []; after = 3 ∷ 0 ∷ 0 ∷ 0 ∷ 0 ∷ 0 ∷ []; left = 0 }
     -- the most that a stage's total may be, and one more in a stage that is not reached
-    ∷ record { glyphs = glyph 0 0 8589934592 0 ∷ glyph 2 0 0 1 ∷ []; gap = 3; fits = true; before = 3 ∷ 0 ∷ []; after = 0 ∷ 0 ∷ []; left = 0 }
-    ∷ record { glyphs = glyph 0 0 0 3 ∷ glyph 2 0 8589934592 1 ∷ []; gap = 3; fits = false; before = 0 ∷ 0 ∷ []; after = 3 ∷ 0 ∷ []; left = 0 }
+    ∷ record { glyphs = glyph 2 0 0 1 ∷ eightWide 0; gap = 8; fits = true; before = 0 ∷ 1 ∷ 1 ∷ 1 ∷ 1 ∷ []; after = 0 ∷ 1 ∷ 1 ∷ 1 ∷ 1 ∷ []; left = 0 }
+    ∷ record { glyphs = glyph 0 0 0 3 ∷ glyph 2 0 0 1 ∷ eightWide 2; gap = 3; fits = false; before = 0 ∷ 0 ∷ 0 ∷ 0 ∷ 0 ∷ 0 ∷ []; after = 3 ∷ 0 ∷ 0 ∷ 0 ∷ 0 ∷ 0 ∷ []; left = 0 }
     ∷ []
 
 pub record Right (s : Sample) : Type 0 where

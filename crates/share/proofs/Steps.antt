@@ -58,7 +58,7 @@ extra-some r {t} w e p = sym (ap (λ (b : Bool). cond b 0 r) (lt-ltb 0 (total w)
 
 module _ {n : ℕ} {ks us bs cs : List ℕ} (p : Lent n ks us bs cs) where
   pub lent-parts : Parts n ks bs cs
-  lent-parts = record { stages = p .stages; first = p .first; second = p .second }
+  lent-parts = record { stages = p .stages; first = p .first; second = p .second; low-first = p .low-first; low-second = p .low-second }
 
   pub stage-none : (s : ℕ) {r : ℕ} (xs ys : List ℕ) → Sides n xs ys → r ≡ 0
       → (0 ≡ stageLeft r (factorsAt s ks bs cs) (extrasAt s ks us)) × Moved (stageMoves r (factorsAt s ks bs cs) (extrasAt s ks us)) xs ys xs ys

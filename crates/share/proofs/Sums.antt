@@ -2,7 +2,7 @@
 use mathlib.Core.Path.{_≡_, refl, sym, ap, _∙_, subst}
 use mathlib.Core.List.{List, [], _∷_}
 use mathlib.Core.Bool.{Bool, true, false}
-use Prim.Native.Nat.{ℕ, zero, suc, _+_, _*_, _≤_, _<_, min}
+use Prim.Native.Nat.{ℕ, zero, suc, _+_, _*_, _≤_, _<_}
 use native.Mathlib.Omega.{arith}
 use native.Mathlib.Decide.{ℕ-discrete, decLt}
 use lib.Dec.{leb}
@@ -10,7 +10,8 @@ use lib.ListN.{length, drop, getD, set, length-set}
 use lib.Seq.{getD-set-same, getD-set-other}
 use borrow.Author.Tests.{le-leb, lt-leb}
 use Rattle.share.specs.Share.{total, most, stages, within}
-use Rattle.share.specs.Inner.{weave, factorsAt, stageCount, totalAt, Told, TotalsOf, Fit}
+use Rattle.share.specs.Carry.{widest}
+use Rattle.share.specs.Inner.{weave, factorsAt, stageCount, totalAt, TotalsOf, Fit}
 use Rattle.share.specs.declared.Totals.{Totals}
 use Rattle.share.proofs.Sides.{rest, rest-hit, rest-miss, rest-end}
 use Rattle.share.proofs.Lines.{within-on, within-over, within-end, fit-low}
@@ -26,30 +27,27 @@ total-three ts (suc (suc (suc s))) h a b d = refl
 
 -- the sum of a stage is x, and glyph i is next
 pub record Summing (s : ℕ) (ks bs cs : List ℕ) (i x : ℕ) : Type 0 where
-  pub low : x ≤ 17179869186 * i
-  pub exact : total (factorsAt s ks bs cs) ≤ most → x + total (rest s ks bs cs i) ≡ total (factorsAt s ks bs cs)
-  pub over : most < total (factorsAt s ks bs cs) → most < x + total (rest s ks bs cs i)
+  pub low : x ≤ (widest + widest) * i
+  pub left : x + total (rest s ks bs cs i) ≡ total (factorsAt s ks bs cs)
 
 module _ (s : ℕ) (ks bs cs : List ℕ) where
   summing-start : Summing s ks bs cs 0 0
-  summing-start = record { low = omega arith; exact = λ h. omega arith; over = λ h. omega arith }
+  summing-start = record { low = omega arith; left = omega arith }
 
-  -- a glyph of the stage, of factors that are cut to b and c; and another one
+  -- a glyph of the stage, and another one
   module _ {i x : ℕ} (g : Summing s ks bs cs i x) (hk : i < length ks) (hb : i < length bs) (hc : i < length cs) where
-    summing-hit : {b c : ℕ} → getD ks i 0 ≡ s → b ≡ min (getD bs i 0) (most + 1) → c ≡ min (getD cs i 0) (most + 1) → Summing s ks bs cs (i + 1) (x + (b + c))
-    summing-hit e eb ec =
+    summing-hit : getD ks i 0 ≡ s → getD bs i 0 ≤ widest → getD cs i 0 ≤ widest → Summing s ks bs cs (i + 1) (x + (getD bs i 0 + getD cs i 0))
+    summing-hit e nb nc =
         let r = ap total (rest-hit s ks bs cs i hk hb hc e) in
-        record { low = omega (arith, g .low); exact = λ h. omega (arith, g .exact h); over = λ h. omega (arith, g .over h) }
+        record { low = omega (arith, g .low); left = omega (arith, g .left) }
 
     summing-miss : (getD ks i 0 ≡ s → ⊥) → Summing s ks bs cs (i + 1) x
     summing-miss e =
         let r = ap total (rest-miss s ks bs cs i hk hb hc e) in
-        record { low = omega (arith, g .low); exact = λ h. omega (arith, g .exact h); over = λ h. omega (arith, g .over h) }
+        record { low = omega (arith, g .low); left = omega (arith, g .left) }
 
-  summing-end : {i x : ℕ} → Summing s ks bs cs i x → length ks ≤ i → Told x (total (factorsAt s ks bs cs))
-  summing-end {i} {x} g h =
-      let e = ap total (rest-end s ks bs cs i h) in
-      record { exact = λ l. omega (arith, g .exact l); over = λ l. omega (arith, g .over l) }
+  summing-end : {i x : ℕ} → Summing s ks bs cs i x → length ks ≤ i → x ≡ total (factorsAt s ks bs cs)
+  summing-end {i} {x} g h = omega (arith, g .left, ap total (rest-end s ks bs cs i h))
 
 -- the sums of the stages stand in xs, and glyph i is next
 pub record Sums (ks bs cs : List ℕ) (i : ℕ) (xs : List ℕ) : Type 0 where
@@ -68,15 +66,15 @@ module _ (ks bs cs : List ℕ) where
       go (suc (suc (suc (suc s)))) h = absurd (omega arith)
 
   module _ {i : ℕ} {xs : List ℕ} (g : Sums ks bs cs i xs) (hk : i < length ks) (hb : i < length bs) (hc : i < length cs) where
-    pub sums-on : {b c : ℕ} → getD ks i 0 < stageCount → b ≡ min (getD bs i 0) (most + 1) → c ≡ min (getD cs i 0) (most + 1)
-        → Sums ks bs cs (i + 1) (set xs (getD ks i 0) (getD xs (getD ks i 0) 0 + (b + c)))
-    sums-on {b} {c} hm eb ec = record { each = simp length-set (g .each); at = λ s h. go s h (ℕ-discrete (getD ks i 0) s) }
+    pub sums-on : getD ks i 0 < stageCount → getD bs i 0 ≤ widest → getD cs i 0 ≤ widest
+        → Sums ks bs cs (i + 1) (set xs (getD ks i 0) (getD xs (getD ks i 0) 0 + (getD bs i 0 + getD cs i 0)))
+    sums-on hm nb nc = record { each = simp length-set (g .each); at = λ s h. go s h (ℕ-discrete (getD ks i 0) s) }
       where
         m : ℕ
         m = getD ks i 0
 
         v : ℕ
-        v = getD xs m 0 + (b + c)
+        v = getD xs m 0 + (getD bs i 0 + getD cs i 0)
 
         stands : m < length xs
         stands = omega (arith, g .each)
@@ -84,8 +82,8 @@ module _ (ks bs cs : List ℕ) where
         go : (s : ℕ) → s < stageCount → Dec (m ≡ s) → Summing s ks bs cs (i + 1) (getD (set xs m v) s 0)
         go s h (yes e) =
             subst (Summing s ks bs cs (i + 1))
-            (ap (λ (n : ℕ). getD xs n 0 + (b + c)) (sym e) ∙ sym (getD-set-same xs m v 0 stands) ∙ ap (λ (n : ℕ). getD (set xs m v) n 0) e)
-            (summing-hit s ks bs cs (g .at s h) hk hb hc e eb ec)
+            (ap (λ (n : ℕ). getD xs n 0 + (getD bs i 0 + getD cs i 0)) (sym e) ∙ sym (getD-set-same xs m v 0 stands) ∙ ap (λ (n : ℕ). getD (set xs m v) n 0) e)
+            (summing-hit s ks bs cs (g .at s h) hk hb hc e nb nc)
         go s h (no e) = subst (Summing s ks bs cs (i + 1)) (sym (getD-set-other xs m s v 0 (λ q. e (sym q)))) (summing-miss s ks bs cs (g .at s h) hk hb hc e)
 
     pub sums-past : stageCount ≤ getD ks i 0 → Sums ks bs cs (i + 1) xs
@@ -95,7 +93,7 @@ module _ (ks bs cs : List ℕ) where
       → TotalsOf (record { zero = getD xs 0 0; one = getD xs 1 0; two = getD xs 2 0; three = getD xs 3 0 }) ks bs cs
   sums-end {i} {xs} g l = record { at = go }
     where
-      go : (s : ℕ) → s < stageCount → Told (totalAt (record { zero = getD xs 0 0; one = getD xs 1 0; two = getD xs 2 0; three = getD xs 3 0 }) s) (total (factorsAt s ks bs cs))
+      go : (s : ℕ) → s < stageCount → totalAt (record { zero = getD xs 0 0; one = getD xs 1 0; two = getD xs 2 0; three = getD xs 3 0 }) s ≡ total (factorsAt s ks bs cs)
       go zero h = summing-end 0 ks bs cs (g .at 0 h) l
       go (suc zero) h = summing-end 1 ks bs cs (g .at 1 h) l
       go (suc (suc zero)) h = summing-end 2 ks bs cs (g .at 2 h) l
@@ -104,35 +102,17 @@ module _ (ks bs cs : List ℕ) where
 
 -- ---- what they say
 
-module _ {x t : ℕ} (w : Told x t) where
-  pub told-over : most < x → most < t
-  told-over h = go (decLt most t)
-    where
-      go : Dec (most < t) → most < t
-      go (yes l) = l
-      go (no l) = absurd (omega (arith, w .exact (omega arith)))
-
-  pub told-low : x ≤ most → t ≤ most
-  told-low h = go (decLt most t)
-    where
-      go : Dec (most < t) → t ≤ most
-      go (yes l) = absurd (omega (arith, w .over l))
-      go (no l) = omega arith
-
 module _ {ts : Totals} {ks bs cs : List ℕ} (w : TotalsOf ts ks bs cs) where
   -- refusal 15's test goes on to the next stage, or ends
   pub fits-on : (s : ℕ) {b : Bool} → s < stageCount → totalAt ts s ≤ most → b ≡ within (weave ks ks) (weave bs cs) (drop s stages)
       → b ≡ within (weave ks ks) (weave bs cs) (drop (s + 1) stages)
-  fits-on s h l e = within-on ks bs cs {s = s} h (told-low (w .at s h) l) e
+  fits-on s h l e = within-on ks bs cs {s = s} h (omega (arith, w .at s h)) e
 
   pub fits-over : (s : ℕ) {b : Bool} → s < stageCount → most < totalAt ts s → b ≡ within (weave ks ks) (weave bs cs) (drop s stages) → false ≡ b
-  fits-over s h l e = within-over ks bs cs {s = s} h (told-over (w .at s h) l) e
+  fits-over s h l e = within-over ks bs cs {s = s} h (omega (arith, w .at s h)) e
 
   pub fit : within (weave ks ks) (weave bs cs) stages ≡ true → Fit ts ks bs cs
-  fit e = record {
-    exact = λ s h. w .at s h .exact (fit-low ks bs cs e s h);
-    low = λ s h. let l = fit-low ks bs cs e s h in omega (arith, w .at s h .exact l);
-  }
+  fit e = record { totals = w; low = λ s h. omega (arith, w .at s h, fit-low ks bs cs e s h) }
 
   pub fits-last : {b : Bool} → b ≡ within (weave ks ks) (weave bs cs) (drop 3 stages) → leb (ts .three) most ≡ b
   fits-last {b} e = go (decLt most (ts .three))

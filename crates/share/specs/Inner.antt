@@ -1,10 +1,11 @@
 -- Names for the contracts of the functions inside the crate: the sides of glyphs whose parts stand in lists, the running state of step 1's formula, and
 -- what is added to the movements.
-use Prim.Native.Nat.{ℕ, zero, suc, _+_, _*_, _/_, _≤_, _<_, _^_}
+use Prim.Native.Nat.{ℕ, zero, suc, _+_, _≤_, _<_, _^_}
 use mathlib.Core.Path.{_≡_}
 use mathlib.Core.List.{List, [], _∷_}
 use lib.ListN.{length}
 use Rattle.share.specs.Share.{total, still, plus, ofStage, shareAt, most}
+use Rattle.share.specs.Carry.{Carries, Carriable}
 use Rattle.share.specs.Line.{evens, odds}
 use Rattle.share.specs.declared.Running.{Running}
 use Rattle.share.specs.declared.Step.{Step}
@@ -31,16 +32,11 @@ extrasAt s ks us = ofStage s (weave ks ks) (weave (still us) us)
 pub record Runs (r t c : ℕ) (run : Running) : Type 0 where
   pub amount : run .amount ≡ r
   pub over : run .over ≡ t
-  pub sum : run .sum ≡ c
-  pub given : run .given ≡ r * c / t
+  pub carries : Carries r t c (run .quotient) (run .remainder)
 
 -- a side of this weight may come next
-pub record Ready (run : Running) (weight : ℕ) : Type 0 where
-  pub amount : run .amount ≤ 1073741823
-  pub over : run .over ≤ most
-  pub room : run .sum + weight ≤ run .over
-  pub some : 0 < run .over
-  pub given : run .given ≡ run .amount * run .sum / run .over
+abbrev pub Ready : Running → ℕ → Type 0
+Ready run weight = Carriable (run .amount) (run .over) weight (run .quotient) (run .remainder)
 
 -- the side's share, and the state after it
 pub record Stepped (run : Running) (weight : ℕ) (step : Step) : Type 0 where
@@ -76,17 +72,12 @@ totalAt ts (suc zero) = ts .one
 totalAt ts (suc (suc zero)) = ts .two
 totalAt ts (suc (suc (suc s))) = ts .three
 
--- what is found of a total: itself where it is no more than it may be, else some number above that
-pub record Told (found sum : ℕ) : Type 0 where
-  pub exact : sum ≤ most → found ≡ sum
-  pub over : most < sum → most < found
-
 pub record TotalsOf (ts : Totals) (ks bs cs : List ℕ) : Type 0 where
-  pub at : (s : ℕ) → s < stageCount → Told (totalAt ts s) (total (factorsAt s ks bs cs))
+  pub at : (s : ℕ) → s < stageCount → totalAt ts s ≡ total (factorsAt s ks bs cs)
 
 -- these are the totals, and none is above the most that it may be
 pub record Fit (ts : Totals) (ks bs cs : List ℕ) : Type 0 where
-  pub exact : (s : ℕ) → s < stageCount → totalAt ts s ≡ total (factorsAt s ks bs cs)
+  pub totals : TotalsOf ts ks bs cs
   pub low : (s : ℕ) → s < stageCount → totalAt ts s ≤ most
 
 -- the whole rule on lists of glyphs

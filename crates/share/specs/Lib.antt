@@ -1,3 +1,4 @@
 pub mod Share
+pub mod Carry
 pub mod Line
 pub mod Inner

@@ -4,9 +4,10 @@ use Prim.Native.Nat.{ℕ, _≤_}
 use mathlib.Core.Path.{_≡_}
 use mathlib.Core.Bool.{Bool, true, false, _&&_}
 use mathlib.Core.List.{List, [], _∷_}
-use lib.ListN.{length}
+use lib.ListN.{length, getD}
 use lib.IntN.{ℤ, pos, negℤ, _+ℤ_}
 use Rattle.share.specs.Share.{stages, noPart, movements, remainder, within, empty}
+use Rattle.share.specs.Carry.{widest}
 
 -- a glyph's part: its stage mark, 1 where it is unlimited and else 0, and the factors of its two sides
 pub record Glyph : Type 0 where
@@ -84,15 +85,23 @@ glyphsOf (k ∷ ks) (u ∷ us) [] cs = []
 glyphsOf (k ∷ ks) (u ∷ us) (b ∷ bs) [] = []
 glyphsOf (k ∷ ks) (u ∷ us) (b ∷ bs) (c ∷ cs) = record { stage = k; extra = u; before = b; after = c } ∷ glyphsOf ks us bs cs
 
+-- no factor is wider than sharing may multiply
+abbrev pub Narrow : List ℕ → Type 0
+Narrow fs = (i : ℕ) → getD fs i 0 ≤ widest
+
 -- lists of n glyphs: their stage marks and factors; and these with their extra weights, of no more glyphs than a line may have
 pub record Parts (n : ℕ) (ks bs cs : List ℕ) : Type 0 where
   pub stages : length ks ≡ n
   pub first : length bs ≡ n
   pub second : length cs ≡ n
+  pub low-first : Narrow bs
+  pub low-second : Narrow cs
 
 pub record Lent (n : ℕ) (ks us bs cs : List ℕ) : Type 0 where
   pub stages : length ks ≡ n
   pub extras : length us ≡ n
   pub first : length bs ≡ n
   pub second : length cs ≡ n
+  pub low-first : Narrow bs
+  pub low-second : Narrow cs
   pub short : n ≤ 1024

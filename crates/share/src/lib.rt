@@ -2,12 +2,13 @@
 // `signed` alone. A line is four slices with an element for each glyph: its stage mark, 1 where it is unlimited and else 0, and the
 // factors of its before and its after side. A mark that is no stage, as 255, takes no part.
 ghost use mathlib.Core.Path.{_≡_};
-ghost use Prim.Native.Nat.{ℕ, _+_, _≤_, _<_, _^_, min};
+ghost use Prim.Native.Nat.{ℕ, _+_, _*_, _≤_, _<_, _^_};
 ghost use lib.ListN.{length, replicate};
 ghost use lib.Dec.{ltb};
 ghost use mathlib.Core.Bool.{true, cond};
 ghost use mathlib.Core.List.{List, map};
 ghost use Rattle.share.specs.Share.{total, most, plus, shares, stages, stageMoves, stageLeft, stagesMoves, stagesLeft, backMoves, backLeft, movements, remainder};
+ghost use Rattle.share.specs.Carry.{widest, Carriable, CarriedOn};
 ghost use Rattle.share.specs.Line.{evens, odds, glyphsOf, lineLeft, lineFits, beforeMoves, afterMoves, signedOf, Parts, Lent};
 ghost use Rattle.share.specs.Inner.{weave, factorsAt, extrasAt, lineOf, Runs, Ready, Stepped, Moved, Holds, Sides, stageCount, totalAt, TotalsOf, Fit};
 
@@ -17,13 +18,13 @@ const MOST: u64 = 8589934592;
 // The stages are 0 to STAGES - 1.
 const STAGES: u8 = 4;
 
-// Step 1's formula on its way from side to side: the amount, the total that it is shared over, the running total, and what the
-// sides so far have been given.
+// Step 1's formula on its way from side to side: the amount, the total that it is shared over, and the quotient and remainder of
+// the amount times the running total, by that total. The quotient is what the sides so far have been given.
 pub struct Running {
     pub amount: u64,
     pub over: u64,
-    pub sum: u64,
-    pub given: u64,
+    pub quotient: u64,
+    pub remainder: u64,
 }
 
 // A side's share, and the state after it.
@@ -39,8 +40,44 @@ fn start(amount: u64, over: u64) -> Running
     Running {
         amount,
         over,
-        sum: 0,
-        given: 0,
+        quotient: 0,
+        remainder: 0,
+    }
+}
+
+// The one product of sharing: of two 32-bit numbers, so that no machine needs to multiply wider ones.
+fn product(amount: u32, weight: u32) -> u64
+    requires { ⌜ (amount ≤ widest) × (weight ≤ widest) ⌝ }
+    ensures { λ r. ⌜ r ≡ amount * weight ⌝ }
+{
+    (amount as u64) * (weight as u64)
+}
+
+// What is carried past a side.
+pub struct Carried {
+    pub quotient: u64,
+    pub remainder: u64,
+}
+
+// One side's step over plain numbers, for every total from 1 to 4,611,686,018,427,387,904: the amount times the running total may
+// be far too wide, and is never worked out. The side's own product is divided, not its sum with the remainder, so that a machine
+// need not end one side's division before it begins the next one's.
+pub fn carry_on(amount: u64, over: u64, weight: u64, quotient: u64, remainder: u64) -> Carried
+    requires { ⌜ Carriable amount over weight quotient remainder ⌝ }
+    ensures { λ r. ⌜ CarriedOn amount over weight quotient remainder (r .quotient) (r .remainder) ⌝ }
+{
+    let own = product(amount as u32, weight as u32);
+    let whole = quotient + own / over;
+    let sum = remainder + own % over;
+    if sum < over {
+        return Carried {
+            quotient: whole,
+            remainder: sum,
+        };
+    }
+    Carried {
+        quotient: whole + 1,
+        remainder: sum - over,
     }
 }
 
@@ -55,20 +92,19 @@ fn next_share(run: Running, weight: u64) -> Step
             next: run,
         };
     }
-    let sum = run.sum + weight;
-    let given = run.amount * sum / run.over;
+    let next = carry_on(run.amount, run.over, weight, run.quotient, run.remainder);
     Step {
-        share: given - run.given,
+        share: next.quotient - run.quotient,
         next: Running {
             amount: run.amount,
             over: run.over,
-            sum,
-            given,
+            quotient: next.quotient,
+            remainder: next.remainder,
         },
     }
 }
 
-// The totals of a line's stages 0 to 3. In the place of one above the most that it may be stands some number above that.
+// The totals of a line's stages 0 to 3.
 pub struct Totals {
     pub zero: u64,
     pub one: u64,
@@ -93,15 +129,7 @@ fn total_of(totals: Totals, stage: u8) -> u64
     totals.three
 }
 
-// A factor, or one more than the most that a stage's total may be where it is above that: enough for refusal 15, and the sums
-// of a line's factors stay small.
-fn cut(factor: u64) -> u64
-    ensures { λ r. ⌜ r ≡ min factor (most + 1) ⌝ }
-{
-    if MOST < factor { MOST + 1 } else { factor }
-}
-
-// The totals of a line's stages.
+// The totals of a line's stages. Two factors a glyph, none above 1,073,741,824, and 1,024 glyphs: no sum passes 2 to the power 41.
 pub fn line_totals(marks: &[u8], first: &[u64], second: &[u64]) -> Totals
     requires { ⌜ Parts (length (now marks)) (now marks) (now first) (now second) × (length (now marks) ≤ 1024) ⌝ }
     ensures { λ r. ⌜ TotalsOf r (now (marks .entry)) (now (first .entry)) (now (second .entry)) ⌝ }
@@ -111,7 +139,7 @@ pub fn line_totals(marks: &[u8], first: &[u64], second: &[u64]) -> Totals
     while i < marks.len() {
         let stage = marks[i];
         if stage < STAGES {
-            sums[stage as usize] += cut(first[i]) + cut(second[i]);
+            sums[stage as usize] += first[i] + second[i];
             i += 1;
         } else {
             i += 1;

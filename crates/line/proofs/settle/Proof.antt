@@ -60,7 +60,7 @@ settle-in-requires c κs =
     let a = c .before .before .before .before .before .before .before .before .before .before .before .before .args in
     let n = length (a .glyphs .now) in
     let i = input-clear (a .table .now) (a .count) (lineBy (a .direction) (a .starts) (a .ends) (a .size) (a .glyphs .now) (a .advances .now) (a .target)) (a .classes .now) (a .before .now) (a .after .now) (c .before .before .before .before .before .before .before .before .input-fault .ensures) (c .before .before .before .before .before .before .enum-told .given .1) in
-    ((i .accepted, i .short), (record { classes = sym (prefix-length 0 1024 n (i .short)); before = sym (prefix-length (pos 0) 1024 n (i .short)); after = sym (prefix-length (pos 0) 1024 n (i .short)) }, record { classes = i .classes; before = i .before; after = i .after }))
+    ((i .accepted, i .short), (record { classes = sym (prefix-length 0 1024 n (i .short)); before = sym (prefix-length (pos 0) 1024 n (i .short)); after = sym (prefix-length (pos 0) 1024 n (i .short)) }, record { classes = i .classes; before = i .before; after = i .after }, i .small))
 
 same-length : tie.Need-same-length
 same-length c = search needs

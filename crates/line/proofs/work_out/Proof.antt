@@ -62,7 +62,7 @@ share-glyphs-requires c κs =
     let p = c .before .before .before .before .before .before .before .before .before .before .before .before .before .before .before .before .before .before .before .before .pre in
     let l = lineBy (a .direction) (a .starts) (a .ends) (a .size) (a .glyphs .now) (a .advances .now) (a .target) in
     let w = walk-ended (sideOf (a .direction) (meaningOf (a .table .now) (a .count)) .machine) l (c .before .before .before .before .before .before .before .before .before .before .line-walk .result) (c .before .before .before .before .before .before .before .before .before .before .line-walk .ensures) (c .before .before .before .before .before .before .before .before .before .if2 .taken) in
-    ((p .0, ap length (c .before .before .before .before .before .copy-classes .ensures ∙ w .classes) ∙ w .each), (p .2 .before, p .2 .after, p .1, gap-found l (as-read (a .target) (c .before .before .before .before .before .before .before .before .before .before .before .before .before .before .before .before .before .before .before .before .fits .target .sfits)) (c .before .before .before .before .before .before .before .before .before .before .before .before .before .before .shrinks .given .0 .0) (c .before .before .before .before .before .before .before .before .before .before .before .before .before .before .shrinks .given .0 .1 .0) (sym (c .before .before .before .before .before .before .before .before .before .before .before .before .before .before .before .before .gap-of .ensures) ∙ c .before .before .before .before .before .before .before .before .before .before .before .before .before .before .shrinks .given .1) .small))
+    ((p .0, ap length (c .before .before .before .before .before .copy-classes .ensures ∙ w .classes) ∙ w .each), (p .2 .before, p .2 .after, p .1, gap-found l (as-read (a .target) (c .before .before .before .before .before .before .before .before .before .before .before .before .before .before .before .before .before .before .before .before .fits .target .sfits)) (c .before .before .before .before .before .before .before .before .before .before .before .before .before .before .shrinks .given .0 .0) (c .before .before .before .before .before .before .before .before .before .before .before .before .before .before .shrinks .given .0 .1 .0) (sym (c .before .before .before .before .before .before .before .before .before .before .before .before .before .before .before .before .gap-of .ensures) ∙ c .before .before .before .before .before .before .before .before .before .before .before .before .before .before .shrinks .given .1) .small, p .3))
 
 enum-known-shared : tie.Need-enum-known-shared
 enum-known-shared c = search needs

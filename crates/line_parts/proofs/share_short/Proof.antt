@@ -36,7 +36,7 @@ share-parts-requires c κs =
     let p = c .before .before .before .before .before .before .before .before .before .pre in
     let n = length (c .before .before .before .before .before .before .before .before .before .args .glyphs .now) in
     let z = sym (zeros-length 128 n (p .1 .2)) in
-    (p .0, (record { marks = z; extras = z; first = z; second = z }, (p .1 .0, p .1 .1, omega arith, p .1 .3)))
+    (p .0, (record { marks = z; extras = z; first = z; second = z }, (p .1 .0, p .1 .1, omega arith, p .1 .3, p .1 .4)))
 
 same-length : tie.Need-same-length
 same-length c = search needs

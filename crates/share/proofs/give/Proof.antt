@@ -44,7 +44,7 @@ next-share-requires : tie.Need-next-share-requires Inv-loop μ-loop
 next-share-requires c κs = let a = c .before .before .before .before .before .before .before .before .before .before .before .before .args in
     let l = c .before .before .before .before .loop in
     let p = c .before .before .before .before .before .before .before .before .before .before .before .before .pre in
-    ready-first (l .inv .1) (rest-hit (a .stage) (a .marks .now) (a .first .now) (a .second .now) (l .i) (omega arith) (omega arith) (omega arith) (c .before .if2 .taken)) (p .1 .0 .small) (p .1 .2) (omega arith)
+    ready-first (l .inv .1) (rest-hit (a .stage) (a .marks .now) (a .first .now) (a .second .now) (l .i) (omega arith) (omega arith) (omega arith) (c .before .if2 .taken)) (p .1 .0 .small) (p .1 .2) (omega arith) (p .0 .0 .low-first (l .i))
 
 mul-next-share-2 : tie.Need-mul-next-share-2 Inv-loop μ-loop
 mul-next-share-2 c = omega arith
@@ -56,7 +56,7 @@ next-share-requires-2 : tie.Need-next-share-requires-2 Inv-loop μ-loop
 next-share-requires-2 c κs = let a = c .before .before .before .before .before .before .before .before .before .before .before .before .before .before .before .args in
     let l = c .before .before .before .before .before .before .before .loop in
     let p = c .before .before .before .before .before .before .before .before .before .before .before .before .before .before .before .pre in
-    ready-second (l .inv .1) (rest-hit (a .stage) (a .marks .now) (a .first .now) (a .second .now) (l .i) (omega arith) (omega arith) (omega arith) (c .before .before .before .before .if2 .taken)) (c .before .before .next-share .ensures) (p .1 .0 .small) (p .1 .2) (omega arith)
+    ready-second (l .inv .1) (rest-hit (a .stage) (a .marks .now) (a .first .now) (a .second .now) (l .i) (omega arith) (omega arith) (omega arith) (c .before .before .before .before .if2 .taken)) (c .before .before .next-share .ensures) (p .1 .0 .small) (p .1 .2) (omega arith) (p .0 .0 .low-second (l .i))
 
 mul-before : tie.Need-mul-before Inv-loop μ-loop
 mul-before c = let t = c .before .before .before .before .before .before .before .loop-test .taken in

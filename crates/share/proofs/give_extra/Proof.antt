@@ -36,7 +36,7 @@ next-share-requires : tie.Need-next-share-requires Inv-loop μ-loop
 next-share-requires c κs = let a = c .before .before .before .before .before .before .before .before .before .args in
     let l = c .before .before .before .before .loop in
     let p = c .before .before .before .before .before .before .before .before .before .pre in
-    ready-extra (l .inv .1) (extras-hit (a .stage) (a .marks .now) (a .extras .now) (l .i) (omega arith) (omega arith) (c .before .if1 .taken)) (p .1 .0) (p .1 .3) (p .1 .4)
+    ready-extra (l .inv .1) (extras-hit (a .stage) (a .marks .now) (a .extras .now) (l .i) (omega arith) (omega arith) (c .before .if1 .taken)) (p .1 .0) (p .1 .3) (p .1 .4) (omega (arith, c .shared-slice-known4 .given (l .i)))
 
 mul-after : tie.Need-mul-after Inv-loop μ-loop
 mul-after c = let t = c .before .before .before .before .loop-test .taken in

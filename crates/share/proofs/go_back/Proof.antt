@@ -36,7 +36,7 @@ give-requires c κs = let p = c .before .before .before .before .before .before 
     let yl = ap length (g .after) in
     let xt = ap total (g .before) in
     let yt = ap total (g .after) in
-    ((p .0 .0, record { before = omega arith; after = omega arith }), (record { small = p .1 .0 .small; before = omega arith; after = omega arith }, e ∙ p .1 .1 .exact (l .stage) (omega (arith, h)), omega (arith, e, p .1 .1 .low (l .stage) (omega (arith, h)))))
+    ((p .0 .0, record { before = omega arith; after = omega arith }), (record { small = p .1 .0 .small; before = omega arith; after = omega arith }, e ∙ p .1 .1 .totals .at (l .stage) (omega (arith, h)), omega (arith, e, p .1 .1 .low (l .stage) (omega (arith, h)))))
 
 same-length : tie.Need-same-length Inv-loop μ-loop
 same-length c = let e = ap length (c .before .before .before .before .before .before .before .before .before .before .loop .inv .1 .before) in search needs
@@ -47,7 +47,7 @@ same-length-2 c = let e = ap length (c .before .before .before .before .before .
 returns-2 : tie.Need-returns-2 Inv-loop μ-loop
 returns-2 c = let l = c .before .before .before .before .before .before .before .before .before .before .loop in
     let h = c .before .before .before .before .before .before .before .before .before .loop-test .taken in
-    backing-found (l .inv .1) (omega (arith, h)) (c .before .before .before .before .before .before .before .before .total-of .ensures ∙ c .before .before .before .before .before .before .before .before .before .before .before .before .before .before .before .before .before .pre .1 .1 .exact (l .stage) (omega (arith, h))) (c .before .before .before .before .before .before .before .if2 .taken) (c .before .before .before .before .give .ensures)
+    backing-found (l .inv .1) (omega (arith, h)) (c .before .before .before .before .before .before .before .before .total-of .ensures ∙ c .before .before .before .before .before .before .before .before .before .before .before .before .before .before .before .before .before .pre .1 .1 .totals .at (l .stage) (omega (arith, h))) (c .before .before .before .before .before .before .before .if2 .taken) (c .before .before .before .before .give .ensures)
 
 add-stage : tie.Need-add-stage Inv-loop μ-loop
 add-stage c = omega arith
@@ -58,7 +58,7 @@ loop-less c = omega arith
 loop-again : tie.Need-loop-again Inv-loop μ-loop
 loop-again c = let l = c .before .before .before .loop in
     let h = c .before .before .loop-test .taken in
-    (omega arith, backing-on (l .inv .1) (omega (arith, h)) (c .before .total-of .ensures ∙ c .before .before .before .before .before .before .before .before .before .before .pre .1 .1 .exact (l .stage) (omega (arith, h))) (c .if2 .left))
+    (omega arith, backing-on (l .inv .1) (omega (arith, h)) (c .before .total-of .ensures ∙ c .before .before .before .before .before .before .before .before .before .before .pre .1 .1 .totals .at (l .stage) (omega (arith, h))) (c .if2 .left))
 
 same-length-3 : tie.Need-same-length-3 Inv-loop μ-loop
 same-length-3 c = let e = ap length (c .before .loop .inv .1 .before) in omega arith

@@ -1,7 +1,7 @@
+-- `share::line_totals` meets its contract.
 use lib.ListN.{length, getD}
 use Prim.Native.Nat.{_-_, _≤_}
 use native.Mathlib.Omega.{arith}
-use borrow.Author.Needs.{needs}
 use Rattle.share.proofs.Sums.{Sums, sums-start, sums-on, sums-past, sums-end}
 use Rattle.share.proofs.line_totals.Statement.{statement}
 use Rattle.share.proofs.line_totals.Tie as tie
@@ -13,46 +13,44 @@ abbrev μ-loop : tie.MeasureT-loop
 μ-loop marks first second sums₀ i₀ sums i = length marks - i
 
 loop-holds : tie.Need-loop-holds Inv-loop μ-loop
-loop-holds c = let a = c .before .before .before .args in (omega arith, sums-start (a .marks .now) (a .first .now) (a .second .now))
+loop-holds c = let a = c .args in (omega arith, sums-start (a .marks .now) (a .first .now) (a .second .now))
 
 shared-slice-read-stage : tie.Need-shared-slice-read-stage Inv-loop μ-loop
 shared-slice-read-stage c = omega arith
 
-mul-cut : tie.Need-mul-cut Inv-loop μ-loop
-mul-cut c = omega arith
+mul-sums : tie.Need-mul-sums Inv-loop μ-loop
+mul-sums c = omega arith
 
-shared-slice-read-cut : tie.Need-shared-slice-read-cut Inv-loop μ-loop
-shared-slice-read-cut c = omega arith
+shared-slice-read-sums : tie.Need-shared-slice-read-sums Inv-loop μ-loop
+shared-slice-read-sums c = omega arith
 
-cut-requires : tie.Need-cut-requires Inv-loop μ-loop
-cut-requires c κs = search needs
+mul-sums-2 : tie.Need-mul-sums-2 Inv-loop μ-loop
+mul-sums-2 c = omega arith
 
-mul-cut-2 : tie.Need-mul-cut-2 Inv-loop μ-loop
-mul-cut-2 c = omega arith
-
-shared-slice-read-cut-2 : tie.Need-shared-slice-read-cut-2 Inv-loop μ-loop
-shared-slice-read-cut-2 c = omega arith
-
-cut-requires-2 : tie.Need-cut-requires-2 Inv-loop μ-loop
-cut-requires-2 c κs = search needs
+shared-slice-read-sums-2 : tie.Need-shared-slice-read-sums-2 Inv-loop μ-loop
+shared-slice-read-sums-2 c = omega arith
 
 add-sums : tie.Need-add-sums Inv-loop μ-loop
-add-sums c = omega (arith, c .before .before .cut .ensures, c .cut2 .ensures)
+add-sums c = let i = c .before .before .before .before .before .loop .i in
+    let p = c .before .before .before .before .before .before .pre .0 in
+    omega (arith, p .low-first i, p .low-second i)
 
 cast-sums : tie.Need-cast-sums Inv-loop μ-loop
 cast-sums c = omega arith
 
-mul-sums : tie.Need-mul-sums Inv-loop μ-loop
-mul-sums c = omega arith
+mul-sums-3 : tie.Need-mul-sums-3 Inv-loop μ-loop
+mul-sums-3 c = omega arith
 
 array-read-sums : tie.Need-array-read-sums Inv-loop μ-loop
-array-read-sums c = omega (arith, c .before .before .before .before .before .before .before .loop .inv .1 .each, c .before .before .before .before .if1 .taken)
+array-read-sums c = omega (arith, c .before .before .before .before .before .loop .inv .1 .each, c .before .before .if1 .taken)
 
 add-sums-2 : tie.Need-add-sums-2 Inv-loop μ-loop
-add-sums-2 c = omega (arith, c .before .before .cut .ensures, c .cut2 .ensures, c .before .before .before .before .before .before .before .loop .inv .1 .at (getD (c .before .before .before .before .before .before .before .before .before .before .before .args .marks .now) (c .before .before .before .before .before .before .before .loop .i) 0) (omega (arith, c .before .before .before .before .if1 .taken)) .low)
+add-sums-2 c = let l = c .before .before .before .before .before .loop in
+    let p = c .before .before .before .before .before .before .pre .0 in
+    omega (arith, p .low-first (l .i), p .low-second (l .i), l .inv .1 .at (getD (c .before .before .before .before .before .before .args .marks .now) (l .i) 0) (omega (arith, c .before .before .if1 .taken)) .low)
 
 array-write-sums : tie.Need-array-write-sums Inv-loop μ-loop
-array-write-sums c = omega (arith, c .before .before .before .before .before .before .before .loop .inv .1 .each, c .before .before .before .before .if1 .taken)
+array-write-sums c = omega (arith, c .before .before .before .before .before .loop .inv .1 .each, c .before .before .if1 .taken)
 
 add-i : tie.Need-add-i Inv-loop μ-loop
 add-i c = omega arith
@@ -61,9 +59,10 @@ loop-less : tie.Need-loop-less Inv-loop μ-loop
 loop-less c = omega arith
 
 loop-again : tie.Need-loop-again Inv-loop μ-loop
-loop-again c = let a = c .before .before .before .before .before .before .before .before .before .before .before .args in
-    let l = c .before .before .before .before .before .before .before .loop in
-    (omega arith, sums-on (a .marks .now) (a .first .now) (a .second .now) (l .inv .1) (omega arith) (omega arith) (omega arith) (omega (arith, c .before .before .before .before .if1 .taken)) (c .before .before .cut .ensures) (c .cut2 .ensures))
+loop-again c = let a = c .before .before .before .before .before .before .args in
+    let p = c .before .before .before .before .before .before .pre .0 in
+    let l = c .before .before .before .before .before .loop in
+    (omega arith, sums-on (a .marks .now) (a .first .now) (a .second .now) (l .inv .1) (omega arith) (omega arith) (omega arith) (omega (arith, c .before .before .if1 .taken)) (p .low-first (l .i)) (p .low-second (l .i)))
 
 add-i-2 : tie.Need-add-i-2 Inv-loop μ-loop
 add-i-2 c = omega arith
@@ -72,24 +71,24 @@ loop-less-2 : tie.Need-loop-less-2 Inv-loop μ-loop
 loop-less-2 c = omega arith
 
 loop-again-2 : tie.Need-loop-again-2 Inv-loop μ-loop
-loop-again-2 c = let a = c .before .before .before .before .before .before .before .args in
+loop-again-2 c = let a = c .before .before .before .before .args in
     let l = c .before .before .before .loop in
     (omega arith, sums-past (a .marks .now) (a .first .now) (a .second .now) (l .inv .1) (omega arith) (omega arith) (omega arith) (omega (arith, c .if1 .left)))
 
-array-read-t28 : tie.Need-array-read-t28 Inv-loop μ-loop
-array-read-t28 c = omega (arith, c .before .loop .inv .1 .each)
+array-read-t26 : tie.Need-array-read-t26 Inv-loop μ-loop
+array-read-t26 c = omega (arith, c .before .loop .inv .1 .each)
 
-array-read-t31 : tie.Need-array-read-t31 Inv-loop μ-loop
-array-read-t31 c = omega (arith, c .before .loop .inv .1 .each)
+array-read-t29 : tie.Need-array-read-t29 Inv-loop μ-loop
+array-read-t29 c = omega (arith, c .before .loop .inv .1 .each)
 
-array-read-t34 : tie.Need-array-read-t34 Inv-loop μ-loop
-array-read-t34 c = omega (arith, c .before .loop .inv .1 .each)
+array-read-t32 : tie.Need-array-read-t32 Inv-loop μ-loop
+array-read-t32 c = omega (arith, c .before .loop .inv .1 .each)
 
-array-read-t37 : tie.Need-array-read-t37 Inv-loop μ-loop
-array-read-t37 c = omega (arith, c .before .loop .inv .1 .each)
+array-read-t35 : tie.Need-array-read-t35 Inv-loop μ-loop
+array-read-t35 c = omega (arith, c .before .loop .inv .1 .each)
 
 returns : tie.Need-returns Inv-loop μ-loop
-returns c = let a = c .before .before .before .before .before .args in
+returns c = let a = c .before .before .args in
     sums-end (a .marks .now) (a .first .now) (a .second .now) (c .before .loop .inv .1) (omega arith)
 
 pub line-totals-spec : {M : Type 1} → statement M
@@ -100,15 +99,13 @@ line-totals-spec =
     μ-loop
     loop-holds
     shared-slice-read-stage
-    mul-cut
-    shared-slice-read-cut
-    cut-requires
-    mul-cut-2
-    shared-slice-read-cut-2
-    cut-requires-2
+    mul-sums
+    shared-slice-read-sums
+    mul-sums-2
+    shared-slice-read-sums-2
     add-sums
     cast-sums
-    mul-sums
+    mul-sums-3
     array-read-sums
     add-sums-2
     array-write-sums
@@ -118,8 +115,8 @@ line-totals-spec =
     add-i-2
     loop-less-2
     loop-again-2
-    array-read-t28
-    array-read-t31
-    array-read-t34
-    array-read-t37
+    array-read-t26
+    array-read-t29
+    array-read-t32
+    array-read-t35
     returns)

@@ -26,7 +26,7 @@ share-stage-requires c κs = let l = c .before .before .before .before .loop in
     let d = g .sides in
     let h = c .before .before .before .loop-test .taken in
     let e = c .before .before .total-of .ensures in
-    ((p .0 .0, d), (record { small = omega arith; before = omega arith; after = omega arith }, e ∙ p .1 .1 .exact (l .stage) (omega (arith, h)), omega (arith, e, p .1 .1 .low (l .stage) (omega (arith, h)))))
+    ((p .0 .0, d), (record { small = omega arith; before = omega arith; after = omega arith }, e ∙ p .1 .1 .totals .at (l .stage) (omega (arith, h)), omega (arith, e, p .1 .1 .low (l .stage) (omega (arith, h)))))
 
 add-stage : tie.Need-add-stage Inv-loop μ-loop
 add-stage c = omega arith
