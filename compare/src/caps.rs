@@ -3,7 +3,7 @@
 use crate::drafts;
 use crate::questions::Questions;
 use reference::generate::LineCase;
-use reference::line::{MOST_SIZE, MOST_TOTAL};
+use reference::line::{MOST_SIZE, MOST_TOTAL, MOST_WIDTH};
 use reference::meaning::LIMIT;
 use reference::share::STAGES;
 use reference::{factor, WidthRecord};
@@ -40,6 +40,22 @@ fn shape(total: u64, asked: &mut Questions) -> (u32, u64, (u32, u32)) {
     }
 }
 
+/// Advances and a target for a gap of 0 to 99, or for the widest that there is.
+fn widths(places: usize, grow: bool, asked: &mut Questions) -> (Vec<i64>, i64) {
+    let mut advances: Vec<i64> = (0..places).map(|_| asked.below(1_000) as i64 + 1).collect();
+    let sum: i64 = advances.iter().sum();
+    let (widest, gap) = (asked.below(3) == 0, asked.below(100) as i64);
+    match (grow, widest) {
+        (true, true) => (vec![0; places], MOST_WIDTH),
+        (true, false) => (advances, sum + gap),
+        (false, true) => {
+            advances[0] += MOST_WIDTH - sum;
+            (advances, 0)
+        }
+        (false, false) => (advances, (sum - 1 - gap).max(0)),
+    }
+}
+
 /// A line whose total in one stage is within one of the cap.
 pub fn draw(asked: &mut Questions) -> LineCase {
     let (size, copies, limits) = shape(MOST_TOTAL - 1 + asked.below(3), asked);
@@ -55,9 +71,6 @@ pub fn draw(asked: &mut Questions) -> LineCase {
     for end in (1..glyphs.len()).rev() {
         glyphs.swap(end, asked.below(end as u64 + 1) as usize);
     }
-    let advances: Vec<i64> = glyphs.iter().map(|_| asked.below(1_000) as i64 + 1).collect();
-    let gap = asked.below(100) as i64;
-    let sum: i64 = advances.iter().sum();
-    let target = if grow { sum + gap } else { (sum - 1 - gap).max(0) };
+    let (advances, target) = widths(glyphs.len(), grow, asked);
     LineCase { size: size.into(), advances, target, ..drafts::line(drafts::table(&records, &[], &[]), 3, glyphs) }
 }

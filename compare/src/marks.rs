@@ -3,7 +3,7 @@
 use crate::edges;
 use crate::tally::Tally;
 use reference::generate::LineCase;
-use reference::line::{classes_of, rooms_of, MOST_TOTAL};
+use reference::line::{classes_of, rooms_of, MOST_TOTAL, MOST_WIDTH};
 use reference::meaning::DELETED;
 use reference::share::STAGES;
 use reference::{justify, read_table, totals, Justified};
@@ -16,6 +16,7 @@ const PLACES: [usize; 3] = [0, 1_024, 1_025];
 const WAYS: [&str; 2] = ["growing", "shrinking"];
 const BESIDE: [&str; 3] = ["one below", "at", "one above"];
 const BUFFERS: [&str; 4] = ["advances", "classes", "before", "after"];
+const FULL_FACTOR: &str = "a factor of 16 em at 1,024 pt";
 const ROOMS: [&str; 3] = ["one short", "exact", "long"];
 
 /// What an accepted line may show, and the test for it.
@@ -29,6 +30,10 @@ const SHOWN: [Shown; 4] = [
     ("a remainder", |_, answer| answer.remainder != 0),
     ("a substituting verdict", |_, answer| answer.verdicts.iter().any(|verdict| verdict.substituting)),
 ];
+
+fn widest_mark(way: &str, at_cap: bool) -> String {
+    format!("the widest gap, {way}{}", if at_cap { ", and a total at the cap" } else { "" })
+}
 
 fn cap_mark(beside: &str, stage: usize) -> String {
     format!("a total of stage {stage} {beside} the cap")
@@ -57,7 +62,9 @@ pub fn wanted() -> Vec<(String, u64)> {
     for buffer in BUFFERS {
         [false, true].iter().for_each(|&longer| want(length_mark(buffer, longer)));
     }
+    want(FULL_FACTOR.into());
     for way in WAYS {
+        [false, true].iter().for_each(|&at_cap| want(widest_mark(way, at_cap)));
         for stage in 0..STAGES {
             BESIDE.iter().for_each(|beside| want(gap_mark(way, beside, stage)));
         }
@@ -118,8 +125,15 @@ fn note_totals(case: &LineCase, tally: &mut Tally) {
     let line = case.line();
     let Some((classes, _)) = classes_of(&table, &line) else { return };
     let gap = case.target - case.advances.iter().sum::<i64>();
-    let totals = totals(&rooms_of(&table, &line, &classes, gap >= 0));
+    let rooms = rooms_of(&table, &line, &classes, gap >= 0);
+    let totals = totals(&rooms);
     let way = WAYS[usize::from(gap < 0)];
+    if rooms.iter().flatten().any(|room| room.before.max(room.after) == 1 << 30) {
+        tally.note(FULL_FACTOR.into());
+    }
+    if gap.abs() == MOST_WIDTH {
+        tally.note(widest_mark(way, totals.contains(&MOST_TOTAL)));
+    }
     let mut so_far = 0;
     for (stage, total) in totals.into_iter().enumerate() {
         if let Some(beside) = beside(total, MOST_TOTAL) {

@@ -173,6 +173,55 @@ fn stages_past_the_cap(case: &generate::LineCase) -> Vec<usize> {
     (0..sums.len()).filter(|&stage| sums[stage] > 1 << 33).collect()
 }
 
+/// What the greatest numbers of a line are; document 02, request 3/14.
+const GREATEST: [&str; 8] = [
+    "a factor of 2^30",
+    "a total of 2^33, the widest gap growing",
+    "a total of 2^33, the widest gap shrinking",
+    "a total of 2^33 and one",
+    "the widest gap growing",
+    "the widest gap shrinking",
+    "the widest gap to unlimited glyphs",
+    "the widest gap back to a stage",
+];
+
+fn note_greatest(case: &generate::LineCase, notes: &mut [usize; GREATEST.len()]) -> Option<()> {
+    const WIDEST: i64 = (1 << 30) - 1;
+    let table = read_table(&case.table, case.n).ok()?;
+    let (classes, _) = classes_of(&table, &case.line())?;
+    let gap = case.target - case.advances.iter().sum::<i64>();
+    let rooms = rooms_of(&table, &case.line(), &classes, gap >= 0);
+    let (sums, way) = (totals(&rooms), way_of(&rooms, gap.unsigned_abs()));
+    let (at_cap, widest) = (sums.contains(&(1 << 33)), gap.abs() == WIDEST);
+    let shown = [
+        rooms.iter().flatten().any(|room| room.before == 1 << 30 || room.after == 1 << 30),
+        at_cap && gap == WIDEST,
+        at_cap && gap == -WIDEST,
+        sums.contains(&((1 << 33) + 1)),
+        gap == WIDEST,
+        gap == -WIDEST,
+        widest && way.starts_with("unlimited"),
+        widest && way.starts_with("back"),
+    ];
+    notes.iter_mut().zip(shown).for_each(|(note, shown)| *note += shown as usize);
+    Some(())
+}
+
+#[test]
+fn lines_meet_the_greatest_numbers() {
+    let mut notes = [0; GREATEST.len()];
+    for index in 0..DRAWS {
+        let case = generate::line(SEED, index);
+        if matches!(case.justify(), Ok(_) | Err(15)) {
+            note_greatest(&case, &mut notes);
+        }
+    }
+    println!("{:?}", GREATEST.iter().zip(notes).collect::<Vec<_>>());
+    assert!(notes.iter().all(|&count| count >= 15), "{notes:?}");
+    // Three lines in a hundred at least.
+    assert!(notes[4] + notes[5] >= DRAWS as usize * 3 / 100, "{notes:?}");
+}
+
 #[test]
 fn sheets_meet_refusal_17() {
     let mut accepted = 0;

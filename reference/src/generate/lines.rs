@@ -1,5 +1,6 @@
 //! Lines: a table, a line on it, and the lent lengths; some with a fault.
 
+use super::greatest;
 use super::parts::{Style, ALL_PRIORITIES};
 use super::rng::Rng;
 use super::tables;
@@ -62,10 +63,11 @@ enum Aim {
     Glyph,
     Stay,
     Wide,
+    Greatest,
     Room,
 }
 
-const AIMS: [(Aim, u64); 10] = [
+const AIMS: [(Aim, u64); 11] = [
     (Aim::Sound, 42),
     (Aim::Table, 8),
     (Aim::Lengths, 6),
@@ -75,13 +77,14 @@ const AIMS: [(Aim, u64); 10] = [
     (Aim::Glyph, 5),
     (Aim::Stay, 8),
     (Aim::Wide, 8),
+    (Aim::Greatest, 8),
     (Aim::Room, 7),
 ];
 
 /// A line.
 pub fn draw(rng: &mut Rng) -> LineCase {
     let aim = AIMS[rng.weighted(&AIMS.map(|(_, weight)| weight))].0;
-    let mut case = fitting(rng, aim);
+    let mut case = if aim == Aim::Greatest { greatest::draw(rng) } else { fitting(rng, aim) };
     if rng.chance(40) {
         sharpen(rng, &mut case);
     }

@@ -2,6 +2,7 @@
 //! seed and the index alone.
 
 pub mod draft;
+pub mod greatest;
 pub mod lines;
 pub mod parts;
 pub mod rng;
