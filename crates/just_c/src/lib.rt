@@ -8,6 +8,8 @@ ghost use Rattle.answers.specs.Says.{checkedBy, unlessBad, saysCount, saysSizes
 ghost use Rattle.table.specs.Table.{tableFault};
 ghost use Rattle.table.specs.Means.{meaningOf};
 ghost use Rattle.table_parts.specs.Components.{componentsOf};
+ghost use Rattle.table_values.specs.Values.{valueAsked, unitsAsked};
+ghost use Rattle.table_values.specs.ValuesInC.{kindIn, valueIn, unitsOut};
 ghost use Rattle.sheet_write.specs.Written.{saysLength, saysWritten, sheetLength, written};
 ghost use Rattle.just_c.specs.InC.{checkedNumber, countIn, sizesIn, classIn, cellIn, recordIn, noPair, actionIn, actionOut, stretchIn};
 ghost use Rattle.just_c.specs.SheetInC.{SheetNumber, Given};
@@ -27,6 +29,8 @@ use parts::Limits;
 use parts::Pair;
 use sheet_write::LengthAnswer;
 use sheet_write::WriteAnswer;
+use table_values::JustUnits;
+use table_values::JustValue;
 
 #[repr(C)]
 pub struct JustCount {
@@ -313,6 +317,38 @@ pub extern "C" fn just_table_record(
     ensures { λ r. ⌜ r ≡ recordIn (unlessBad (tableFault (now (table .entry)) glyphs) (ask (meaningOf (now (table .entry)) glyphs) (along (directionIn direction) (width glyph class)))) ⌝ }
 {
     record_out(table_parts::ask_record(table, glyphs, parts::direction_in(direction), glyph, class))
+}
+
+// The value of a glyph in a lookup, and how many units a find of it looks at; 0 is the width lookup, any other number the
+// action lookup.
+#[no_mangle]
+pub extern "C" fn just_table_value(
+    table: &[u8],
+    glyphs: u32,
+    direction: u32,
+    lookup: u32,
+    glyph: u16,
+) -> JustValue
+    ensures { λ r. ⌜ r ≡ valueIn (valueAsked (now (table .entry)) glyphs (directionIn direction) (kindIn lookup) glyph) ⌝ }
+{
+    let along = parts::direction_in(direction);
+    let kind = table_values::kind_in(lookup);
+    table_values::value_out(table_values::ask_value(table, glyphs, along, kind, glyph))
+}
+
+// How many units a lookup has for a find, and the bound on a find's looks there.
+#[no_mangle]
+pub extern "C" fn just_table_units(
+    table: &[u8],
+    glyphs: u32,
+    direction: u32,
+    lookup: u32,
+) -> JustUnits
+    ensures { λ r. ⌜ r ≡ unitsOut (unitsAsked (now (table .entry)) glyphs (directionIn direction) (kindIn lookup)) ⌝ }
+{
+    let along = parts::direction_in(direction);
+    let kind = table_values::kind_in(lookup);
+    table_values::units_out(table_values::ask_units(table, glyphs, along, kind))
 }
 
 // The action of a glyph and a number.

@@ -43,10 +43,10 @@ fn fires_here(table: &[u8], at: usize, class: u8, growth: Units, size: u32) -> F
     requires { ⌜ at + 8 ≤ length (now table) ⌝ }
     ensures { λ r. ⌜ r ≡ firesOf (actionAt (now (table .entry)) at) class (growth .0) size ⌝ }
 {
-    if fields::u16_at(table, at) != class as usize {
+    if fields::u16_in(table, at) != class as usize {
         return Fires::No;
     }
-    let kind = fields::u16_at(table, at + 2) as u16;
+    let kind = fields::u16_in(table, at + 2) as u16;
     verdict::kind_fires(kind, &table[at + 8..], growth, size)
 }
 
@@ -125,7 +125,7 @@ fn judge(table: &[u8], class: u8, growth: Units, size: u32, cursor: Cursor) -> S
         next,
         number: number + 1,
         left: left - 1,
-        at: at + fields::u32_at(table, at + 4),
+        at: at + fields::u32_in(table, at + 4),
     };
     step_of(fires, (next - 1) as u16, number, past)
 }
@@ -268,7 +268,7 @@ fn count_list(
     let mut at = first;
     while 0 < left {
         total += fires_once(table, at, class, growth, size);
-        at += fields::u32_at(table, at + 4);
+        at += fields::u32_in(table, at + 4);
         left -= 1;
     }
     total

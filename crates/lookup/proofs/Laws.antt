@@ -1,24 +1,22 @@
 -- Laws of the definitions, one for each outcome, over values as the code has read them.
-use Prim.Native.Nat.{ℕ, zero, suc, _+_, _-_, _*_, _/_, _%_, _^_, _≤_, _<_}
+use Prim.Native.Nat.{ℕ, zero, suc, _+_, _-_, _*_, _/_, _^_, _≤_, _<_}
 use mathlib.Core.List.{List}
-use mathlib.Core.Bool.{Bool, true, false, cond, _&&_}
+use mathlib.Core.Bool.{Bool, true, false, cond}
 use mathlib.Core.Path.{_≡_, refl, sym, _∙_, ap, ap₂}
 use native.Mathlib.Omega.{arith}
-use native.Mathlib.Decide.{decLt}
 use lib.ListN.{length}
 use lib.Dec.{leb, eqb}
-use borrow.Author.Tests.{le-leb, lt-leb, leb-true, leb-false, le-ltb, lt-ltb, eqb-true, eq-eqb, ne-eqb}
+use borrow.Author.Tests.{le-leb, lt-leb, leb-true, leb-false, le-ltb, lt-ltb, eq-eqb, ne-eqb}
 use Rattle.fields.specs.declared.Refusal.the-variants.{Outside, BadLookup}
 use Rattle.fields.specs.declared.Fault.the-variants.{Clear, Bad}
-use Rattle.fields.specs.Field.{u16At, u32At, Bytes}
+use Rattle.fields.specs.Field.{u16At, Bytes}
 use Rattle.fields.specs.Faults.{rule, inside}
 use Rattle.fields.specs.Laws.{u16At-fits, then-go, then-stop, rule-clear, clear-inside, bad-inside}
 use Rattle.fields.specs.Walk.{walk}
 use Rattle.lookup.specs.declared.Found.the-variants.{Value, Nothing}
-use Rattle.lookup.specs.declared.Head.{Head}
 use Rattle.lookup.specs.Units.{unitSize, lastOf, firstOf, rangeFault, singleFault, unitFault, arrayFault}
 use Rattle.lookup.specs.Lookup.{countedFault, segmentsFault, trimmedFault, formatFault, lookupFault}
-use Rattle.lookup.specs.Find.{covers, unitValue, unitsValue, hasUnits, unitCount, headAt, trimmedValue, valueFrom, valueOf}
+use Rattle.lookup.specs.Find.{covers, unitValue, unitsValue, hasUnits, unitCount, trimmedValue, valueFrom, valueOf}
 
 down : (n : ℕ) → suc n - 1 ≡ n
 down n = omega arith
@@ -132,39 +130,6 @@ module _ (t : List ℕ) (format glyph p f : ℕ) (r : f ≡ firstOf t format p) 
   unfolding covers
   covers-high l s h = simp (← r, ← s, le-leb f glyph h)
 
--- a unit of formats 2 and 4, `e` being its last and its first glyph as one number
-module _ (t : List ℕ) (b : Bytes t) (format glyph p e : ℕ) (r : e ≡ u32At t p) (n : format ≡ 6 → ⊥) where
-  low-half : e % 65536 ≡ firstOf t format p
-  unfolding u32At
-  low-half =
-      let h : e % 65536 ≡ u16At t (p + 2) = omega (arith, r, u16At-fits t (p + 2) b) in
-      h ∙ sym (first-range t format p n)
-
-  high-half : e / 65536 ≡ lastOf t p
-  unfolding u32At
-  high-half = omega (arith, r, u16At-fits t (p + 2) b)
-
-  pub ends-covers : (leb (e % 65536) glyph && leb glyph (e / 65536)) ≡ covers t format glyph p
-  unfolding covers
-  ends-covers = rw (low-half, high-half)
-
--- a unit of format 6, `l` being its glyph as it was read
-module _ (t : List ℕ) (glyph p l : ℕ) (r : l ≡ u16At t p) where
-  same-glyph : l ≡ firstOf t 6 p
-  same-glyph = r ∙ sym (first-single t 6 p refl)
-
-  pub single-here : l ≡ glyph → covers t 6 glyph p ≡ true
-  single-here e = covers-high t 6 glyph p l same-glyph l r (omega arith) ∙ le-leb glyph l (omega arith)
-
-  pub single-other : (l ≡ glyph → ⊥) → covers t 6 glyph p ≡ false
-  single-other n = go (decLt glyph l)
-    where
-      go : Dec (glyph < l) → covers t 6 glyph p ≡ false
-      go (yes h) = covers-low t 6 glyph p l same-glyph h
-      go (no h) =
-          let k : l < glyph = omega arith in
-          covers-high t 6 glyph p l same-glyph l r (omega arith) ∙ lt-leb glyph l k
-
 module _ (t : List ℕ) (format at glyph : ℕ) where
   pub units-here : (n p : ℕ) → 0 < n → covers t format glyph p ≡ true
       → unitsValue t format at glyph n p ≡ Value (unitValue t format at glyph p)
@@ -221,14 +186,6 @@ module _ (t : List ℕ) (at f : ℕ) (r : f ≡ u16At t at) where
   unfolding unitCount
   count-none e = simp (← r, e)
 
-both-first : (a b : Bool) → (a && b) ≡ true → a ≡ true
-both-first true b e = refl
-both-first false b e = e
-
-both-second : (a b : Bool) → (a && b) ≡ true → b ≡ true
-both-second true b e = e
-both-second false b e = cc
-
 pub units-fit : (t : List ℕ) (at : ℕ) → Bytes t → unitCount t at < 2 ^ 16
 unfolding unitCount
 units-fit t at b = go (hasUnits (u16At t at))
@@ -236,31 +193,6 @@ units-fit t at b = go (hasUnits (u16At t at))
     go : (c : Bool) → cond c (u16At t (at + 4)) 0 < 2 ^ 16
     go true = u16At-fits t (at + 4) b
     go false = omega arith
-
-pub head-is : (t : List ℕ) (at f n : ℕ) (w : Bool) → f ≡ u16At t at → n ≡ unitCount t at → w ≡ (eqb f 2 && leb (at + 12 + 6 * n) (length t))
-    → _≡_ {A = Head} (record { format = f; units = n; whole = w }) (headAt t at)
-unfolding headAt
-head-is t at f n w r e s = rw (s, r, e)
-
-pub head-format : (t : List ℕ) (at : ℕ) {h : Head} → h ≡ headAt t at → h .format ≡ u16At t at
-unfolding headAt
-head-format t at e = ap (λ (k : Head). k .format) e
-
-pub head-units : (t : List ℕ) (at : ℕ) {h : Head} → h ≡ headAt t at → h .units ≡ unitCount t at
-unfolding headAt
-head-units t at e = ap (λ (k : Head). k .units) e
-
--- a head that is whole
-module _ (t : List ℕ) (at : ℕ) {h : Head} (e : h ≡ headAt t at) (w : h .whole ≡ true) where
-  whole-both : (eqb (u16At t at) 2 && leb (at + 12 + 6 * unitCount t at) (length t)) ≡ true
-  unfolding headAt
-  whole-both = sym (ap (λ (k : Head). k .whole) e) ∙ w
-
-  pub whole-format : u16At t at ≡ 2
-  whole-format = eqb-true _ _ (both-first (eqb (u16At t at) 2) _ whole-both)
-
-  pub whole-inside : at + 12 + 6 * unitCount t at ≤ length t
-  whole-inside = leb-true _ _ (both-second (eqb (u16At t at) 2) _ whole-both)
 
 -- ---- format 8, `f` and `n` being the first glyph and the count as they were read
 
@@ -285,14 +217,6 @@ module _ (t : List ℕ) (at glyph n p f : ℕ) (r : f ≡ u16At t at) where
   pub from-0 : f ≡ 0 → valueFrom t at glyph n p ≡ Value (u16At t (at + 2 + 2 * glyph))
   unfolding valueFrom
   from-0 e = simp (← r, e)
-
-  pub from-2 : f ≡ 2 → valueFrom t at glyph n p ≡ unitsValue t 2 at glyph n p
-  unfolding valueFrom
-  from-2 e = simp (← r, e)
-
-  pub from-6 : f ≡ 6 → valueFrom t at glyph n p ≡ unitsValue t 6 at glyph n p
-  unfolding valueFrom
-  from-6 e = simp (← r, e)
 
   pub from-8 : f ≡ 8 → valueFrom t at glyph n p ≡ trimmedValue t at glyph
   unfolding valueFrom

@@ -108,7 +108,7 @@ module _ (t : List ℕ) (f : ℕ) where
   units-first (suc n) p least h e = then-first _ _ e
 
   -- each unit begins at `least` or past it
-  rises : (n p least k q : ℕ) → unitsFault t f n p least ≡ Clear → k < n → q ≡ p + unitSize f * k → least ≤ firstOf t f q
+  pub rises : (n p least k q : ℕ) → unitsFault t f n p least ≡ Clear → k < n → q ≡ p + unitSize f * k → least ≤ firstOf t f q
   unfolding walk
   rises zero p least k q e h s = absurd (omega arith)
   rises (suc n) p least zero q e h s =
@@ -143,7 +143,7 @@ module _ (t : List ℕ) (f : ℕ) where
       (none-above at glyph n (p + unitSize f) (lastOf t p + 1) (then-second _ _ e) (omega arith))
 
   -- a unit that covers a glyph gives it its value
-  covering : (at glyph n p least k q : ℕ) → unitsFault t f n p least ≡ Clear → k < n → q ≡ p + unitSize f * k → covers t f glyph q ≡ true
+  pub covering : (at glyph n p least k q : ℕ) → unitsFault t f n p least ≡ Clear → k < n → q ≡ p + unitSize f * k → covers t f glyph q ≡ true
       → unitsValue t f at glyph n p ≡ Value (unitValue t f at glyph q)
   unfolding walk
   covering at glyph zero p least k q e h s w = absurd (omega arith)

@@ -4,10 +4,8 @@ use Prim.Native.Nat.{ℕ, zero, suc, _+_, _-_, _*_}
 use mathlib.Core.List.{List}
 use mathlib.Core.Bool.{Bool, cond, _&&_, _||_}
 use lib.Dec.{leb, ltb, eqb}
-use lib.ListN.{length}
 use Rattle.fields.specs.Field.{u16At}
 use Rattle.lookup.specs.declared.Found.{Found}
-use Rattle.lookup.specs.declared.Head.{Head}
 use Rattle.lookup.specs.declared.Found.the-variants.{Value, Nothing}
 use Rattle.lookup.specs.Units.{unitSize, lastOf, firstOf}
 
@@ -36,14 +34,6 @@ hasUnits format = eqb format 2 || eqb format 4 || eqb format 6
 -- how many units the lookup at `at` counts
 unfoldable pub unitCount : List ℕ → ℕ → ℕ
 unitCount t at = cond (hasUnits (u16At t at)) (u16At t (at + 4)) 0
-
--- whether a lookup is of format 2 and the table has all of its units
-abbrev pub wholeAt : List ℕ → ℕ → Bool
-wholeAt t at = eqb (u16At t at) 2 && leb (at + 12 + 6 * unitCount t at) (length t)
-
--- the head of the lookup at `at`
-unfoldable pub headAt : List ℕ → ℕ → Head
-headAt t at = record { format = u16At t at; units = unitCount t at; whole = wholeAt t at }
 
 -- format 8: first, count, values
 unfoldable pub trimmedValue : List ℕ → ℕ → ℕ → Found

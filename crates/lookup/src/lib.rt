@@ -1,15 +1,14 @@
-// A lookup from glyphs to 16-bit values, formats 0, 2, 4, 6 and 8 (document 01, "The table"): its first fault, the value at a glyph, and a pass over
-// glyphs upward that looks at each unit once.
+// A lookup from glyphs to 16-bit values, formats 0, 2, 4, 6 and 8 (document 01, "The table"): its first fault, and a pass
+// over glyphs upward that looks at each unit once. One glyph's value is found in crate `halves`.
 ghost use mathlib.Core.Path.{_≡_};
-ghost use mathlib.Core.Bool.{true, _&&_};
-ghost use Prim.Native.Nat.{ℕ, _+_, _*_, _/_, _%_, _≤_, _<_, _^_};
-ghost use lib.Dec.{leb, eqb};
+ghost use mathlib.Core.Bool.{true};
+ghost use Prim.Native.Nat.{ℕ, _+_, _*_, _≤_, _<_, _^_};
 ghost use lib.ListN.{length};
 ghost use Rattle.fields.specs.declared.Fault.the-variants.{Clear};
 ghost use Rattle.fields.specs.Field.{u16At};
 ghost use Rattle.lookup.specs.Units.{unitSize, firstOf, rangeFault, singleFault, unitFault, unitsFault, arrayFault, valuesFault, arraysFault, below};
 ghost use Rattle.lookup.specs.Lookup.{countedFault, segmentsFault, trimmedFault, lookupFault};
-ghost use Rattle.lookup.specs.Find.{unitValue, unitsValue, hasUnits, unitCount, headAt, trimmedValue, valueFrom, valueOf};
+ghost use Rattle.lookup.specs.Find.{hasUnits, unitCount};
 ghost use Rattle.lookup.specs.Pass.{Serves};
 use fields::Fault;
 use fields::Refusal;
@@ -18,14 +17,6 @@ use fields::Refusal;
 pub enum Found {
     Value(u16),
     Nothing,
-}
-
-// The head of a lookup: its format, how many units it counts, and whether it is of format 2 and the table has all of
-// its units, which are then searched without a test of where they stand.
-pub struct Head {
-    pub format: usize,
-    pub units: usize,
-    pub whole: bool,
 }
 
 // Where a pass over glyphs upward stands: the next unit, and how many counted units are left from it on.
@@ -264,93 +255,6 @@ pub fn lookup_fault(table: &[u8], glyphs: usize, at: usize) -> Fault
     }
 }
 
-// Whether a unit of formats 2 and 4 covers a glyph. Its last and its first glyph stand beside each other and are read as
-// one number.
-fn ends_cover(ends: usize, glyph: usize) -> bool
-    ensures { λ r. ⌜ r ≡ (leb (ends % 65536) glyph && leb glyph (ends / 65536)) ⌝ }
-{
-    if glyph < ends % 65536 {
-        return false;
-    }
-    glyph <= ends / 65536
-}
-
-// What the unit at `p`, in the lookup at `at`, gives a glyph that it covers.
-fn unit_value(table: &[u8], format: usize, at: usize, glyph: usize, p: usize) -> u16
-    requires { ⌜ (at < 2 ^ 32) × ((glyph < 2 ^ 16) × (p < 2 ^ 40)) ⌝ }
-    ensures { λ r. ⌜ r ≡ unitValue (now (table .entry)) format at glyph p ⌝ }
-{
-    if format == 2 {
-        return fields::u16_at(table, p + 4) as u16;
-    }
-    if format == 4 {
-        let offset = fields::u16_at(table, p + 4);
-        let index = fields::less(glyph, fields::u16_at(table, p + 2));
-        return fields::u16_at(table, at + offset + 2 * index) as u16;
-    }
-    fields::u16_at(table, p + 2) as u16
-}
-
-// What the first of `count` units of formats 2 and 4 from `start` on that covers the glyph gives it.
-fn ranges_value(
-    table: &[u8],
-    format: usize,
-    at: usize,
-    glyph: usize,
-    count: usize,
-    start: usize,
-) -> Found
-    requires { ⌜ (at < 2 ^ 32) × ((glyph < 2 ^ 16) × (start + 6 * count < 2 ^ 40)) ⌝ }
-    requires { ⌜ (format ≡ 6 → ⊥) ⌝ }
-    ensures { λ r. ⌜ r ≡ unitsValue (now (table .entry)) format at glyph count start ⌝ }
-{
-    let mut p = start;
-    let mut left = count;
-    while 0 < left {
-        if ends_cover(fields::u32_at(table, p), glyph) {
-            return Found::Value(unit_value(table, format, at, glyph, p));
-        }
-        p += 6;
-        left -= 1;
-    }
-    Found::Nothing
-}
-
-// What the first of `count` units of format 2 from `start` on that covers the glyph gives it, all of them inside the
-// table.
-fn segments_value(table: &[u8], glyph: usize, count: usize, start: usize) -> Found
-    requires { ⌜ start + 6 * count ≤ length (now table) ⌝ }
-    ensures { λ r. ⌜ ((at : ℕ) → r ≡ unitsValue (now (table .entry)) 2 at glyph count start) ⌝ }
-{
-    let mut p = start;
-    let mut left = count;
-    while 0 < left {
-        if ends_cover(fields::u32_in(table, p), glyph) {
-            return Found::Value(fields::u16_in(table, p + 4) as u16);
-        }
-        p += 6;
-        left -= 1;
-    }
-    Found::Nothing
-}
-
-// What the first of `count` units of format 6 from `start` on that has the glyph gives it.
-fn singles_value(table: &[u8], glyph: usize, count: usize, start: usize) -> Found
-    requires { ⌜ start + 6 * count < 2 ^ 40 ⌝ }
-    ensures { λ r. ⌜ ((at : ℕ) → r ≡ unitsValue (now (table .entry)) 6 at glyph count start) ⌝ }
-{
-    let mut p = start;
-    let mut left = count;
-    while 0 < left {
-        if fields::u16_at(table, p) == glyph {
-            return Found::Value(fields::u16_at(table, p + 2) as u16);
-        }
-        p += 4;
-        left -= 1;
-    }
-    Found::Nothing
-}
-
 // Formats 2, 4 and 6 have units.
 fn has_units(format: usize) -> bool
     ensures { λ r. ⌜ r ≡ hasUnits format ⌝ }
@@ -365,7 +269,7 @@ fn has_units(format: usize) -> bool
 }
 
 // How many units the lookup at `at`, whose format was read, counts.
-fn unit_count(table: &[u8], format: usize, at: usize) -> usize
+pub fn unit_count(table: &[u8], format: usize, at: usize) -> usize
     requires { ⌜ (at < 2 ^ 32) × (format ≡ u16At (now table) at) ⌝ }
     ensures { λ r. ⌜ (r ≡ unitCount (now (table .entry)) at) × (r < 2 ^ 16) ⌝ }
 {
@@ -375,112 +279,14 @@ fn unit_count(table: &[u8], format: usize, at: usize) -> usize
     0
 }
 
-// Whether a lookup is of format 2 and the table has all of its units.
-fn is_whole(table: &[u8], format: usize, at: usize, units: usize) -> bool
-    requires { ⌜ (at < 2 ^ 32) × (units < 2 ^ 16) ⌝ }
-    ensures { λ r. ⌜ r ≡ (eqb format 2 && leb (at + 12 + 6 * units) (length (now (table .entry)))) ⌝ }
-{
-    if format == 2 {
-        return at + 12 + 6 * units <= table.len();
-    }
-    false
-}
-
-// The head of the lookup at `at`.
-pub fn head_at(table: &[u8], at: usize) -> Head
-    requires { ⌜ at < 2 ^ 32 ⌝ }
-    ensures { λ r. ⌜ r ≡ headAt (now (table .entry)) at ⌝ }
-{
-    let format = fields::u16_at(table, at);
-    let units = unit_count(table, format, at);
-    Head {
-        format,
-        units,
-        whole: is_whole(table, format, at, units),
-    }
-}
-
-// Format 8.
-fn trimmed_value(table: &[u8], at: usize, glyph: usize) -> Found
-    requires { ⌜ (at < 2 ^ 32) × (glyph < 2 ^ 16) ⌝ }
-    ensures { λ r. ⌜ r ≡ trimmedValue (now (table .entry)) at glyph ⌝ }
-{
-    let first = fields::u16_at(table, at + 2);
-    let count = fields::u16_at(table, at + 4);
-    if glyph < first {
-        return Found::Nothing;
-    }
-    if first + count <= glyph {
-        return Found::Nothing;
-    }
-    Found::Value(fields::u16_at(table, at + 6 + 2 * (glyph - first)) as u16)
-}
-
-// The value at a glyph in the lookup at `at`, whose format was read, where the units that are looked at are `count`, from
-// `start` on.
-fn value_from(
-    table: &[u8],
-    format: usize,
-    at: usize,
-    glyph: usize,
-    count: usize,
-    start: usize,
-) -> Found
-    requires { ⌜ (at < 2 ^ 32) × ((glyph < 2 ^ 16) × (start + 6 * count < 2 ^ 40)) ⌝ }
-    requires { ⌜ format ≡ u16At (now table) at ⌝ }
-    ensures { λ r. ⌜ r ≡ valueFrom (now (table .entry)) at glyph count start ⌝ }
-{
-    if format == 0 {
-        return Found::Value(fields::u16_at(table, at + 2 + 2 * glyph) as u16);
-    }
-    if format == 6 {
-        return singles_value(table, glyph, count, start);
-    }
-    if format == 8 {
-        return trimmed_value(table, at, glyph);
-    }
-    ranges_value(table, format, at, glyph, count, start)
-}
-
-// The value at a glyph in the lookup at `at`, whose head was read, for a font of `glyphs` glyphs.
-pub fn find_by(table: &[u8], glyphs: usize, at: usize, head: Head, glyph: u16) -> Found
-    requires { ⌜ (at < 2 ^ 32) × (head ≡ headAt (now table) at) ⌝ }
-    ensures { λ r. ⌜ r ≡ valueOf (now (table .entry)) glyphs at glyph ⌝ }
-{
-    let number = glyph as usize;
-    if glyphs <= number {
-        return Found::Nothing;
-    }
-    value_from(table, head.format, at, number, head.units, at + 12)
-}
-
-// The same in a lookup whose head is whole.
-pub fn find_whole(table: &[u8], glyphs: usize, at: usize, head: Head, glyph: u16) -> Found
-    requires { ⌜ (at < 2 ^ 32) × (head ≡ headAt (now table) at) × (head .whole ≡ true) ⌝ }
-    ensures { λ r. ⌜ r ≡ valueOf (now (table .entry)) glyphs at glyph ⌝ }
-{
-    let number = glyph as usize;
-    if glyphs <= number {
-        return Found::Nothing;
-    }
-    segments_value(table, number, head.units, at + 12)
-}
-
-// The value at a glyph in the lookup at `at`, the head being read for this glyph.
-pub fn find(table: &[u8], glyphs: usize, at: usize, glyph: u16) -> Found
-    requires { ⌜ at < 2 ^ 32 ⌝ }
-    ensures { λ r. ⌜ r ≡ valueOf (now (table .entry)) glyphs at glyph ⌝ }
-{
-    find_by(table, glyphs, at, head_at(table, at), glyph)
-}
-
 // A pass over the lookup at `at` begins.
 pub fn begin(table: &[u8], at: usize) -> Cursor
     requires { ⌜ at < 2 ^ 32 ⌝ }
     ensures { λ r. ⌜ ((glyphs : ℕ) → lookupFault (now (table .entry)) glyphs at ≡ Clear → Serves (now (table .entry)) at 0 r) ⌝ }
 {
+    let format = fields::u16_at(table, at);
     Cursor {
         at: at + 12,
-        left: head_at(table, at).units,
+        left: unit_count(table, format, at),
     }
 }

@@ -3,24 +3,15 @@
 // table and the place. A place is a 32-bit number, as any place in a table is; past the table's end zeros are read.
 ghost use mathlib.Core.Path.{_≡_};
 ghost use Rattle.meaning.specs.Ask.{recordOf};
-ghost use Rattle.lookup.specs.Find.{valueOf};
 ghost use Rattle.cluster.specs.Pairs.{clusterAt, soughtPair};
 ghost use Rattle.table_parts.specs.Components.{stretch, placeIn};
 ghost use Rattle.reader.specs.Components.{listAt};
 use actions::Stretch;
 use cluster::Sought;
-use lookup::Found;
 
 pub struct Reader<'a> {
     pub table: &'a [u8],
     pub place: u32,
-}
-
-// The value of a glyph in the lookup at a place, for a font of `glyphs` glyphs.
-fn value_at(table: &[u8], place: u32, glyphs: u32, glyph: u16) -> Found
-    ensures { λ r. ⌜ r ≡ valueOf (now (table .entry)) glyphs place glyph ⌝ }
-{
-    lookup::find(table, glyphs as usize, place as usize, glyph)
 }
 
 // The record of a class in the cluster at a place.
@@ -67,13 +58,6 @@ impl<'a> Reader<'a> {
             table: self.table,
             place,
         }
-    }
-
-    // The value that the lookup here gives a glyph, for a font of `glyphs` glyphs.
-    pub fn value(self, glyphs: u32, glyph: u16) -> Found
-        ensures { λ r. ⌜ r ≡ valueOf (now (self .entry .table)) glyphs (self .entry .place) glyph ⌝ }
-    {
-        value_at(self.table, self.place, glyphs, glyph)
     }
 
     // The record that the cluster here gives a class.

@@ -1,27 +1,35 @@
 -- The steps to a place of specs/Places.antt, over values as read.
-use Prim.Native.Nat.{ℕ, _+_, _<_}
-use mathlib.Core.Path.{_≡_, refl, ap, subst, _∙_}
+use Prim.Native.Nat.{ℕ, _+_, _<_, _^_}
+use native.Mathlib.Omega.{arith}
+use mathlib.Core.Path.{_≡_, refl, sym, ap, subst, _∙_}
 use mathlib.Core.Bool.{Bool, true, false, cond}
 use mathlib.Core.List.{List}
 use lib.Dec.{eqb}
-use borrow.Author.Tests.{eq-eqb, ne-eqb}
+use borrow.Author.Tests.{eq-eqb, ne-eqb, eqb-false}
 use Rattle.fields.specs.declared.Fault.{Fault}
+use Rattle.fields.specs.declared.Fault.the-variants.{Clear}
+use Rattle.lookup.specs.declared.Found.{Found}
+use Rattle.halves.specs.declared.Head.{Head}
+use Rattle.halves.specs.Halves.{headAt, Ready}
+use Rattle.values.specs.declared.Kind.{Kind}
 use Rattle.fields.specs.Field.{u16At}
+use Rattle.fields.specs.Laws.{then-first, then-second}
 use Rattle.parts.specs.declared.Direction.{Direction}
+use Rattle.parts.specs.declared.Direction.the-variants.{Horizontal, Vertical}
 use Rattle.meaning.specs.Ask.{Answer}
 use Rattle.answers.specs.Says.{unlessBad}
-use Rattle.lookup.specs.declared.Head.{Head}
-use Rattle.lookup.specs.Find.{headAt, valueOf}
+use Rattle.lookup.specs.Find.{valueOf}
 use Rattle.actions.specs.declared.Spot.{Spot}
 use Rattle.actions.specs.declared.Spot.the-variants.{At, Nowhere}
 use Rattle.actions.specs.declared.Stretch.{Stretch}
 use Rattle.actions.specs.Actions.{Below}
 use Rattle.values.specs.declared.Kind.the-variants.{Clusters, Lists}
-use Rattle.values.specs.Values.{spotOf}
-use Rattle.table.specs.Table.{actionOffset, widthOffset, widthLookup}
+use Rattle.values.specs.Values.{spotOf, valuesFault}
+use Rattle.table.specs.Table.{actionOffset, widthOffset, widthLookup, actionPart, directionFault, tableFault}
+use Rattle.table.proofs.Laws.{present-some, few-glyphs}
 use Rattle.table_parts.specs.declared.Lookup.{Lookup}
 use Rattle.table_parts.specs.declared.Lookup.the-variants.{Absent, There}
-use Rattle.table_parts.specs.Places.{directionAt, machineIn, clustersIn, listsIn, spotBy, clusterSpot, listSpot}
+use Rattle.table_parts.specs.Places.{directionAt, machineIn, clustersIn, listsIn, Readable, Sound, spotBy, clusterSpot, listSpot}
 use Rattle.table_parts.specs.Components.{unlessFault}
 
 -- the offset of a spot that is there
@@ -93,3 +101,61 @@ module _ (t : List ℕ) (n : ℕ) (d : Direction) (g : ℕ) {l : Lookup} where
       go true c = refl
       go false true = refl
       go false false = refl
+
+-- ---- the lookups of an accepted table have no fault
+
+module _ (t : List ℕ) (n : ℕ) (e : tableFault t n ≡ Clear) where
+  few : n < 65536
+  unfolding tableFault
+  few = omega (arith, few-glyphs t n (then-first _ _ e))
+
+  side-clear : (d : Direction) → directionFault t n (directionAt t d) ≡ Clear
+  unfolding tableFault
+  side-clear Horizontal = then-first _ _ (then-second _ _ e)
+  side-clear Vertical = then-second _ _ (then-second _ _ e)
+
+  module _ (d : Direction) where
+    parts-clear : (directionAt t d ≡ 0 → ⊥)
+        → (valuesFault t n Clusters (widthLookup (directionAt t d)) (widthOffset t (directionAt t d)) ≡ Clear)
+        × (actionPart t n (actionOffset t (directionAt t d)) ≡ Clear)
+    unfolding directionFault
+    parts-clear z =
+        let w = then-second _ _ (then-second _ _ (sym (present-some (directionAt t d) _ z) ∙ side-clear d)) in
+        (then-first _ _ w, then-second _ _ w)
+
+    pub clusters-sound : {l : Lookup} → l ≡ clustersIn t d → Sound t n l
+    unfolding clustersIn valuesFault
+    clusters-sound q = subst (Sound t n) (sym q) (go (eqb (directionAt t d) 0) refl)
+      where
+        go : (b : Bool) → eqb (directionAt t d) 0 ≡ b
+            → Sound t n (cond b Absent
+            (There (widthLookup (directionAt t d)) (widthOffset t (directionAt t d)) (headAt t (widthLookup (directionAt t d)))))
+        go true u = tt
+        go false u = (then-first _ _ (parts-clear (eqb-false _ _ u) .0), few)
+
+    pub lists-sound : {l : Lookup} → l ≡ listsIn t d → Sound t n l
+    unfolding listsIn valuesFault actionPart
+    lists-sound q = subst (Sound t n) (sym q) (go (eqb (directionAt t d) 0) refl (eqb (actionOffset t (directionAt t d)) 0) refl)
+      where
+        go : (b : Bool) → eqb (directionAt t d) 0 ≡ b → (c : Bool) → eqb (actionOffset t (directionAt t d)) 0 ≡ c
+            → Sound t n (cond b Absent (cond c Absent
+            (There (actionOffset t (directionAt t d)) (actionOffset t (directionAt t d)) (headAt t (actionOffset t (directionAt t d))))))
+        go true u c v = tt
+        go false u true v = tt
+        go false u false v =
+            (then-first _ _ (sym (present-some (actionOffset t (directionAt t d)) _ (eqb-false _ _ v)) ∙ parts-clear (eqb-false _ _ u) .1), few)
+
+-- ---- a lookup that is there, as the code has taken it apart
+
+module _ (t : List ℕ) (n : ℕ) {l : Lookup} {at base : ℕ} {head : Head} (e : l ≡ There at base head) where
+  pub there-ready : Readable t l → Sound t n l → Ready t n at head
+  there-ready r s =
+      let w = subst (Readable t) e r in
+      let v = subst (Sound t n) e s in
+      record { near = w .0; read = w .1 .1; few = v .1; clear = v .0 }
+
+  pub there-base : Readable t l → base < 2 ^ 16
+  there-base r = subst (Readable t) e r .1 .0
+
+  pub spot-there : (kind : Kind) (g : ℕ) {f : Found} {s : Spot} → s ≡ spotOf kind base f → f ≡ valueOf t n at g → s ≡ spotBy t n kind l g
+  spot-there kind g a b = a ∙ ap (spotOf kind base) b ∙ sym (ap (λ (k : Lookup). spotBy t n kind k g) e)

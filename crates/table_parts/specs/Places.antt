@@ -9,7 +9,10 @@ use Rattle.fields.specs.Field.{u16At}
 use Rattle.parts.specs.declared.Direction.{Direction}
 use Rattle.parts.specs.declared.Direction.the-variants.{Horizontal, Vertical}
 use Rattle.meaning.specs.Ask.{Answer, nothing, number, both, entry, pair, act}
-use Rattle.lookup.specs.Find.{headAt, valueOf}
+use Rattle.fields.specs.declared.Fault.the-variants.{Clear}
+use Rattle.lookup.specs.Lookup.{lookupFault}
+use Rattle.lookup.specs.Find.{valueOf}
+use Rattle.halves.specs.Halves.{headAt}
 use Rattle.actions.specs.declared.Spot.{Spot}
 use Rattle.actions.specs.declared.Spot.the-variants.{At, Nowhere}
 use Rattle.actions.specs.Actions.{actionAt, placeOf, clipped}
@@ -46,6 +49,11 @@ listsIn t d =
 abbrev pub Readable : List ℕ → Lookup → Type 0
 Readable t Absent = Unit {0}
 Readable t (There at base head) = (at < 2 ^ 32) × ((base < 2 ^ 16) × (head ≡ headAt t at))
+
+-- the lookup has no fault for a font of n glyphs
+abbrev pub Sound : List ℕ → ℕ → Lookup → Type 0
+Sound t n Absent = Unit {0}
+Sound t n (There at base head) = (lookupFault t n at ≡ Clear) × (n < 65536)
 
 -- where a glyph's cluster or list stands, by the lookup of that kind
 abbrev pub spotBy : List ℕ → ℕ → Kind → Lookup → ℕ → Spot

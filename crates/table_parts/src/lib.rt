@@ -6,12 +6,13 @@ ghost use mathlib.Core.Path.{_≡_};
 ghost use Prim.Native.Nat.{_<_, _^_};
 ghost use Rattle.meaning.specs.Ask.{maybe, pair, recordOf, ask, glyphCount, sizes, class, cell, width, action, along};
 ghost use Rattle.answers.specs.Says.{given, unlessBad, saysCount, saysSizes, saysClass, saysCell, saysRecord, saysAction, roomAfter};
+ghost use Rattle.fields.specs.declared.Fault.the-variants.{Clear};
 ghost use Rattle.cluster.specs.Pairs.{clusterAt};
 ghost use Rattle.actions.specs.Actions.{Below};
 ghost use Rattle.values.specs.declared.Kind.the-variants.{Clusters, Lists};
 ghost use Rattle.table.specs.Table.{tableFault};
 ghost use Rattle.table.specs.Means.{meaningOf};
-ghost use Rattle.table_parts.specs.Places.{directionAt, machineIn, clustersIn, listsIn, Readable, spotBy, clusterSpot, listSpot, actionSpot, cut};
+ghost use Rattle.table_parts.specs.Places.{directionAt, machineIn, clustersIn, listsIn, Readable, Sound, spotBy, clusterSpot, listSpot, actionSpot, cut};
 ghost use Rattle.table_parts.specs.Components.{componentsOf, stretch, placeIn};
 use actions::Spot;
 use actions::Stretch;
@@ -23,7 +24,7 @@ use answers::RecordAnswer;
 use answers::SizesAnswer;
 use answers::Sought;
 use fields::Fault;
-use lookup::Head;
+use halves::Head;
 use parts::Direction;
 use values::Kind;
 
@@ -112,7 +113,7 @@ pub fn clusters_in(table: &[u8], direction: Direction) -> Lookup
     Lookup::There {
         at: at + 6,
         base: fields::u16_at(table, at + 2),
-        head: lookup::head_at(table, at + 6),
+        head: halves::head_at(table, at + 6),
     }
 }
 
@@ -131,44 +132,49 @@ pub fn lists_in(table: &[u8], direction: Direction) -> Lookup
     Lookup::There {
         at: offset,
         base: offset,
-        head: lookup::head_at(table, offset),
+        head: halves::head_at(table, offset),
     }
 }
 
 // Where a glyph's width records stand, by the lookup of a direction's clusters.
 pub fn cluster_by(table: &[u8], count: u32, clusters: Lookup, glyph: u16) -> Spot
-    requires { ⌜ Readable (now table) clusters ⌝ }
+    requires { ⌜ Readable (now table) clusters × Sound (now table) count clusters ⌝ }
     ensures { λ r. ⌜ (r ≡ spotBy (now (table .entry)) count Clusters clusters glyph) × Below (2 ^ 17) r ⌝ }
 {
     let Lookup::There { at, base, head } = clusters else {
         return Spot::Nowhere;
     };
-    if head.whole {
-        let found = lookup::find_whole(table, count as usize, at, head, glyph);
+    if head.format == 2 {
+        let looked = halves::find_units(table, 2, count as usize, at, head, glyph);
+        let found = looked.found;
         return values::spot_of(Kind::Clusters, base, found);
     }
-    let found = lookup::find_by(table, count as usize, at, head, glyph);
+    let looked = halves::find_by(table, count as usize, at, head, glyph);
+    let found = looked.found;
     values::spot_of(Kind::Clusters, base, found)
 }
 
 // Where a glyph's actions stand, by the lookup of a direction's lists.
 pub fn list_by(table: &[u8], count: u32, lists: Lookup, glyph: u16) -> Spot
-    requires { ⌜ Readable (now table) lists ⌝ }
+    requires { ⌜ Readable (now table) lists × Sound (now table) count lists ⌝ }
     ensures { λ r. ⌜ (r ≡ spotBy (now (table .entry)) count Lists lists glyph) × Below (2 ^ 17) r ⌝ }
 {
     let Lookup::There { at, base, head } = lists else {
         return Spot::Nowhere;
     };
-    if head.whole {
-        let found = lookup::find_whole(table, count as usize, at, head, glyph);
+    if head.format == 2 {
+        let looked = halves::find_units(table, 2, count as usize, at, head, glyph);
+        let found = looked.found;
         return values::spot_of(Kind::Lists, base, found);
     }
-    let found = lookup::find_by(table, count as usize, at, head, glyph);
+    let looked = halves::find_by(table, count as usize, at, head, glyph);
+    let found = looked.found;
     values::spot_of(Kind::Lists, base, found)
 }
 
 // Where a glyph's width records stand in a direction.
 pub fn cluster_spot(table: &[u8], count: u32, direction: Direction, glyph: u16) -> Spot
+    requires { ⌜ tableFault (now table) count ≡ Clear ⌝ }
     ensures { λ r. ⌜ (r ≡ clusterSpot (now (table .entry)) count direction glyph) × Below (2 ^ 17) r ⌝ }
 {
     let clusters = clusters_in(table, direction);
@@ -194,6 +200,7 @@ pub fn record_of(
     glyph: u16,
     class: u8,
 ) -> RecordAnswer
+    requires { ⌜ tableFault (now table) count ≡ Clear ⌝ }
     ensures { λ r. ⌜ saysRecord r ≡ given (ask (meaningOf (now (table .entry)) count) (along direction (width glyph class))) ⌝ }
 {
     match cluster_spot(table, count, direction, glyph) {
@@ -204,6 +211,7 @@ pub fn record_of(
 
 // Where a glyph's actions stand in a direction.
 pub fn list_spot(table: &[u8], count: u32, direction: Direction, glyph: u16) -> Spot
+    requires { ⌜ tableFault (now table) count ≡ Clear ⌝ }
     ensures { λ r. ⌜ (r ≡ listSpot (now (table .entry)) count direction glyph) × Below (2 ^ 17) r ⌝ }
 {
     let lists = lists_in(table, direction);
@@ -212,6 +220,7 @@ pub fn list_spot(table: &[u8], count: u32, direction: Direction, glyph: u16) -> 
 
 // Where the action of a glyph with a number stands in a direction.
 pub fn action_spot(table: &[u8], count: u32, direction: Direction, glyph: u16, number: u16) -> Spot
+    requires { ⌜ tableFault (now table) count ≡ Clear ⌝ }
     ensures { λ r. ⌜ (r ≡ actionSpot (now (table .entry)) count direction glyph number) × Below (2 ^ 50) r ⌝ }
 {
     match list_spot(table, count, direction, glyph) {
@@ -229,6 +238,7 @@ pub fn action_of(
     glyph: u16,
     number: u16,
 ) -> ActionAnswer
+    requires { ⌜ tableFault (now table) count ≡ Clear ⌝ }
     ensures { λ r. ⌜ (saysAction r ≡ given (cut (ask (meaningOf (now (table .entry)) count) (along direction (action glyph number))))) × (r .action ≡ roomAfter (given (cut (ask (meaningOf (now (table .entry)) count) (along direction (action glyph number)))))) ⌝ }
 {
     match action_spot(table, count, direction, glyph, number) {

@@ -2,14 +2,14 @@
 use mathlib.Core.Path.{sym, _∙_, subst}
 use Rattle.line_parts.specs.Parts.{Small}
 use native.Mathlib.Omega.{arith}
-use Rattle.table_parts.proofs.Steps.{below-at, cluster-found}
+use Rattle.table_parts.proofs.Steps.{below-at, cluster-found, clusters-sound}
 use Rattle.line_parts.proofs.Parts.{record-is, record-limits}
 use borrow.Author.Needs.{needs}
 use Rattle.line_parts.proofs.record_for.Statement.{statement}
 use Rattle.line_parts.proofs.record_for.Tie as tie
 
 cluster-by-requires : tie.Need-cluster-by-requires
-cluster-by-requires c κs = c .before .pre .1 .1
+cluster-by-requires c κs = (c .before .pre .1 .1, clusters-sound _ _ (c .before .pre .0) _ (c .before .pre .1 .0))
 
 enum-known-at : tie.Need-enum-known-at
 enum-known-at c = search needs

@@ -1,4 +1,4 @@
-use Rattle.table_parts.proofs.Steps.{list-found}
+use Rattle.table_parts.proofs.Steps.{list-found, lists-sound}
 use Rattle.line_verdicts.proofs.Laws.{begins-there, begins-none, spot-below}
 use native.Mathlib.Omega.{arith}
 use mathlib.Core.Path.{sym, _∙_}
@@ -7,7 +7,7 @@ use Rattle.line_verdicts.proofs.begin.Statement.{statement}
 use Rattle.line_verdicts.proofs.begin.Tie as tie
 
 list-by-requires : tie.Need-list-by-requires
-list-by-requires c κs = c .before .pre .1 .1
+list-by-requires c κs = (c .before .pre .1 .1, lists-sound _ _ (c .before .pre .0 .0) _ (c .before .pre .1 .0))
 
 enum-known-at : tie.Need-enum-known-at
 enum-known-at c = search needs

@@ -6,14 +6,14 @@ use lib.ListN.{getD}
 use Rattle.actions.specs.declared.Spot.the-variants.{Nowhere}
 use Rattle.meaning.specs.Ask.{sideOf}
 use Rattle.table.specs.Means.{meaningOf}
-use Rattle.table_parts.proofs.Steps.{list-found}
+use Rattle.table_parts.proofs.Steps.{list-found, lists-sound}
 use Rattle.line_verdicts.proofs.Laws.{list-here, begins-there, spot-below, places, count-there, count-none}
 use borrow.Author.Needs.{needs}
 use Rattle.line_verdicts.proofs.count_glyph.Statement.{statement}
 use Rattle.line_verdicts.proofs.count_glyph.Tie as tie
 
 list-by-requires : tie.Need-list-by-requires
-list-by-requires c κs = c .before .pre .1 .1
+list-by-requires c κs = (c .before .pre .1 .1, lists-sound _ _ (c .before .pre .0) _ (c .before .pre .1 .0))
 
 enum-known-at : tie.Need-enum-known-at
 enum-known-at c = search needs

@@ -24,16 +24,17 @@ fires-once-requires c κs = let l = c .before .loop in hand-inside (c .before .b
 add-total : tie.Need-add-total Inv-loop μ-loop
 add-total c = record { fits = omega (arith, c .fires-once .ensures .1, c .before .before .loop .inv .2) }
 
-add-u32-at : tie.Need-add-u32-at Inv-loop μ-loop
-add-u32-at c = let l = c .before .before .loop in
+add-u32-in : tie.Need-add-u32-in Inv-loop μ-loop
+add-u32-in c = let l = c .before .before .loop in
     record { fits = omega (arith, hand-inside (c .before .before .before .before .args .table .now) (handCursor (l .left) (l .at)) 65536 (l .inv .0) (c .before .loop-test .taken), l .inv .0 .short) }
 
-u32-at-requires : tie.Need-u32-at-requires Inv-loop μ-loop
-u32-at-requires c κs = search needs
+u32-in-requires : tie.Need-u32-in-requires Inv-loop μ-loop
+u32-in-requires c κs = let l = c .before .before .loop in
+    omega (arith, hand-inside (c .before .before .before .before .args .table .now) (handCursor (l .left) (l .at)) 65536 (l .inv .0) (c .before .loop-test .taken))
 
 add-at : tie.Need-add-at Inv-loop μ-loop
 add-at c = let l = c .before .before .before .loop in
-    record { fits = omega (arith, hand-inside (c .before .before .before .before .before .args .table .now) (handCursor (l .left) (l .at)) 65536 (l .inv .0) (c .before .before .loop-test .taken), l .inv .0 .short, c .u32-at .ensures .1) }
+    record { fits = omega (arith, hand-inside (c .before .before .before .before .before .args .table .now) (handCursor (l .left) (l .at)) 65536 (l .inv .0) (c .before .before .loop-test .taken), l .inv .0 .short, c .u32-in .ensures .1) }
 
 sub-left : tie.Need-sub-left Inv-loop μ-loop
 sub-left c = omega arith
@@ -46,7 +47,7 @@ loop-again c =
     let a = c .before .before .before .before .before .args in
     let l = c .before .before .before .loop in
     let h = c .before .before .loop-test .taken in
-    let e = c .u32-at .ensures .0 in
+    let e = c .u32-in .ensures .0 in
     let f = c .before .fires-once .ensures in (
       subst (λ (k : ℕ). Serves (a .table .now) 65536 (handCursor (l .left - 1) (l .at + k))) (sym e) (hand-past (a .table .now) (l .left) (l .at) (l .inv .0) h),
       omega (
@@ -74,8 +75,8 @@ count-list-spec =
     loop-holds
     fires-once-requires
     add-total
-    add-u32-at
-    u32-at-requires
+    add-u32-in
+    u32-in-requires
     add-at
     sub-left
     loop-less

@@ -5,19 +5,19 @@ use borrow.Author.Needs.{needs}
 use Rattle.line_verdicts.proofs.fires_here.Statement.{statement}
 use Rattle.line_verdicts.proofs.fires_here.Tie as tie
 
-u16-at-requires : tie.Need-u16-at-requires
-u16-at-requires c κs = search needs
+u16-in-requires : tie.Need-u16-in-requires
+u16-in-requires c κs = search needs
 
 returns : tie.Need-returns
 returns c =
     let a = c .before .before .before .args in
-    other-class (a .table .now) (a .at) (a .class) (a .growth .0) (a .size) (λ e. c .if1 .taken (c .before .u16-at .ensures .0 ∙ e))
+    other-class (a .table .now) (a .at) (a .class) (a .growth .0) (a .size) (λ e. c .if1 .taken (c .before .u16-in .ensures .0 ∙ e))
 
-add-u16-at : tie.Need-add-u16-at
-add-u16-at c = search needs
+add-u16-in : tie.Need-add-u16-in
+add-u16-in c = search needs
 
-u16-at-requires-2 : tie.Need-u16-at-requires-2
-u16-at-requires-2 c κs = search needs
+u16-in-requires-2 : tie.Need-u16-in-requires-2
+u16-in-requires-2 c κs = search needs
 
 cast-kind : tie.Need-cast-kind
 cast-kind c = search needs
@@ -40,17 +40,17 @@ kind-fires-requires c κs = search needs
 returns-2 : tie.Need-returns-2
 returns-2 c =
     let a = c .before .before .before .before .before .before .args in
-    own-class (a .table .now) (a .at) (a .class) (a .growth .0) (a .size) (c .kind-fires .ensures) (sym (c .before .before .before .before .u16-at .ensures .0) ∙ c .before .before .before .if1 .left) (c .before .before .u16-at2 .ensures .0)
+    own-class (a .table .now) (a .at) (a .class) (a .growth .0) (a .size) (c .kind-fires .ensures) (sym (c .before .before .before .before .u16-in .ensures .0) ∙ c .before .before .before .if1 .left) (c .before .before .u16-in2 .ensures .0)
     (rest-whole (a .table .now) (a .at + 8))
 
 pub fires-here-spec : {M : Type 1} → statement M
 fires-here-spec =
     tie.close
     (tie.spec
-    u16-at-requires
+    u16-in-requires
     returns
-    add-u16-at
-    u16-at-requires-2
+    add-u16-in
+    u16-in-requires-2
     cast-kind
     add-kind-fires
     sub-kind-fires

@@ -18,16 +18,17 @@ add-step-of c = search needs
 sub-step-of : tie.Need-sub-step-of
 sub-step-of c = search needs
 
-add-u32-at : tie.Need-add-u32-at
-add-u32-at c = let a = c .before .before .args in let s = c .before .before .pre in
+add-u32-in : tie.Need-add-u32-in
+add-u32-in c = let a = c .before .before .args in let s = c .before .before .pre in
     record { fits = omega (arith, hand-inside (a .table .now) (a .cursor) 65536 (s .0) (s .1), s .0 .short) }
 
-u32-at-requires : tie.Need-u32-at-requires
-u32-at-requires c κs = search needs
+u32-in-requires : tie.Need-u32-in-requires
+u32-in-requires c κs = let a = c .before .before .args in let s = c .before .before .pre in
+    omega (arith, hand-inside (a .table .now) (a .cursor) 65536 (s .0) (s .1))
 
 add-t16 : tie.Need-add-t16
 add-t16 c = let a = c .before .before .before .args in let s = c .before .before .before .pre in
-    record { fits = omega (arith, hand-inside (a .table .now) (a .cursor) 65536 (s .0) (s .1), s .0 .short, c .u32-at .ensures .1) }
+    record { fits = omega (arith, hand-inside (a .table .now) (a .cursor) 65536 (s .0) (s .1), s .0 .short, c .u32-in .ensures .1) }
 
 sub-step-of-2 : tie.Need-sub-step-of-2
 sub-step-of-2 c = let a = c .before .before .before .args in let s = c .before .before .before .pre in hand-begun (a .table .now) (a .cursor) 65536 (s .0) (s .1)
@@ -42,7 +43,7 @@ returns : tie.Need-returns
 unfolding judgedAt
 returns c = let a = c .before .before .before .before .args in
     c .step-of .ensures
-    ∙ ap₂ (λ (f : Fires) (k : ℕ). stepOf f (a .cursor .next - 1) (a .cursor .number) (record { next = a .cursor .next; number = a .cursor .number + 1; left = a .cursor .left - 1; at = a .cursor .at + k })) (c .before .before .fires-here .ensures) (c .before .u32-at .ensures .0)
+    ∙ ap₂ (λ (f : Fires) (k : ℕ). stepOf f (a .cursor .next - 1) (a .cursor .number) (record { next = a .cursor .next; number = a .cursor .number + 1; left = a .cursor .left - 1; at = a .cursor .at + k })) (c .before .before .fires-here .ensures) (c .before .u32-in .ensures .0)
 
 pub judge-spec : {M : Type 1} → statement M
 judge-spec =
@@ -51,8 +52,8 @@ judge-spec =
     fires-here-requires
     add-step-of
     sub-step-of
-    add-u32-at
-    u32-at-requires
+    add-u32-in
+    u32-in-requires
     add-t16
     sub-step-of-2
     cast-step-of

@@ -1,21 +1,21 @@
 use native.Mathlib.Omega.{arith}
 use mathlib.Core.Path.{refl}
-use Rattle.lookup.proofs.Laws.{units-fit, head-units}
 use Rattle.lookup.proofs.Pass.{serves-begin}
 use borrow.Author.Needs.{needs}
 use Rattle.lookup.proofs.begin.Statement.{statement}
 use Rattle.lookup.proofs.begin.Tie as tie
 
-add-t3 : tie.Need-add-t3
-add-t3 c = search needs
+u16-at-requires : tie.Need-u16-at-requires
+u16-at-requires c κs = search needs
 
-head-at-requires : tie.Need-head-at-requires
-head-at-requires c κs = search needs
+add-t4 : tie.Need-add-t4
+add-t4 c = search needs
+
+unit-count-requires : tie.Need-unit-count-requires
+unit-count-requires c κs = search needs
 
 returns : tie.Need-returns
-returns c = λ glyphs e.
-    let u = head-units _ _ (c .head-at .ensures) in
-    serves-begin _ _ glyphs _ _ e refl u (omega (arith, u, units-fit (c .before .before .args .table .now) (c .before .before .args .at) (λ i. c .before .shared-slice-known .given i .fits)))
+returns c = λ glyphs e. serves-begin _ _ glyphs _ _ e refl (c .unit-count .ensures .0) (omega (arith, c .unit-count .ensures .1))
 
 pub begin-spec : {M : Type 1} → statement M
-begin-spec = tie.close (tie.spec add-t3 head-at-requires returns)
+begin-spec = tie.close (tie.spec u16-at-requires add-t4 unit-count-requires returns)

@@ -14,7 +14,7 @@ enum-told : tie.Need-enum-told
 enum-told c = search needs
 
 action-of-requires : tie.Need-action-of-requires
-action-of-requires c κs = search needs
+action-of-requires c κs = sym (c .before .before .table-fault .ensures) ∙ c .enum-told .given .1
 
 enum-known-refusal : tie.Need-enum-known-refusal
 enum-known-refusal c = search needs

@@ -11,7 +11,7 @@ enum-told : tie.Need-enum-told
 enum-told c = search needs
 
 record-of-requires : tie.Need-record-of-requires
-record-of-requires c κs = search needs
+record-of-requires c κs = sym (c .before .before .table-fault .ensures) ∙ c .enum-told .given .1
 
 enum-known-refusal : tie.Need-enum-known-refusal
 enum-known-refusal c = search needs

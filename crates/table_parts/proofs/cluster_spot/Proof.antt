@@ -1,4 +1,4 @@
-use Rattle.table_parts.proofs.Steps.{cluster-found}
+use Rattle.table_parts.proofs.Steps.{cluster-found, clusters-sound}
 use mathlib.Core.Path.{_∙_}
 use borrow.Author.Needs.{needs}
 use Rattle.table_parts.proofs.cluster_spot.Statement.{statement}
@@ -8,7 +8,7 @@ clusters-in-requires : tie.Need-clusters-in-requires
 clusters-in-requires c κs = search needs
 
 cluster-by-requires : tie.Need-cluster-by-requires
-cluster-by-requires c κs = search needs
+cluster-by-requires c κs = (c .clusters-in .ensures .1, clusters-sound _ _ (c .before .before .pre) _ (c .clusters-in .ensures .0))
 
 returns : tie.Need-returns
 returns c = (c .cluster-by .ensures .0 ∙ cluster-found _ _ _ _ (c .before .clusters-in .ensures .0), c .cluster-by .ensures .1)

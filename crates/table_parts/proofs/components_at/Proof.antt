@@ -21,7 +21,7 @@ enum-told-2 : tie.Need-enum-told-2
 enum-told-2 c = search needs
 
 action-spot-requires : tie.Need-action-spot-requires
-action-spot-requires c κs = search needs
+action-spot-requires c κs = sym (c .before .before .table-fault .ensures) ∙ c .enum-told2 .given .1
 
 enum-known-at : tie.Need-enum-known-at
 enum-known-at c = search needs
