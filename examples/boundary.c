@@ -15,6 +15,8 @@
 _Static_assert(sizeof(struct just_verdict) == 6, "as the library has it");
 _Static_assert(sizeof(struct just_record_answer) == 32, "as the library has it");
 _Static_assert(sizeof(struct just_action_answer) == 92, "as the library has it");
+_Static_assert(sizeof(struct just_value_answer) == 12, "as the library has it");
+_Static_assert(sizeof(struct just_units_answer) == 12, "as the library has it");
 
 /* Bytes that end where their last page ends; the page after it may not be touched. */
 static void *lend(size_t length) {
@@ -61,6 +63,10 @@ static void ask_table(const uint8_t *table, size_t length) {
         just_table_record(table, length, GLYPHS, way, 226, 1);
         just_table_action(table, length, GLYPHS, way, 226, 0);
         just_table_components(table, length, GLYPHS, way, 226, 0);
+        for (uint32_t lookup = 0; lookup < 2; lookup++) {
+            just_table_value(table, length, GLYPHS, way, lookup, 226);
+            just_table_units(table, length, GLYPHS, way, lookup);
+        }
     }
 }
 

@@ -7,12 +7,12 @@
  * only read may.
  *
  * What is answered. A refusal is the number of a just_refusal, 0 where there is none. What stands beside a refusal,
- * or beside `found` false, is zeros. A refusal leaves every lent buffer as it was. Padding between the members of a
+ * or beside `found` false, is zeros, but for the looks of a just_value_answer. A refusal leaves every lent buffer as it was. Padding between the members of a
  * struct that a call fills may hold anything, so compare verdicts member by member.
  *
  * Any bytes and any numbers may be handed in. A bool is false or true. A direction is 0 for horizontal and any other
- * number for vertical. `glyphs` or `glyph_count` is the glyph count N that a table is read with. One unit is
- * 1/65,536 point.
+ * number for vertical, a lookup 0 for the width lookup and any other number for the action lookup. `glyphs` or
+ * `glyph_count` is the glyph count N that a table is read with. One unit is 1/65,536 point.
  *
  * No call has state, so calls may run at the same time on lent bytes that none of them writes. Calls for sheets, the
  * writer among them, need up to 1 MiB of stack, all others less than 128 KiB.
@@ -51,6 +51,9 @@ enum just_refusal {
 };
 
 enum just_direction { JUST_HORIZONTAL = 0, JUST_VERTICAL = 1 };
+
+/* A direction's two lookups: from glyphs to width records, and from glyphs to actions. */
+enum just_lookup { JUST_WIDTH_LOOKUP = 0, JUST_ACTION_LOOKUP = 1 };
 
 /* What a cell of the class machine holds. */
 struct just_entry {
@@ -122,6 +125,23 @@ struct just_action_answer {
     struct just_action action;
 };
 
+/* A glyph's value in a lookup, and how many of the lookup's units a find of it looks at: these are counted where
+ * `found` is false, too. */
+struct just_value_answer {
+    uint32_t refusal;
+    bool found;
+    uint16_t value;
+    uint32_t looks;
+};
+
+/* How many units a lookup has for a find, a closing one left out, and a bound: no find there looks at more than `most`
+ * of them, the least b for which 2 to the power b exceeds the units. */
+struct just_units_answer {
+    uint32_t refusal;
+    uint32_t units;
+    uint32_t most;
+};
+
 /* How many bytes a sheet has. */
 struct just_length_answer {
     uint32_t refusal;
@@ -165,6 +185,15 @@ struct just_record_answer just_table_record(const uint8_t *table, size_t length,
                                             uint16_t glyph, uint8_t just_class);
 struct just_action_answer just_table_action(const uint8_t *table, size_t length, uint32_t glyphs, uint32_t direction,
                                             uint16_t glyph, uint16_t number);
+
+/* The value of a glyph in a lookup, as the table has it: an offset; in the action lookup 0 names no list. A find looks
+ * at the middle of the units left, the lower of two, stops if it covers the glyph, and else keeps the half on the
+ * glyph's side. It looks at no unit for 0xFFFF and in formats 0 and 8; a glyph of N or more is looked for and has no
+ * value. An absent lookup has no values and no units. The table is judged first each time: looks counts the find alone. */
+struct just_value_answer just_table_value(const uint8_t *table, size_t length, uint32_t glyphs, uint32_t direction,
+                                          uint32_t lookup, uint16_t glyph);
+struct just_units_answer just_table_units(const uint8_t *table, size_t length, uint32_t glyphs, uint32_t direction,
+                                          uint32_t lookup);
 
 /* Where the component list of a type 0 action stands in the table; length 0 where there is none. Never refuses. */
 struct just_stretch just_table_components(const uint8_t *table, size_t length, uint32_t glyphs, uint32_t direction,

@@ -34,4 +34,4 @@ pub use parts::{Act, Action, Direction, Entry, Limits, Meaning, Pair, Rule, Size
 pub use refusal::Refusal;
 pub use sections::{Machine, Run, Side};
 pub use sheet::Sheet;
-pub use table::Table;
+pub use table::{Found, Lookup, Table, Units};

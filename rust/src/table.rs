@@ -4,6 +4,23 @@ use crate::parts::{Accepted, Direction};
 use crate::refusal::Refusal;
 use just_raw::{self as raw, Asked};
 
+pub use raw::Units;
+
+/// A direction's two lookups: from glyphs to width records, and from glyphs to actions.
+#[derive(Clone, Copy, Debug, PartialEq, Eq, Hash)]
+#[repr(u32)]
+pub enum Lookup {
+    Width = 0,
+    Action = 1,
+}
+
+/// What a find in a lookup gives: the glyph's value, if it has one, and how many of the lookup's units were looked at.
+#[derive(Clone, Copy, Debug, PartialEq, Eq, Hash)]
+pub struct Found {
+    pub value: Option<u16>,
+    pub looks: u32,
+}
+
 /// A table that was accepted with a glyph count. It holds the lent bytes.
 ///
 /// ```
@@ -49,6 +66,19 @@ impl<'a> Table<'a> {
     pub fn components(&self, direction: Direction, glyph: u16, number: u16) -> &'a [u8] {
         let at = self.lent.components(direction as u32, glyph, number);
         &self.lent.bytes[at.offset..at.offset + at.length]
+    }
+
+    /// The value of a glyph in a lookup, as the table has it: an offset; in the action lookup 0 names no list. Of the units
+    /// left a find looks at the middle one, the lower of two, stops if that covers the glyph, and else keeps the half on the
+    /// glyph's side. The table is judged first each time; the looks are those of the find alone.
+    pub fn find(&self, direction: Direction, lookup: Lookup, glyph: u16) -> Result<Found, Refusal> {
+        let said = Refusal::or(self.lent.value(direction as u32, lookup as u32, glyph))?;
+        Ok(Found { value: said.found.then_some(said.value), looks: said.looks })
+    }
+
+    /// How many units a lookup has for a find, a closing one left out; no find there looks at more than `most` of them.
+    pub fn units(&self, direction: Direction, lookup: Lookup) -> Result<Units, Refusal> {
+        Refusal::or(self.lent.units(direction as u32, lookup as u32))
     }
 
     /// How many bytes the table's sheet has.

@@ -5,7 +5,8 @@ mod common;
 
 use common::{complex, simple, GLYPHS};
 use just::{
-    Act, Action, Direction, Entry, Justified, Limits, Line, Meaning, Pair, Refusal, Rule, Sheet, Sizes, Table, Verdict,
+    Act, Action, Direction, Entry, Found, Justified, Limits, Line, Lookup, Meaning, Pair, Refusal, Rule, Sheet, Sizes,
+    Table, Units, Verdict, DELETED,
 };
 
 const WAY: Direction = Direction::Horizontal;
@@ -101,6 +102,24 @@ fn more_verdicts_than_glyphs_are_all_given() {
         Line { direction: WAY, starts: true, ends: true, size: 1 << 16, glyphs: &[0], advances: &[0], target: 5 };
     let verdicts = table.justify(&line).expect("a justified line").verdicts;
     assert_eq!(verdicts.iter().map(|verdict| verdict.action).collect::<Vec<_>>(), [0, 1, 2]);
+}
+
+#[test]
+fn a_find_goes_by_halves() {
+    let bytes = complex();
+    let table = Table::new(&bytes, GLYPHS).expect("a table");
+    let found = |lookup, glyph| table.find(WAY, lookup, glyph).expect("a find");
+    // Of the two units, for glyph 2 and for glyphs 3 to 226, the lower is looked at first.
+    assert_eq!(found(Lookup::Width, 2), Found { value: Some(0), looks: 1 });
+    assert_eq!(found(Lookup::Width, 226), Found { value: Some(28), looks: 2 });
+    assert_eq!(found(Lookup::Width, 1), Found { value: None, looks: 1 });
+    assert_eq!(found(Lookup::Width, GLYPHS as u16), Found { value: None, looks: 2 });
+    assert_eq!(found(Lookup::Width, DELETED), Found { value: None, looks: 0 });
+    assert_eq!(found(Lookup::Action, 3), Found { value: Some(24), looks: 1 });
+    assert_eq!(table.find(Direction::Vertical, Lookup::Action, 3), Ok(Found { value: None, looks: 0 }));
+    assert_eq!(table.units(WAY, Lookup::Width), Ok(Units { units: 2, most: 2 }));
+    assert_eq!(table.units(WAY, Lookup::Action), Ok(Units { units: 1, most: 1 }));
+    assert_eq!(table.units(Direction::Vertical, Lookup::Width), Ok(Units { units: 0, most: 0 }));
 }
 
 #[test]

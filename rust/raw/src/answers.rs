@@ -78,6 +78,23 @@ impl Default for Action {
     }
 }
 
+/// A glyph's value in a lookup, 0 where it has none, and how many of the lookup's units a find of it looks at.
+#[derive(Clone, Copy, Debug, Default, PartialEq, Eq, Hash)]
+#[repr(C)]
+pub struct Value {
+    pub found: bool,
+    pub value: u16,
+    pub looks: u32,
+}
+
+/// How many units a lookup has for a find, and the bound on its looks.
+#[derive(Clone, Copy, Debug, Default, PartialEq, Eq, Hash)]
+#[repr(C)]
+pub struct Units {
+    pub units: u32,
+    pub most: u32,
+}
+
 /// A stretch of a table: the offset of its first byte, and its length in bytes.
 #[derive(Clone, Copy, Debug, Default, PartialEq, Eq, Hash)]
 #[repr(C)]
@@ -94,4 +111,6 @@ const _: () = {
     assert!(size_of::<Part<Entry>>() == 12);
     assert!(size_of::<Part<Pair>>() == 32);
     assert!(size_of::<Part<Action>>() == 92);
+    assert!(size_of::<Answer<Value>>() == 12);
+    assert!(size_of::<Answer<Units>>() == 12);
 };

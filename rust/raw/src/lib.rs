@@ -12,7 +12,7 @@ mod line;
 mod sheet;
 mod table;
 
-pub use answers::{Action, Answer, Entry, Flags, Found, Limits, Pair, Part, Sizes, Stretch};
+pub use answers::{Action, Answer, Entry, Flags, Found, Limits, Pair, Part, Sizes, Stretch, Units, Value};
 pub use line::{Lent, Line, Said, Verdict};
 pub use sheet::Sheet;
 pub use table::Table;

@@ -1,6 +1,6 @@
 //! The calls that take a table, but for the one that justifies a line.
 
-use crate::{Action, Answer, Asked, Entry, Pair, Part, Sizes, Stretch};
+use crate::{Action, Answer, Asked, Entry, Pair, Part, Sizes, Stretch, Units, Value};
 
 // `n` is the glyph count, `way` the direction.
 extern "C" {
@@ -11,6 +11,8 @@ extern "C" {
     fn just_table_cell(table: *const u8, length: usize, n: u32, way: u32, row: u16, class: u16) -> Part<Entry>;
     fn just_table_record(table: *const u8, length: usize, n: u32, way: u32, glyph: u16, class: u8) -> Part<Pair>;
     fn just_table_action(table: *const u8, length: usize, n: u32, way: u32, glyph: u16, number: u16) -> Part<Action>;
+    fn just_table_value(table: *const u8, length: usize, n: u32, way: u32, lookup: u32, glyph: u16) -> Answer<Value>;
+    fn just_table_units(table: *const u8, length: usize, n: u32, way: u32, lookup: u32) -> Answer<Units>;
     fn just_table_components(table: *const u8, length: usize, n: u32, way: u32, glyph: u16, number: u16) -> Stretch;
     fn just_table_sheet_length(table: *const u8, length: usize, n: u32) -> Answer<u32>;
     fn just_write_sheet(table: *const u8, length: usize, n: u32, room: *mut u8, room_length: usize) -> Answer<u32>;
@@ -29,6 +31,19 @@ impl Table<'_> {
     pub fn check(self) -> u32 {
         let (table, length, n) = self.lent();
         unsafe { just_check_table(table, length, n) }
+    }
+
+    /// The value of a glyph in a lookup, and how many units a find of it looks at. A lookup is 0 for the width lookup and
+    /// any other number for the action lookup.
+    pub fn value(self, direction: u32, lookup: u32, glyph: u16) -> Answer<Value> {
+        let (table, length, n) = self.lent();
+        unsafe { just_table_value(table, length, n, direction, lookup, glyph) }
+    }
+
+    /// How many units a lookup has for a find, and the bound on its looks.
+    pub fn units(self, direction: u32, lookup: u32) -> Answer<Units> {
+        let (table, length, n) = self.lent();
+        unsafe { just_table_units(table, length, n, direction, lookup) }
     }
 
     /// Where the component list of a type 0 action stands in the table; length 0 where there is none. Never refuses.

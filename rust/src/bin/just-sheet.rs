@@ -1,10 +1,13 @@
 //! `just-sheet TABLE N`: the sheet of a table file read with N glyphs, in hex, four bytes a line.
-//! `just-sheet --text TABLE N`: the same, to be read.
+//! `just-sheet --text TABLE N`: the same, to be read, and how many units each lookup of the table has, which tables that
+//! mean the same need not have alike, and at most how many of them a find looks at.
 //! `just-sheet --same A B N [M]`: whether A, read with N glyphs, and B, read with M or N, mean the same.
 //!
 //! Exit status: 0, or 1 where two tables do not mean the same, or 2 where something is refused or cannot be read.
 
-use just::{Act, Action, Direction, Entry, Limits, Machine, Pair, Rule, Run, Sheet, Side, Table};
+use just::{
+    Act, Action, Direction, Entry, Limits, Lookup, Machine, Pair, Refusal, Rule, Run, Sheet, Side, Table, Units,
+};
 use std::fmt::Write as _;
 use std::io::Write as _;
 use std::process::ExitCode;
@@ -34,7 +37,7 @@ fn print((text, yes): (String, bool)) -> Result<bool, String> {
 
 fn answer(words: &[&str]) -> Answered {
     match *words {
-        ["--text", table, n] => Ok((text(&sheet(table, n)?), true)),
+        ["--text", table, n] => Ok((text(table, n)?, true)),
         ["--same", a, b, n] => same(&sheet(a, n)?, &sheet(b, n)?),
         ["--same", a, b, n, m] => same(&sheet(a, n)?, &sheet(b, m)?),
         [table, n] if !table.starts_with("--") => Ok((hex(&sheet(table, n)?), true)),
@@ -42,12 +45,17 @@ fn answer(words: &[&str]) -> Answered {
     }
 }
 
-/// The sheet of a table file.
-fn sheet(file: &str, glyphs: &str) -> Result<Vec<u8>, String> {
+/// What is asked of the table in a file.
+fn asked<T>(file: &str, glyphs: &str, what: impl Fn(&Table) -> Result<T, Refusal>) -> Result<T, String> {
     let glyphs: u32 = glyphs.parse().map_err(|_| format!("{glyphs} is no glyph count"))?;
     let bytes = std::fs::read(file).map_err(|wrong| format!("{file}: {wrong}"))?;
-    let written = Table::new(&bytes, glyphs).and_then(|table| table.write_sheet());
-    written.map_err(|refusal| format!("{file}: {refusal}"))
+    let said = Table::new(&bytes, glyphs).and_then(|table| what(&table));
+    said.map_err(|refusal| format!("{file}: {refusal}"))
+}
+
+/// The sheet of a table file.
+fn sheet(file: &str, glyphs: &str) -> Result<Vec<u8>, String> {
+    asked(file, glyphs, |table| table.write_sheet())
 }
 
 /// Tables mean the same exactly when their sheets are equal.
@@ -70,14 +78,26 @@ fn put(out: &mut String, what: std::fmt::Arguments) {
     out.write_fmt(what).expect("a string grows");
 }
 
-fn text(bytes: &[u8]) -> String {
-    let sheet = Sheet::new(bytes).expect("what was written is a sheet");
-    let mut out = format!("glyphs: {}\n", just::Meaning::glyph_count(&sheet));
-    for (name, direction) in [("horizontal", Direction::Horizontal), ("vertical", Direction::Vertical)] {
-        put(&mut out, format_args!("{name}\n"));
-        put_side(&mut out, &sheet.side(direction));
+fn text(file: &str, glyphs: &str) -> Result<String, String> {
+    asked(file, glyphs, |table| {
+        let bytes = table.write_sheet()?;
+        let sheet = Sheet::new(&bytes).expect("what was written is a sheet");
+        let mut out = format!("glyphs: {}\n", just::Meaning::glyph_count(&sheet));
+        for (name, direction) in [("horizontal", Direction::Horizontal), ("vertical", Direction::Vertical)] {
+            put(&mut out, format_args!("{name}\n"));
+            put_units(&mut out, "width", table.units(direction, Lookup::Width)?);
+            put_units(&mut out, "action", table.units(direction, Lookup::Action)?);
+            put_side(&mut out, &sheet.side(direction));
+        }
+        Ok(out)
+    })
+}
+
+/// A lookup without units, absent or not, is not searched.
+fn put_units(out: &mut String, name: &str, Units { units, most }: Units) {
+    if units != 0 {
+        put(out, format_args!("  {name} lookup: units {units}, looks at most {most}\n"));
     }
-    out
 }
 
 fn put_side(out: &mut String, side: &Side) {
