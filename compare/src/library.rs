@@ -2,7 +2,7 @@
 //! where nothing is found, has to be zeros.
 
 use just_raw::{self as raw, Answer, Asked, Found};
-use reference::{Action, Cell, Direction, Sizes, Stretch, WidthRecord};
+use reference::{Action, Cell, Direction, Sizes, Stretch, Which, WidthRecord};
 
 /// A part, nothing, or the number of a refusal.
 pub type Part<T> = Result<Option<T>, u32>;
@@ -63,6 +63,26 @@ pub fn action(of: impl Asked, way: Direction, glyph: u16, index: u16) -> Part<Ac
         Action { class, kind, data: data.to_vec() }
     };
     part(of.action(number(way), glyph, index), turn)
+}
+
+/// A lookup's number.
+fn lookup(which: Which) -> u32 {
+    match which {
+        Which::Width => 0,
+        Which::Action => 1,
+    }
+}
+
+/// A find: the value, if any, and the looks.
+pub fn found(table: raw::Table, way: Direction, which: Which, glyph: u16) -> Result<reference::Found, u32> {
+    let raw::Value { found, value, looks } = said(table.value(number(way), lookup(which), glyph))?;
+    assert!(found || value == 0, "a value that is not there is not 0");
+    Ok(reference::Found { value: found.then_some(value), looks })
+}
+
+/// A lookup's units, and the bound on a find's looks.
+pub fn units(table: raw::Table, way: Direction, which: Which) -> Result<(u32, u32), u32> {
+    said(table.units(number(way), lookup(which))).map(|raw::Units { units, most }| (units, most))
 }
 
 pub fn components(table: raw::Table, way: Direction, glyph: u16, index: u16) -> Stretch {

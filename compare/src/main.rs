@@ -3,7 +3,7 @@
 
 use compare::questions::Questions;
 use compare::tally::Tally;
-use compare::{crowded, edges, lines, marks, samples, sheets, tables, Outcome};
+use compare::{crowded, edges, finds, lines, marks, samples, sheets, tables, Outcome};
 use just_raw::Table;
 use std::process::ExitCode;
 use std::time::{Duration, Instant};
@@ -41,8 +41,9 @@ fn asked() -> Result<Asked, String> {
 /// The kinds of cases, each with its comparison.
 type Kind = (&'static str, fn(u64, u64, &mut Tally) -> Outcome);
 
-const KINDS: [Kind; 6] = [
+const KINDS: [Kind; 7] = [
     ("table", table_case),
+    ("find", find_case),
     ("sheet", sheet_case),
     ("line", line_case),
     ("edges", edges_case),
@@ -58,6 +59,15 @@ fn table_case(seed: u64, index: u64, _: &mut Tally) -> Outcome {
         tables::compare_counts(&bytes, &mut asked)?;
     }
     Ok(())
+}
+
+/// A table is judged for each find: every tenth case is one.
+fn find_case(seed: u64, index: u64, tally: &mut Tally) -> Outcome {
+    if index % 10 != 0 {
+        return Ok(());
+    }
+    let (bytes, glyph_count) = finds::draw(seed, index);
+    finds::compare(Table { bytes: &bytes, glyph_count }, &mut Questions::new(seed, index), tally)
 }
 
 fn sheet_case(seed: u64, index: u64, _: &mut Tally) -> Outcome {

@@ -1,7 +1,7 @@
 //! What a drawn line shows, by name, and how often a long run has to meet each.
 
-use crate::edges;
 use crate::tally::Tally;
+use crate::{edges, finds};
 use reference::generate::LineCase;
 use reference::line::{classes_of, rooms_of, MOST_TOTAL, MOST_WIDTH};
 use reference::meaning::DELETED;
@@ -55,7 +55,7 @@ pub fn wanted() -> Vec<(String, u64)> {
     PLACES.iter().for_each(|count| want(format!("{count} glyphs")));
     ROOMS.iter().for_each(|room| want(format!("room {room}")));
     SHOWN.iter().for_each(|(shown, _)| want(shown.to_string()));
-    edges::MARKS.iter().for_each(|mark| want(mark.to_string()));
+    edges::MARKS.iter().chain(&finds::MARKS).for_each(|mark| want(mark.to_string()));
     for stage in 0..STAGES {
         BESIDE.iter().for_each(|beside| want(cap_mark(beside, stage)));
     }

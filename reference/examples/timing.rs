@@ -17,8 +17,10 @@ fn time<T>(name: &str, items: &[T], mut call: impl FnMut(&T) -> usize) {
 fn main() {
     let tables: Vec<_> = (0..DRAWS).map(|index| generate::sound_table(1, index)).collect();
     let sheets: Vec<_> = tables.iter().filter_map(|(table, n)| write_sheet(table, *n).ok()).collect();
+    let long: Vec<_> = (0..DRAWS / 10).map(|index| generate::long_table(1, index)).collect();
     let lines: Vec<_> = (0..DRAWS).map(|index| generate::line(1, index)).collect();
     time("check_table", &tables, |(table, n)| check_table(table, *n).is_ok() as usize);
+    time("check_long", &long, |(table, n)| check_table(table, *n).is_ok() as usize);
     time("write_sheet", &tables, |(table, n)| write_sheet(table, *n).map_or(0, |sheet| sheet.len()));
     time("check_sheet", &sheets, |sheet| check_sheet(sheet) as usize);
     time("justify", &lines, |case| case.justify().map_or(0, |answer| answer.verdicts.len()));

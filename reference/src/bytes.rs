@@ -75,6 +75,15 @@ impl<'a> Bytes<'a> {
     pub fn known(self, at: u64, length: u64) -> &'a [u8] {
         &self.0[at as usize..(at + length) as usize]
     }
+
+    /// Pieces of one size that were found inside earlier. Without any, `at` may
+    /// lie outside.
+    pub fn known_pieces<const SIZE: usize>(self, at: u64, count: u64) -> &'a [[u8; SIZE]] {
+        if count == 0 {
+            return &[];
+        }
+        self.known(at, SIZE as u64 * count).as_chunks().0
+    }
 }
 
 /// The 16-bit number at `at` of plain bytes.

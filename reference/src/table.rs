@@ -5,7 +5,7 @@
 use crate::actions;
 use crate::bytes::{self, judge, Bytes, Fault};
 use crate::cluster;
-use crate::lookup::{Lookup, Run};
+use crate::lookup::{Found, Lookup, Run};
 use crate::machine::{self, GlyphClasses, Machine};
 use crate::meaning::{Action, Cell, Direction, Parts, Sizes, Stretch, WidthRecord};
 
@@ -20,6 +20,13 @@ pub struct Table<'a> {
     bytes: Bytes<'a>,
     n: u32,
     sides: [Side<'a>; 2],
+}
+
+/// The two lookups of a direction.
+#[derive(Clone, Copy, Debug, PartialEq, Eq, Hash)]
+pub enum Which {
+    Width,
+    Action,
 }
 
 /// One direction of an accepted table; an absent one has nothing.
@@ -146,6 +153,26 @@ impl<'a> Table<'a> {
         placed_runs(self.side(direction).actions.as_ref()).filter(|(run, _)| run.value != 0)
     }
 
+    fn lookup(&self, direction: Direction, which: Which) -> Option<Lookup<'a>> {
+        let side = self.side(direction);
+        let placed = match which {
+            Which::Width => &side.widths,
+            Which::Action => &side.actions,
+        };
+        placed.as_ref().map(|placed| placed.lookup)
+    }
+
+    /// Finds a glyph in a lookup (document 02, request 9/14); an action value
+    /// of 0 is found as 0. Where there is no lookup, nothing is looked at.
+    pub fn find(&self, direction: Direction, which: Which, glyph: u16) -> Found {
+        self.lookup(direction, which).map_or(Found::default(), |lookup| lookup.find(glyph))
+    }
+
+    /// How many units a lookup has, the closing one left out.
+    pub fn unit_count(&self, direction: Direction, which: Which) -> usize {
+        self.lookup(direction, which).map_or(0, |lookup| lookup.unit_count())
+    }
+
     /// Where the cluster of a glyph stands.
     pub fn cluster_at(&self, direction: Direction, glyph: u32) -> Option<u64> {
         self.side(direction).widths.as_ref()?.of(glyph)
@@ -200,6 +227,11 @@ impl Parts for Table<'_> {
     fn action(&self, direction: Direction, glyph: u32, number: u32) -> Option<Action> {
         self.found(direction, glyph, number).map(|found| found.action())
     }
+}
+
+/// Finds a glyph in a lookup of a table, which is refused as ever.
+pub fn find(table: &[u8], n: u32, direction: Direction, which: Which, glyph: u16) -> Result<Found, Fault> {
+    Ok(read_table(table, n)?.find(direction, which, glyph))
 }
 
 /// The component list of an action, as a stretch of the table. It is empty,

@@ -3,6 +3,7 @@
 
 use std::collections::BTreeMap;
 
+use reference::bytes::get_u16;
 use reference::generate;
 use reference::line::{classes_of, rooms_of};
 use reference::*;
@@ -58,10 +59,8 @@ fn sound_tables_reach_every_limit() {
             note(9, read.list_runs(direction).any(|(_, at)| count(at) == 0));
             let whole = |at| actions::list(read.bytes(), at).any(|found| found.components().length == 64);
             note(10, read.list_runs(direction).any(|(_, at)| whole(at)));
-            let offset =
-                table[6 + 2 * direction.index() + 1] as usize | (table[6 + 2 * direction.index()] as usize) << 8;
-            if offset != 0 {
-                formats[table[offset + 7] as usize] += 1;
+            if let Some(base) = width_lookup(&table, direction) {
+                formats[get_u16(&table, base) as usize] += 1;
             }
         }
         note(11, sheet_length(&table, n).unwrap() > 65_536);
@@ -70,6 +69,81 @@ fn sound_tables_reach_every_limit() {
     println!("width lookups of formats 0, 2, 4, 6, 8: {:?}", [0, 2, 4, 6, 8].map(|format| formats[format]));
     assert!(reached.iter().all(|&count| count >= 10), "{reached:?}");
     assert!([0, 2, 4, 6, 8].iter().all(|&format| formats[format] > 200), "{formats:?}");
+}
+
+/// Where the width lookup of a direction stands.
+fn width_lookup(table: &[u8], direction: Direction) -> Option<usize> {
+    let offset = get_u16(table, 6 + 2 * direction.index()) as usize;
+    (offset != 0).then_some(offset + 6)
+}
+
+/// What a lookup of format 2, 4 or 6 shows.
+fn note_units(table: &[u8], n: u32, base: usize, kinds: &mut Kinds) {
+    let format = get_u16(table, base);
+    let step = if format == 6 { 4 } else { 6 };
+    let counted = get_u16(table, base + 4) as usize;
+    let bounds = |unit: usize| {
+        let at = base + 12 + step * unit;
+        (get_u16(table, at + step - 4) as u32, get_u16(table, at) as u32)
+    };
+    let mut note =
+        |kind: &str, met: bool| *kinds.entry(format!("format {format}: {kind}")).or_default() += met as usize;
+    let closed = counted > 0 && bounds(counted - 1).0 == 0xFFFF;
+    let count = counted - closed as usize;
+    note("no units", count == 0);
+    note("up to 20 units", (1..=20).contains(&count));
+    note("up to 1,000 units", (21..=1_000).contains(&count));
+    note("5,000 units", count >= 5_000);
+    note("a counted closing unit", closed);
+    note("N begins a unit", (0..count).any(|unit| bounds(unit).0 == n));
+    note("N is past a unit", (0..count).any(|unit| bounds(unit).1 + 1 == n));
+    if format != 6 {
+        note("N within a unit", (0..count).any(|unit| bounds(unit).0 < n && n <= bounds(unit).1));
+        note("a unit that reaches FFFF", count > 0 && bounds(count - 1).1 == 0xFFFF);
+    }
+}
+
+#[test]
+fn long_tables_have_many_units() {
+    let mut kinds = Kinds::new();
+    for index in 0..600 {
+        let (table, n) = generate::long_table(SEED, index);
+        assert_eq!(check_table(&table, n), Ok(()), "draw {index}");
+        for direction in Direction::BOTH {
+            if let Some(base) = width_lookup(&table, direction) {
+                note_units(&table, n, base, &mut kinds);
+            }
+        }
+    }
+    println!("{kinds:?}");
+    assert_eq!(kinds.len(), 9 + 9 + 7);
+    assert!(kinds.values().all(|&met| met >= 5), "{kinds:?}");
+}
+
+/// How many units the longest lookup of a table has.
+fn most_units(table: &[u8], n: u32) -> usize {
+    let Ok(read) = read_table(table, n) else { return 0 };
+    let counts = |direction| [Which::Width, Which::Action].map(|which| read.unit_count(direction, which));
+    Direction::BOTH.map(counts).concat().into_iter().max().unwrap_or(0)
+}
+
+#[test]
+fn tables_and_lines_have_long_lookups_at_times() {
+    let table = |index| {
+        let (table, n) = generate::table(SEED, index);
+        most_units(&table, n)
+    };
+    let line = |index| {
+        let case = generate::line(SEED, index);
+        most_units(&case.table, case.n)
+    };
+    let tables: Vec<usize> = (0..DRAWS).map(table).collect();
+    let lines: Vec<usize> = (0..DRAWS).map(line).collect();
+    for counts in [tables, lines] {
+        let above = |least: usize| counts.iter().filter(|&&count| count > least).count();
+        println!("above 100, 500, 4,000 units: {:?}", [100, 500, 4_000].map(above));
+        assert!(above(100) >= 50 && above(500) >= 20 && above(4_000) >= 5);
+    }
 }
 
 fn distinct(cells: &[Cell]) -> usize {

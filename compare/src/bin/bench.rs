@@ -3,7 +3,7 @@
 //! each byte of table and sheet; for hostile tables and sheets also how many times that of an ordinary one of about as
 //! many bytes it is, of several the one that costs least. With words, only cases whose name has them are run.
 
-use compare::{cases, clock, drafts, library, lines, peers};
+use compare::{cases, clock, drafts, letters, library, lines, peers};
 use just_raw::{Lent, Sheet, Table, Verdict};
 use reference::examples::{complex, simple};
 use reference::{Direction, Parts};
@@ -151,6 +151,11 @@ fn line(name: &str, table: Vec<u8>, n: u32, count: usize) -> Case {
     Case::new(format!("justify: {name}, {count} glyphs"), bytes, library, second)
 }
 
+/// A line by a table with so many units for its letters.
+fn line_of_letters(units: u16, count: usize) -> Case {
+    line(&format!("{units} units of letters"), letters::table(units), letters::glyphs(units), count)
+}
+
 fn sheet_by_reference(table: &[u8], n: u32) -> Vec<u8> {
     reference::write_sheet(table, n).expect("an accepted table")
 }
@@ -164,10 +169,15 @@ fn ordinary() -> Vec<Case> {
         check("5,000 format 2 units, N 65,000", &units, 65_000),
         check("1,500 units, 500 distinct clusters, N 60,000", &spread, 60_000),
         check("600 units, 300 distinct lists, N 6,000", &lists, 6_000),
+        line("Apple's simple example", simple(), 280, 60),
         line("Apple's complex example", apple.clone(), 280, 60),
         line("Apple's complex example", apple.clone(), 280, 1_024),
         line("the same without its machine", cases::without_machine(), 280, 60),
         line("the same without its machine", cases::without_machine(), 280, 1_024),
+        line_of_letters(200, 60),
+        line_of_letters(200, 1_024),
+        line_of_letters(1_200, 60),
+        line_of_letters(1_200, 1_024),
         length("Apple's complex example, N 280", &apple, 280),
         write("Apple's simple example, N 280", &simple(), 280),
         write("Apple's complex example, N 280", &apple, 280),
@@ -285,6 +295,9 @@ fn doubled() -> Vec<Case> {
     }
     for count in [128, 256, 512, 1_024] {
         cases.push(line("Apple's complex example", complex(), 280, count));
+    }
+    for units in [625, 1_250, 2_500, 5_000] {
+        cases.push(line(&format!("{units} format 2 units"), cases::ranges(units, 13, 8), 65_000, 1_024));
     }
     for distinct in [112, 225, 450, 900] {
         let table = cases::ranges(900, 10, distinct);

@@ -162,10 +162,11 @@ fn table_for(rng: &mut Rng, aim: Aim) -> (Vec<u8>, u32) {
     if aim == Aim::Table {
         return tables::draw(rng);
     }
-    let n = match rng.weighted(&[80, 15, 5]) {
-        0 => rng.between(1, 12) as u32,
-        1 => rng.between(13, 300) as u32,
-        _ => tables::glyph_count(rng),
+    let (n, most_units) = match rng.weighted(&[77, 15, 5, 3]) {
+        0 => (rng.between(1, 12) as u32, 0),
+        1 => (rng.between(13, 300) as u32, 0),
+        2 => (tables::glyph_count(rng), 0),
+        _ => (tables::long_glyph_count(rng), Style::LONG.most_units),
     };
     let priorities = priorities(rng, aim);
     let style = match aim {
@@ -173,7 +174,7 @@ fn table_for(rng: &mut Rng, aim: Aim) -> (Vec<u8>, u32) {
         Aim::Wide => Style { wide: true, stays: 2, priorities, ..Style::LINE },
         _ => Style { stays: rng.pick(&[0, 4, 10]), priorities, ..Style::LINE },
     };
-    (tables::sound(rng, n, style).bytes, n)
+    (tables::sound(rng, n, Style { most_units, ..style }).bytes, n)
 }
 
 /// All priorities, or the null priority alone or with one other. A wide line

@@ -25,6 +25,14 @@ pub fn sound_table(seed: u64, index: u64) -> (Vec<u8>, u32) {
     (tables::sound(&mut rng, n, Style::PLAIN).bytes, n)
 }
 
+/// A table that keeps every rule and has long lookups of formats 2, 4 and 6,
+/// and its glyph count.
+pub fn long_table(seed: u64, index: u64) -> (Vec<u8>, u32) {
+    let mut rng = Rng::new(seed, index, 5);
+    let n = tables::long_glyph_count(&mut rng);
+    (tables::sound(&mut rng, n, Style::LONG).bytes, n)
+}
+
 /// A table with a line on it; about half of them are accepted.
 pub fn line(seed: u64, index: u64) -> LineCase {
     lines::draw(&mut Rng::new(seed, index, 3))

@@ -20,13 +20,17 @@ pub struct Style {
     pub large: bool,
     /// The priorities that flags choose from.
     pub priorities: &'static [u32],
+    /// Where lookups are to be long, the most units that one may have; else 0.
+    pub most_units: u64,
 }
 
 pub const ALL_PRIORITIES: &[u32] = &[0, 1, 2, 3];
 
 impl Style {
-    pub const PLAIN: Style = Style { dense: false, stays: 15, wide: false, large: true, priorities: ALL_PRIORITIES };
+    pub const PLAIN: Style =
+        Style { dense: false, stays: 15, wide: false, large: true, priorities: ALL_PRIORITIES, most_units: 0 };
     pub const SMALL: Style = Style { large: false, ..Style::PLAIN };
+    pub const LONG: Style = Style { most_units: 5_000, ..Style::SMALL };
     pub const LINE: Style = Style { dense: true, stays: 12, ..Style::SMALL };
 }
 
@@ -41,7 +45,11 @@ pub struct LookupDraft {
 /// `parts` parts.
 pub fn lookup(rng: &mut Rng, n: u32, style: Style, parts: usize) -> LookupDraft {
     let most_values = if style.large { 5_000 } else { 300 };
-    let formats: &[u16] = if n <= most_values { &[0, 2, 4, 6, 8] } else { &[2, 4, 6, 8] };
+    let formats: &[u16] = match style.most_units {
+        0 if n <= most_values => &[0, 2, 4, 6, 8],
+        0 => &[2, 4, 6, 8],
+        _ => &[2, 4, 6],
+    };
     let mut out = LookupDraft { draft: Draft::default(), choices: Vec::new() };
     let format = rng.pick(formats);
     out.draft.put(Kind::LookupFormat, 2, format as u32);
@@ -120,6 +128,53 @@ fn stretches(rng: &mut Rng, n: u32, style: Style) -> Vec<(u32, u32)> {
     units
 }
 
+/// How many units a long lookup has: the looks of a find change at the powers
+/// of two.
+fn unit_count(rng: &mut Rng, style: Style) -> u64 {
+    let count = match rng.weighted(&[5, 25, 30, 30, 10]) {
+        0 => 0,
+        1 => rng.between(1, 20),
+        2 => (1 << rng.between(1, 10)) + rng.below(3) - 1,
+        3 => rng.between(21, 1_000),
+        _ => 5_000,
+    };
+    count.min(style.most_units)
+}
+
+/// The stretches of a long lookup, each of up to `longest` glyphs, close
+/// together or far apart.
+fn long_stretches(rng: &mut Rng, n: u32, style: Style, longest: u64) -> Vec<(u32, u32)> {
+    let count = unit_count(rng, style);
+    let room = 0xFFFF / count.max(1);
+    let any = rng.between(1, room);
+    let step = rng.pick(&[1, 2, any, room]).min(room);
+    let mut units = Vec::new();
+    let mut next = 0;
+    for _ in 0..count {
+        let taken = rng.between(1, step);
+        let length = rng.between(1, taken.min(longest));
+        units.push(((next + taken - length) as u32, (next + taken - 1) as u32));
+        next += taken;
+    }
+    let shift = shift_to_edge(rng, n, &units, 0xFFFF - next as u32);
+    units.iter_mut().for_each(|unit| *unit = (unit.0 + shift, unit.1 + shift));
+    let least = (next + shift as u64).max(0x1_0000 - longest);
+    if least < 0xFFFF && rng.chance(10) {
+        units.push((rng.between(least, 0xFFFE) as u32, 0xFFFF));
+    }
+    units
+}
+
+/// How far units are moved up, `most` at most: often so far that N is the
+/// first glyph, the last one, or the one after the last of some unit.
+fn shift_to_edge(rng: &mut Rng, n: u32, units: &[(u32, u32)], most: u32) -> u32 {
+    if units.is_empty() || rng.chance(40) {
+        return 0;
+    }
+    let (first, last) = rng.pick(units);
+    n.saturating_sub(rng.pick(&[first, last, last + 1])).min(most)
+}
+
 /// The search header: the three last fields are not read.
 fn unit_header(rng: &mut Rng, draft: &mut Draft, size: u32, count: u32) {
     draft.put(Kind::UnitSize, 2, size);
@@ -132,7 +187,10 @@ fn unit_header(rng: &mut Rng, draft: &mut Draft, size: u32, count: u32) {
 
 /// Formats 2 and 4.
 fn segments(rng: &mut Rng, out: &mut LookupDraft, n: u32, style: Style, parts: usize, arrays: bool) {
-    let mut units = stretches(rng, n, style);
+    let mut units = match style.most_units {
+        0 => stretches(rng, n, style),
+        _ => long_stretches(rng, n, style, if arrays { 20 } else { 0x1_0000 }),
+    };
     if arrays {
         units.iter_mut().for_each(|unit| unit.1 = unit.1.min(unit.0 + if style.large { 4_000 } else { 300 }));
     }
@@ -169,7 +227,11 @@ fn put_arrays(rng: &mut Rng, out: &mut LookupDraft, windows: &[(usize, usize)], 
     let padding = rng.below(3) as usize;
     out.draft.garbage(rng, padding);
     let start = out.draft.len();
-    let most = if style.large { 6_000 } else { 400 };
+    let most = match style.most_units {
+        0 if style.large => 6_000,
+        0 => 400,
+        _ => 64,
+    };
     let mut stored = 0;
     for &(at, length) in windows {
         let fresh = stored + length <= most && rng.chance(50);
@@ -182,8 +244,8 @@ fn put_arrays(rng: &mut Rng, out: &mut LookupDraft, windows: &[(usize, usize)], 
     }
 }
 
-/// Format 6.
-fn singles(rng: &mut Rng, out: &mut LookupDraft, n: u32, style: Style, parts: usize) {
+/// Rising glyphs, some of them past N.
+fn scattered(rng: &mut Rng, n: u32, style: Style) -> Vec<u32> {
     let step = if style.dense || rng.chance(60) { 2 } else { n as u64 + 1 };
     let most = if style.large && rng.chance(20) { 2_000 } else { 40 };
     let mut glyphs = Vec::new();
@@ -192,6 +254,15 @@ fn singles(rng: &mut Rng, out: &mut LookupDraft, n: u32, style: Style, parts: us
         glyphs.push(next as u32);
         next += 1 + rng.below(step);
     }
+    glyphs
+}
+
+/// Format 6.
+fn singles(rng: &mut Rng, out: &mut LookupDraft, n: u32, style: Style, parts: usize) {
+    let glyphs = match style.most_units {
+        0 => scattered(rng, n, style),
+        _ => long_stretches(rng, n, style, 1).iter().map(|unit| unit.0).collect(),
+    };
     let close = closing(rng);
     let counted = glyphs.len() as u32 + (close == Closing::Counted) as u32;
     unit_header(rng, &mut out.draft, 4, counted);

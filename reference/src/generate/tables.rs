@@ -18,6 +18,17 @@ pub fn glyph_count(rng: &mut Rng) -> u32 {
     }
 }
 
+/// A glyph count for long lookups: their units may all be below it, or hardly
+/// any.
+pub fn long_glyph_count(rng: &mut Rng) -> u32 {
+    match rng.weighted(&[30, 5, 30, 35]) {
+        0 => rng.pick(&[MOST_GLYPHS, MOST_GLYPHS - 1]),
+        1 => rng.between(1, 12) as u32,
+        2 => rng.between(13, 5_000) as u32,
+        _ => rng.between(1, MOST_GLYPHS as u64) as u32,
+    }
+}
+
 /// The places of parts that a later direction may use again.
 #[derive(Default)]
 struct Places {
@@ -35,7 +46,7 @@ pub fn sound(rng: &mut Rng, n: u32, style: Style) -> Draft {
         if draft.len() <= MOST_LENGTH {
             return draft;
         }
-        style = Style { large: false, ..style };
+        style = Style { large: false, most_units: style.most_units / 2, ..style };
     }
 }
 
@@ -330,11 +341,14 @@ fn noise(rng: &mut Rng) -> Draft {
 
 /// A table and its glyph count.
 pub fn draw(rng: &mut Rng) -> (Vec<u8>, u32) {
-    let mut n = glyph_count(rng);
+    let (mut n, style) = match rng.weighted(&[66, 28, 6]) {
+        0 => (glyph_count(rng), Style::PLAIN),
+        1 => (glyph_count(rng), Style::SMALL),
+        _ => (long_glyph_count(rng), Style::LONG),
+    };
     if rng.chance(2) {
         return (noise(rng).bytes, n);
     }
-    let style = if rng.chance(70) { Style::PLAIN } else { Style::SMALL };
     let mut table = sound(rng, n, style);
     if rng.chance(72) {
         spoil(rng, &mut table, &mut n);
