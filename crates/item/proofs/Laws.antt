@@ -1,17 +1,16 @@
--- An item is none exactly where its count is read as 0; and at first no places are known to hold the same.
+-- An item is none exactly where its count is read as 0.
 use Prim.Native.Nat.{ℕ, _≤_}
 use mathlib.Core.Path.{_≡_, refl, sym, ap, _∙_}
 use mathlib.Core.List.{List, [], _∷_}
 use native.Mathlib.Omega.{arith}
-use lib.ListN.{length, replicate}
+use lib.ListN.{length}
 use Rattle.fields.specs.Field.{u32At}
 use Rattle.fields.specs.Laws.{u32At-past}
 use Rattle.cluster.proofs.Laws.{cluster-length}
 use Rattle.actions.proofs.Laws.{list-length}
-use Rattle.actions.proofs.Marks.{no-mark}
 use Rattle.values.specs.declared.Kind.{Kind}
 use Rattle.values.specs.declared.Kind.the-variants.{Clusters, Lists}
-use Rattle.item.specs.Items.{noItem, itemAt, Twins}
+use Rattle.item.specs.Items.{noItem, itemAt}
 
 empty : {A : Type 0} (l : List A) → length l ≡ 0 → l ≡ []
 empty [] h = refl
@@ -30,7 +29,3 @@ item-some Lists t at h e = h (sym (list-length t at) ∙ ap length (sym e))
 -- nothing stands past the table
 pub item-past : (kind : Kind) (t : List ℕ) (at : ℕ) → length t ≤ at → itemAt kind t at ≡ noItem kind
 item-past kind t at h = sym (item-none kind t at (u32At-past t at h))
-
--- at first nothing is known
-pub twins-none : (kind : Kind) (t : List ℕ) (n : ℕ) → Twins kind t (replicate n 0)
-twins-none kind t n = record { same = λ p h. absurd (h (no-mark n p)) }

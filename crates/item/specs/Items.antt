@@ -1,9 +1,7 @@
 -- The clusters and the action lists of a table under one name, as the sheet writes them (document 01, "The sheet", sections 5 and 7): both are
 -- numbered and written in the same way.
-use Prim.Native.Nat.{ℕ, _-_}
-use mathlib.Core.Path.{_≡_}
+use Prim.Native.Nat.{ℕ}
 use mathlib.Core.List.{List, []}
-use lib.ListN.{getD}
 use Rattle.lists.specs.Codes.{counted}
 use Rattle.lists.specs.Dictionary.{Before}
 use Rattle.parts.specs.declared.Pair.{Pair}
@@ -33,10 +31,6 @@ noItem Lists = []
 unfoldable pub itemAt : (kind : Kind) → List ℕ → ℕ → Item kind
 itemAt Clusters t at = clusterAt t at
 itemAt Lists t at = listAt t at
-
--- places that are known to hold the same item: what stands for a place, less 1, is a place that holds the same; 0 says nothing
-pub record Twins (kind : Kind) (t twins : List ℕ) : Type 0 where
-  pub same : (p : ℕ) → (getD twins p 0 ≡ 0 → ⊥) → itemAt kind t (getD twins p 0 - 1) ≡ itemAt kind t p
 
 -- compared as written
 unfoldable pub item-discrete : (kind : Kind) → Discrete (Item kind)

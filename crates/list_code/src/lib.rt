@@ -17,7 +17,7 @@ ghost use Rattle.actions.specs.Actions.{bytesAt, contentAt, actionAt, actionsAt
 use lists::Front;
 
 // How many bytes of data the action at `at` has, of type `kind`.
-pub fn content_size(table: &[u8], at: usize, kind: usize) -> usize
+fn content_size(table: &[u8], at: usize, kind: usize) -> usize
     requires { ⌜ at < 2 ^ 62 ⌝ }
     ensures { λ r. ⌜ (r ≡ length (contentAt (now (table .entry)) at kind)) × (r < 2 ^ 18) ⌝ }
 {
@@ -122,7 +122,7 @@ fn apart_from(table: &[u8], first: usize, second: usize, count: usize) -> Front
 }
 
 // Whether the `count` actions from `first` on are the same as those from `second` on.
-pub fn same_actions(table: &[u8], first: usize, second: usize, count: usize) -> bool
+fn same_actions(table: &[u8], first: usize, second: usize, count: usize) -> bool
     requires { ⌜ (length (now table) ≤ 2 ^ 15) × ((first < 2 ^ 33) × (second < 2 ^ 33)) ⌝ }
     ensures { λ r. ⌜ Says r (actionsAt (now (table .entry)) count first ≡ actionsAt (now (table .entry)) count second) ⌝ }
 {

@@ -6,9 +6,9 @@ use mathlib.Core.Logic.{_⊎_, ⊎-elim}
 use mathlib.Core.List.{List, [], _∷_, map}
 use native.Mathlib.Omega.{arith}
 use native.Mathlib.Decide.{ℕ-discrete, decLt}
-use lib.Dec.{eqb, ltb}
+use lib.Dec.{ltb}
 use lib.ListN.{length, getD}
-use borrow.Author.Tests.{eq-eqb, ne-eqb, lt-ltb, le-ltb, ltb-true, ltb-false}
+use borrow.Author.Tests.{lt-ltb, le-ltb, ltb-true, ltb-false}
 use Rattle.fields.specs.Field.{u16At}
 use Rattle.lists.specs.Upto.{from}
 use Rattle.lookup.specs.declared.Found.{Found}
@@ -20,10 +20,10 @@ use Rattle.runs.specs.declared.Run.{Run}
 use Rattle.runs.specs.Runs.{placeOf, Follows}
 use Rattle.values.specs.declared.Kind.{Kind}
 use Rattle.values.specs.Values.{spotOf, Noted}
-use Rattle.item.specs.Items.{itemAt, Twins}
+use Rattle.item.specs.Items.{itemAt}
 use Rattle.item.proofs.Laws.{item-past}
 use Rattle.number.specs.Numbered.{Marked, Blank}
-use Rattle.places.specs.Places.{itemHere, glyphItem, spotPlace, valuePlace, runPlace, twinOf, Agree, Carries, Lead, Same, OneItem, Alike}
+use Rattle.places.specs.Places.{itemHere, glyphItem, spotPlace, valuePlace, runPlace, Agree, Carries, Lead, Same, OneItem, Alike}
 
 -- ---- what stands at a place
 
@@ -84,31 +84,11 @@ run-item kind t n at base glyph x r short few w h u l = go (ltb x (r .from)) ref
         ap (itemAt kind t) (place-in kind t base (r .from) (r .place) (r .array) x among) ∙ value-there kind t base short (placeOf r x)
         ∙ sym (ap (λ (f : Found). itemHere kind t (spotOf kind base f)) (value-in t n at x l ∙ w .some x among u (omega arith)))
 
--- ---- places that hold the same
-
-module _ (twins : List ℕ) (place : ℕ) where
-  pub twin-none : getD twins place 0 ≡ 0 → twinOf twins place ≡ place
-  unfolding twinOf
-  twin-none e = simp (eq-eqb (getD twins place 0) 0 e)
-
-  pub twin-some : (getD twins place 0 ≡ 0 → ⊥) → twinOf twins place ≡ getD twins place 0 - 1
-  unfolding twinOf
-  twin-some e = simp (ne-eqb (getD twins place 0) 0 e)
-
-  pub twin-item : (kind : Kind) (t : List ℕ) → Twins kind t twins → itemAt kind t (twinOf twins place) ≡ itemAt kind t place
-  twin-item kind t w = go (ℕ-discrete (getD twins place 0) 0)
-    where
-      go : Dec (getD twins place 0 ≡ 0) → itemAt kind t (twinOf twins place) ≡ itemAt kind t place
-      go (yes e) = ap (itemAt kind t) (twin-none e)
-      go (no e) = ap (itemAt kind t) (twin-some e) ∙ w .same place e
-
 -- ---- values
 
--- a place whose twin is marked with a number carries it
-pub carries-twin : (kind : Kind) (t twins seen : List ℕ) (p place twin number : ℕ) → Twins kind t twins → place ≡ p → twin ≡ twinOf twins place
-    → Marked t seen twin number → Carries kind t seen p number
-carries-twin kind t twins seen p place twin number w here e m =
-    record { twin = twin; item = sym (ap (itemAt kind t) e ∙ twin-item twins place kind t w ∙ ap (itemAt kind t) here); marked = m }
+-- a place that is marked with a number carries it
+pub carries-here : (kind : Kind) (t seen : List ℕ) (p place number : ℕ) → place ≡ p → Marked t seen place number → Carries kind t seen p number
+carries-here kind t seen p place number here m = record { other = place; item = sym (ap (itemAt kind t) here); marked = m }
 
 -- values that lead to an item, and more of them after those
 pub lead-more : (kind : Kind) (t : List ℕ) (base : ℕ) (seen : List ℕ) (place number n more p : ℕ) → p ≡ place + 2 * n
@@ -130,7 +110,7 @@ lead-alike kind t base seen alike p number n o c h i l = go (ℕ-discrete i 0)
     go (yes e) =
         let z : p ≡ p + 2 * i = omega (arith, e) in
         subst (λ (q : ℕ). Carries kind t seen (valuePlace kind t base q) number) z c
-    go (no e) = record { twin = c .twin; item = o .same p i (omega (arith, e)) ∙ c .item; marked = c .marked }
+    go (no e) = record { other = c .other; item = o .same p i (omega (arith, e)) ∙ c .item; marked = c .marked }
 
 -- values that lead to the item that has one number lead to one item
 pub lead-same : (kind : Kind) (t : List ℕ) (base : ℕ) (seen : List ℕ) (place number n : ℕ) → Agree kind t seen → Lead kind t base seen place number n
@@ -139,7 +119,7 @@ lead-same kind t base seen place number n a f i l =
     let x = f i l in
     let y = f 0 (omega arith) in
     let z : place + 2 * 0 ≡ place = omega arith in
-    x .item ∙ a .same (x .twin) (y .twin) number (x .marked) (y .marked) ∙ sym (y .item) ∙ ap (λ (p : ℕ). itemAt kind t (valuePlace kind t base p)) z
+    x .item ∙ a .same (x .other) (y .other) number (x .marked) (y .marked) ∙ sym (y .item) ∙ ap (λ (p : ℕ). itemAt kind t (valuePlace kind t base p)) z
 
 -- ---- what is noted of values
 

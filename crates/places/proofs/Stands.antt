@@ -137,12 +137,12 @@ joins-new eq f x number S T D e en hn =
       next = λ ys d. next-new eq f x ys number S D en hn d;
     })
 
--- the item at the place `P g` of glyph g was numbered, found at a place q that holds the same, and is that of all glyphs up to e
+-- the item at the place `P g` of glyph g was numbered, and is that of all glyphs up to e
 module _ (kind : Kind) (t : List ℕ) (item : ℕ → Item kind) (n : ℕ) (ends nums firsts others slots seen : List ℕ) (m k g : ℕ)
     (s : Stands kind t item n ends nums firsts others slots seen m k g) (hk : k < length firsts)
-    (P : ℕ → ℕ) (q e number r : ℕ) (ends′ nums′ firsts′ others′ slots′ seen′ : List ℕ) (hf : length firsts′ ≡ length firsts)
+    (P : ℕ → ℕ) (e number r : ℕ) (ends′ nums′ firsts′ others′ slots′ seen′ : List ℕ) (hf : length firsts′ ≡ length firsts)
     (hg : g < e) (he : e ≤ n) (here : (x : ℕ) → g ≤ x → x < e → itemAt kind t (P x) ≡ item x)
-    (twin : itemAt kind t q ≡ itemAt kind t (P g)) (entered : Entered kind t firsts firsts′ others′ slots′ k q number) (marks : Seen kind t firsts′ seen′ (max k number))
+    (entered : Entered kind t firsts firsts′ others′ slots′ k (P g) number) (marks : Seen kind t firsts′ seen′ (max k number))
     (same : (x : ℕ) → g < x → x < e → (P x ≡ P g → ⊥) → Carries kind t seen′ (P x) number)
     (extended : Extended ends nums ends′ nums′ m g e number r) where
   abbrev eq : Discrete (Item kind)
@@ -161,10 +161,10 @@ module _ (kind : Kind) (t : List ℕ) (item : ℕ → Item kind) (n : ℕ) (ends
   S-length = seen-length (itemAt kind t) (noItem kind) firsts k (omega arith)
 
   number-is : number ≡ index eq (item g) S
-  number-is = entered .number ∙ ap (λ (x : Item kind). index eq x S) (twin ∙ here g (omega arith) hg)
+  number-is = entered .number ∙ ap (λ (x : Item kind). index eq x S) (here g (omega arith) hg)
 
   most : number ≤ k + 1
-  most = omega (arith, entered .number, number-most kind t firsts k (omega arith) q)
+  most = omega (arith, entered .number, number-most kind t firsts k (omega arith) (P g))
 
   -- where the item joins the distinct ones, and where it is one of them
   joins : (Kept kind t firsts′ others′ slots′ (max k number)) × Joins eq (item g) number S T D
@@ -175,8 +175,8 @@ module _ (kind : Kind) (t : List ℕ) (item : ℕ → Item kind) (n : ℕ) (ends
           let w = entered .new l in
           let z : max k number ≡ k + 1 = omega (arith, most) in
           let a : placed kind t (take (max k number) firsts′) ≡ placed kind t (take k firsts) ++ (item g ∷ []) =
-          ap (λ (j : ℕ). placed kind t (take j firsts′)) z ∙ ap (placed kind t) (w .0) ∙ map-append (itemAt kind t) (take k firsts) (q ∷ [])
-          ∙ ap (λ (x : Item kind). placed kind t (take k firsts) ++ (x ∷ [])) (twin ∙ here g (omega arith) hg) in (
+          ap (λ (j : ℕ). placed kind t (take j firsts′)) z ∙ ap (placed kind t) (w .0) ∙ map-append (itemAt kind t) (take k firsts) (P g ∷ [])
+          ∙ ap (λ (x : Item kind). placed kind t (take k firsts) ++ (x ∷ [])) (here g (omega arith) hg) in (
             subst (Kept kind t firsts′ others′ slots′) (sym z) (w .1),
             joins-new eq (itemAt kind t) (item g) number S T D (ap (λ (x : List (Item kind)). noItem kind ∷ x) a) number-is (omega (arith, most, S-length)),
           )
@@ -201,7 +201,7 @@ module _ (kind : Kind) (t : List ℕ) (item : ℕ → Item kind) (n : ℕ) (ends
       go (no p) (no d) =
           let w = same x (omega (arith, d)) b p in
           ap (λ (y : Item kind). index eq y T) (sym (here x a b) ∙ w .item)
-          ∙ sym (number-marked kind t firsts′ (max k number) (omega (arith, most)) seen′ (w .twin) number marks (w .marked) .0)
+          ∙ sym (number-marked kind t firsts′ (max k number) (omega (arith, most)) seen′ (w .other) number marks (w .marked) .0)
 
   pub stands-next : r ≤ length ends′ → Stands kind t item n ends′ nums′ firsts′ others′ slots′ seen′ r (max k number) e
   stands-next fits =

@@ -4,7 +4,7 @@ use Prim.Native.Nat.{ℕ, _+_, _-_, _*_, _≤_, _<_, _^_, min}
 use mathlib.Core.Path.{_≡_}
 use mathlib.Core.Bool.{Bool, cond}
 use mathlib.Core.List.{List, _∷_, _++_}
-use lib.Dec.{eqb, ltb}
+use lib.Dec.{ltb}
 use lib.ListN.{length, getD, take, replicate}
 use Rattle.fields.specs.declared.Fault.the-variants.{Clear}
 use Rattle.fields.specs.Field.{u16At}
@@ -57,19 +57,15 @@ unfoldable pub runPlace : Kind → List ℕ → ℕ → ℕ → ℕ → Bool →
 runPlace kind t base start place array glyph =
     cond (ltb glyph start) 65535 (valuePlace kind t base (cond array (place + 2 * (glyph - start)) place))
 
--- the place that stands for a place in `twins`; the place itself where none does
-unfoldable pub twinOf : List ℕ → ℕ → ℕ
-twinOf twins place = cond (eqb (getD twins place 0) 0) place (getD twins place 0 - 1)
-
 -- places that are marked with one number have one item
 pub record Agree (kind : Kind) (t seen : List ℕ) : Type 0 where
   pub same : (p q number : ℕ) → Marked t seen p number → Marked t seen q number → itemAt kind t p ≡ itemAt kind t q
 
 -- the item at a place is known to have this number: it is that of a place where the number is marked
 pub record Carries (kind : Kind) (t seen : List ℕ) (place number : ℕ) : Type 0 where
-  pub twin : ℕ
-  pub item : itemAt kind t place ≡ itemAt kind t twin
-  pub marked : Marked t seen twin number
+  pub other : ℕ
+  pub item : itemAt kind t place ≡ itemAt kind t other
+  pub marked : Marked t seen other number
 
 -- n values from `place` on lead to the item that is known to have this number
 abbrev pub Lead : Kind → List ℕ → ℕ → List ℕ → ℕ → ℕ → ℕ → Type 0

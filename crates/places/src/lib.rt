@@ -7,10 +7,9 @@ ghost use lib.ListN.{length};
 ghost use Rattle.fields.specs.declared.Fault.the-variants.{Clear};
 ghost use Rattle.fields.specs.Field.{u16At};
 ghost use Rattle.lookup.specs.Lookup.{lookupFault};
-ghost use Rattle.item.specs.Items.{Twins};
 ghost use Rattle.number.specs.Numbered.{Blank};
 ghost use Rattle.lookup.specs.Pass.{Serves};
-ghost use Rattle.places.specs.Places.{glyphItem, valuePlace, runPlace, twinOf, Agree, Carries, Lead, OneItem, Alike, Rooms, Stands, Passed};
+ghost use Rattle.places.specs.Places.{glyphItem, valuePlace, runPlace, Agree, Carries, Lead, OneItem, Alike, Rooms, Stands, Passed};
 use actions::Spot;
 use lookup::Cursor;
 use lookup::Found;
@@ -61,36 +60,12 @@ fn run_place(
     value_place(table, kind, base, place)
 }
 
-// The place that `twins` has for a place, less 1, and whose item is the same; the place itself where it has none.
-fn twin_of(twins: &[u16], place: u16) -> u16
-    ensures { λ r. ⌜ r ≡ twinOf (now (twins .entry)) place ⌝ }
-{
-    let at = place as usize;
-    if twins.len() <= at {
-        return place;
-    }
-    let twin = twins[at];
-    if twin == 0 {
-        return place;
-    }
-    twin - 1
-}
-
 // Whether the value at `p` leads to the item that is known to have this number.
-fn leads(
-    table: &[u8],
-    kind: Kind,
-    base: usize,
-    twins: &[u16],
-    seen: &[u16],
-    p: usize,
-    number: u16,
-) -> bool
-    requires { ⌜ (base < 2 ^ 16) × Twins kind (now table) (now twins) ⌝ }
+fn leads(table: &[u8], kind: Kind, base: usize, seen: &[u16], p: usize, number: u16) -> bool
+    requires { ⌜ base < 2 ^ 16 ⌝ }
     ensures { λ r. ⌜ (r ≡ true → Carries kind (now (table .entry)) (now (seen .entry)) (valuePlace kind (now (table .entry)) base p) number) ⌝ }
 {
-    let place = value_place(table, kind, base, p);
-    number::is_known(table, seen, twin_of(twins, place), number)
+    number::is_known(table, seen, value_place(table, kind, base, p), number)
 }
 
 // How many of `count` values from `place` on lead, one after the other, to the item that is known to have this number. Many
@@ -100,7 +75,6 @@ fn known_values(
     table: &[u8],
     kind: Kind,
     base: usize,
-    twins: &[u16],
     seen: &[u16],
     alike: &[u8],
     place: usize,
@@ -108,13 +82,13 @@ fn known_values(
     number: u16,
 ) -> usize
     requires { ⌜ (base < 2 ^ 16) × (place + 2 * count < 2 ^ 42) ⌝ }
-    requires { ⌜ Twins kind (now table) (now twins) × OneItem kind (now table) base (now alike) ⌝ }
+    requires { ⌜ OneItem kind (now table) base (now alike) ⌝ }
     ensures { λ r. ⌜ (r ≤ count) × Lead kind (now (table .entry)) base (now (seen .entry)) place number r ⌝ }
 {
     let mut values: usize = 0;
     while values < count {
         let p = place + 2 * values;
-        if leads(table, kind, base, twins, seen, p, number) {
+        if leads(table, kind, base, seen, p, number) {
             let more = fields::larger(1, fields::u8_at(alike, p));
             values += fields::lower(more, count - values);
         } else {
@@ -129,7 +103,6 @@ fn same_values(
     table: &[u8],
     kind: Kind,
     base: usize,
-    twins: &[u16],
     seen: &[u16],
     alike: &mut [u8],
     place: usize,
@@ -137,10 +110,10 @@ fn same_values(
     number: u16,
 ) -> usize
     requires { ⌜ (base < 2 ^ 16) × (place + 2 * count < 2 ^ 42) ⌝ }
-    requires { ⌜ Twins kind (now table) (now twins) × (Agree kind (now table) (now seen) × OneItem kind (now table) base (now alike)) ⌝ }
+    requires { ⌜ Agree kind (now table) (now seen) × OneItem kind (now table) base (now alike) ⌝ }
     ensures { λ r. ⌜ (r ≤ count) × Lead kind (now (table .entry)) base (now (seen .entry)) place number r × OneItem kind (now (table .entry)) base (now (alike .exit)) ⌝ }
 {
-    let led = known_values(table, kind, base, twins, seen, alike, place, count, number);
+    let led = known_values(table, kind, base, seen, alike, place, count, number);
     values::note_values(place, led, alike);
     led
 }
@@ -151,7 +124,6 @@ fn stretch_end(
     table: &[u8],
     kind: Kind,
     base: usize,
-    twins: &[u16],
     from: usize,
     until: usize,
     place: usize,
@@ -162,7 +134,7 @@ fn stretch_end(
     number: u16,
 ) -> usize
     requires { ⌜ (base < 2 ^ 16) × ((until < 2 ^ 16) × ((place < 2 ^ 41) × (glyph < until))) ⌝ }
-    requires { ⌜ Twins kind (now table) (now twins) × (Agree kind (now table) (now seen) × OneItem kind (now table) base (now alike)) ⌝ }
+    requires { ⌜ Agree kind (now table) (now seen) × OneItem kind (now table) base (now alike) ⌝ }
     ensures { λ r. ⌜ Alike kind (now (table .entry)) base from until place array glyph (now (seen .entry)) number r × OneItem kind (now (table .entry)) base (now (alike .exit)) ⌝ }
 {
     if glyph < from {
@@ -177,7 +149,6 @@ fn stretch_end(
             table,
             kind,
             base,
-            twins,
             seen,
             alike,
             place + 2 * (next - from),
@@ -210,7 +181,6 @@ fn number_run(
     format: usize,
     at: usize,
     base: usize,
-    twins: &[u16],
     start: Way,
     ends: &mut [u16],
     nums: &mut [u16],
@@ -222,7 +192,6 @@ fn number_run(
 ) -> Way
     requires { ⌜ (at < 2 ^ 32) × ((base < 2 ^ 16) × ((glyphs < 2 ^ 16) × (format ≡ u16At (now table) at))) ⌝ }
     requires { ⌜ (length (now table) ≤ 2 ^ 15) × Rooms (length (now ends)) (length (now nums)) (length (now firsts)) (length (now others)) (length (now slots)) ⌝ }
-    requires { ⌜ Twins kind (now table) (now twins) ⌝ }
     requires { ⌜ Stands kind (now table) (glyphItem kind (now table) glyphs at base) glyphs (now ends) (now nums) (now firsts) (now others) (now slots) (now seen) (start .stretches) (start .items) (start .glyph) ⌝ }
     requires { ⌜ OneItem kind (now table) base (now alike) ⌝ }
     requires { ⌜ (start .glyph < glyphs) × ((start .stretches < length (now ends)) × Serves (now table) at (start .glyph) (start .cursor)) ⌝ }
@@ -247,13 +216,11 @@ fn number_run(
             };
         }
         let place = run_place(table, kind, base, run.from, run.place, run.array, glyph);
-        let twin = twin_of(twins, place);
-        let number = number::number_of(table, kind, firsts, others, slots, seen, items, twin);
+        let number = number::number_of(table, kind, firsts, others, slots, seen, items, place);
         let end = stretch_end(
             table,
             kind,
             base,
-            twins,
             run.from,
             until,
             run.place,
@@ -276,15 +243,14 @@ fn number_run(
 }
 
 // Numbers what the lookup at `at`, which has no fault, gives the glyphs: `ends` and `nums` say by stretches of glyphs where
-// each ends and the number of its item, 0 for none; `firsts` has the places of the distinct items. Where `twins` has
-// another place for the same item, the item is looked at there only. The pass stops where the room for stretches is full.
+// each ends and the number of its item, 0 for none; `firsts` has the places of the distinct items. The pass stops where the
+// room for stretches is full.
 pub fn number_glyphs(
     table: &[u8],
     glyphs: usize,
     kind: Kind,
     at: usize,
     base: usize,
-    twins: &[u16],
     ends: &mut [u16],
     nums: &mut [u16],
     firsts: &mut [u16],
@@ -295,7 +261,6 @@ pub fn number_glyphs(
 ) -> Pass
     requires { ⌜ (at < 2 ^ 32) × ((base < 2 ^ 16) × ((glyphs < 2 ^ 16) × (lookupFault (now table) glyphs at ≡ Clear))) ⌝ }
     requires { ⌜ (length (now table) ≤ 2 ^ 15) × Rooms (length (now ends)) (length (now nums)) (length (now firsts)) (length (now others)) (length (now slots)) ⌝ }
-    requires { ⌜ Twins kind (now table) (now twins) ⌝ }
     requires { ⌜ Blank (now others) × (Blank (now slots) × (Blank (now seen) × Blank (now alike))) ⌝ }
     ensures { λ r. ⌜ Passed kind (now (table .entry)) glyphs at base (now (ends .exit)) (now (nums .exit)) (now (firsts .exit)) r ⌝ }
 {
@@ -321,7 +286,6 @@ pub fn number_glyphs(
             format,
             at,
             base,
-            twins,
             way,
             ends,
             nums,

@@ -3,12 +3,13 @@
 // the lent bytes is dropped, so that the sections are sized by storing them into nothing.
 ghost use mathlib.Core.Path.{_≡_};
 ghost use mathlib.Core.List.{_++_};
-ghost use Prim.Native.Nat.{_+_, _*_, _≤_, _<_, _^_};
+ghost use Prim.Native.Nat.{_+_, _*_, _%_, _≤_, _<_, _^_};
 ghost use lib.ListN.{length};
 ghost use lib.Seq.{sets};
-ghost use Rattle.fields.specs.Field.{be32};
+ghost use Rattle.fields.specs.Field.{u16At, be32};
 ghost use Rattle.lists.specs.Codes.{All, many};
-ghost use Rattle.item.specs.Items.{itemCode, Twins};
+ghost use Rattle.lists.specs.Tests.{Says};
+ghost use Rattle.item.specs.Items.{itemCode};
 ghost use Rattle.number.specs.Numbered.{placed, Blank};
 ghost use Rattle.places.specs.Places.{Rooms};
 ghost use Rattle.run_code.specs.Spread.{Stretches};
@@ -55,15 +56,13 @@ fn put_sections(
 }
 
 // Stores the two sections for the lookup at `at`, and answers where they end; or, where the rooms do not hold all
-// stretches of glyphs that have the same, stores nothing and answers 0. `twins`, here and below, tells of some places that
-// they hold the same as another.
+// stretches of glyphs that have the same, stores nothing and answers 0.
 fn put_with(
     table: &[u8],
     glyphs: usize,
     kind: Kind,
     at: usize,
     base: usize,
-    twins: &[u16],
     ends: &mut [u16],
     nums: &mut [u16],
     firsts: &mut [u16],
@@ -74,7 +73,7 @@ fn put_with(
     out: &mut [u8],
     to: usize,
 ) -> usize
-    requires { ⌜ Ready kind (now table) glyphs (Source.Lookup at base) × (Twins kind (now table) (now twins) × (to < 2 ^ 38)) ⌝ }
+    requires { ⌜ Ready kind (now table) glyphs (Source.Lookup at base) × (to < 2 ^ 38) ⌝ }
     requires { ⌜ Rooms (length (now ends)) (length (now nums)) (length (now firsts)) (length (now others)) (length (now slots)) × (Blank (now others) × (Blank (now slots) × (Blank (now seen) × Blank (now alike)))) ⌝ }
     ensures { λ r. ⌜ Tried kind (now (table .entry)) glyphs (Source.Lookup at base) (length (now (ends .entry))) (now (out .entry)) (now (out .exit)) to r ⌝ }
 {
@@ -84,7 +83,6 @@ fn put_with(
         kind,
         at,
         base,
-        twins,
         ends,
         nums,
         firsts,
@@ -108,11 +106,10 @@ fn put_small(
     kind: Kind,
     at: usize,
     base: usize,
-    twins: &[u16],
     out: &mut [u8],
     to: usize,
 ) -> usize
-    requires { ⌜ Ready kind (now table) glyphs (Source.Lookup at base) × (Twins kind (now table) (now twins) × (to < 2 ^ 38)) ⌝ }
+    requires { ⌜ Ready kind (now table) glyphs (Source.Lookup at base) × (to < 2 ^ 38) ⌝ }
     ensures { λ r. ⌜ Tried kind (now (table .entry)) glyphs (Source.Lookup at base) 128 (now (out .entry)) (now (out .exit)) to r ⌝ }
 {
     let mut ends = [0u16; 128];
@@ -128,7 +125,6 @@ fn put_small(
         kind,
         at,
         base,
-        twins,
         &mut ends,
         &mut nums,
         &mut firsts,
@@ -148,12 +144,11 @@ fn put_medium(
     kind: Kind,
     at: usize,
     base: usize,
-    twins: &[u16],
     alike: &mut [u8],
     out: &mut [u8],
     to: usize,
 ) -> usize
-    requires { ⌜ Ready kind (now table) glyphs (Source.Lookup at base) × (Twins kind (now table) (now twins) × (to < 2 ^ 38)) ⌝ }
+    requires { ⌜ Ready kind (now table) glyphs (Source.Lookup at base) × (to < 2 ^ 38) ⌝ }
     requires { ⌜ Blank (now alike) ⌝ }
     ensures { λ r. ⌜ Tried kind (now (table .entry)) glyphs (Source.Lookup at base) 4096 (now (out .entry)) (now (out .exit)) to r ⌝ }
 {
@@ -169,7 +164,6 @@ fn put_medium(
         kind,
         at,
         base,
-        twins,
         &mut ends,
         &mut nums,
         &mut firsts,
@@ -189,19 +183,18 @@ fn put_by_format(
     kind: Kind,
     at: usize,
     base: usize,
-    twins: &[u16],
     out: &mut [u8],
     to: usize,
 ) -> usize
-    requires { ⌜ Ready kind (now table) glyphs (Source.Lookup at base) × (Twins kind (now table) (now twins) × (to < 2 ^ 38)) ⌝ }
+    requires { ⌜ Ready kind (now table) glyphs (Source.Lookup at base) × (to < 2 ^ 38) ⌝ }
     ensures { λ r. ⌜ Tried kind (now (table .entry)) glyphs (Source.Lookup at base) 4096 (now (out .entry)) (now (out .exit)) to r ⌝ }
 {
     if fields::u16_at(table, at) == 4 {
         let mut alike = [0u8; 32768];
-        return put_medium(table, glyphs, kind, at, base, twins, &mut alike, out, to);
+        return put_medium(table, glyphs, kind, at, base, &mut alike, out, to);
     }
     let mut none = [0u8; 0];
-    put_medium(table, glyphs, kind, at, base, twins, &mut none, out, to)
+    put_medium(table, glyphs, kind, at, base, &mut none, out, to)
 }
 
 // With rooms for a stretch of each glyph.
@@ -211,11 +204,10 @@ fn put_large(
     kind: Kind,
     at: usize,
     base: usize,
-    twins: &[u16],
     out: &mut [u8],
     to: usize,
 ) -> usize
-    requires { ⌜ Ready kind (now table) glyphs (Source.Lookup at base) × (Twins kind (now table) (now twins) × (to < 2 ^ 38)) ⌝ }
+    requires { ⌜ Ready kind (now table) glyphs (Source.Lookup at base) × (to < 2 ^ 38) ⌝ }
     ensures { λ r. ⌜ Tried kind (now (table .entry)) glyphs (Source.Lookup at base) 65536 (now (out .entry)) (now (out .exit)) to r ⌝ }
 {
     let mut ends = [0u16; 65536];
@@ -231,7 +223,6 @@ fn put_large(
         kind,
         at,
         base,
-        twins,
         &mut ends,
         &mut nums,
         &mut firsts,
@@ -245,14 +236,17 @@ fn put_large(
 }
 
 // Whether the lookup at `at`, of format 2 or 6, has so many units that medium rooms seldom hold their stretches, two for each.
-// No proof rests on the answer, only time.
 fn has_many_units(table: &[u8], at: usize) -> bool
     requires { ⌜ at < 2 ^ 32 ⌝ }
+    ensures { λ r. ⌜ Says r ((u16At (now (table .entry)) at % 4 ≡ 2) × (2040 < u16At (now (table .entry)) (at + 4))) ⌝ }
 {
     if fields::u16_at(table, at) % 4 != 2 {
         return false;
     }
-    2040 < fields::u16_at(table, at + 4)
+    if fields::u16_at(table, at + 4) <= 2040 {
+        return false;
+    }
+    true
 }
 
 // With medium rooms if they are large enough.
@@ -262,21 +256,20 @@ fn put_looked(
     kind: Kind,
     at: usize,
     base: usize,
-    twins: &[u16],
     out: &mut [u8],
     to: usize,
 ) -> usize
-    requires { ⌜ Ready kind (now table) glyphs (Source.Lookup at base) × (Twins kind (now table) (now twins) × (to < 2 ^ 38)) ⌝ }
+    requires { ⌜ Ready kind (now table) glyphs (Source.Lookup at base) × (to < 2 ^ 38) ⌝ }
     ensures { λ r. ⌜ Placed kind (now (table .entry)) glyphs (Source.Lookup at base) (now (out .entry)) (now (out .exit)) to r ⌝ }
 {
     if has_many_units(table, at) {
-        return put_large(table, glyphs, kind, at, base, twins, out, to);
+        return put_large(table, glyphs, kind, at, base, out, to);
     }
-    let end = put_by_format(table, glyphs, kind, at, base, twins, out, to);
+    let end = put_by_format(table, glyphs, kind, at, base, out, to);
     if 0 < end {
         return end;
     }
-    put_large(table, glyphs, kind, at, base, twins, out, to)
+    put_large(table, glyphs, kind, at, base, out, to)
 }
 
 // With small rooms if they are large enough.
@@ -286,18 +279,17 @@ fn put_lookup(
     kind: Kind,
     at: usize,
     base: usize,
-    twins: &[u16],
     out: &mut [u8],
     to: usize,
 ) -> usize
-    requires { ⌜ Ready kind (now table) glyphs (Source.Lookup at base) × (Twins kind (now table) (now twins) × (to < 2 ^ 38)) ⌝ }
+    requires { ⌜ Ready kind (now table) glyphs (Source.Lookup at base) × (to < 2 ^ 38) ⌝ }
     ensures { λ r. ⌜ Placed kind (now (table .entry)) glyphs (Source.Lookup at base) (now (out .entry)) (now (out .exit)) to r ⌝ }
 {
-    let end = put_small(table, glyphs, kind, at, base, twins, out, to);
+    let end = put_small(table, glyphs, kind, at, base, out, to);
     if 0 < end {
         return end;
     }
-    put_looked(table, glyphs, kind, at, base, twins, out, to)
+    put_looked(table, glyphs, kind, at, base, out, to)
 }
 
 // Stores two counts of 0.
@@ -315,11 +307,10 @@ pub fn put_pool(
     glyphs: usize,
     kind: Kind,
     source: Source,
-    twins: &[u16],
     out: &mut [u8],
     to: usize,
 ) -> usize
-    requires { ⌜ Ready kind (now table) glyphs source × (Twins kind (now table) (now twins) × (to < 2 ^ 38)) ⌝ }
+    requires { ⌜ Ready kind (now table) glyphs source × (to < 2 ^ 38) ⌝ }
     ensures { λ r. ⌜ Placed kind (now (table .entry)) glyphs source (now (out .entry)) (now (out .exit)) to r ⌝ }
 {
     let Source::Lookup { at, base } = source else {
@@ -327,7 +318,7 @@ pub fn put_pool(
         return to + 8;
     };
     if 512 < table.len() {
-        return put_looked(table, glyphs, kind, at, base, twins, out, to);
+        return put_looked(table, glyphs, kind, at, base, out, to);
     }
-    put_lookup(table, glyphs, kind, at, base, twins, out, to)
+    put_lookup(table, glyphs, kind, at, base, out, to)
 }

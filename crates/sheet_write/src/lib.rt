@@ -6,13 +6,10 @@ ghost use Prim.Native.Nat.{_≤_, _<_, _^_};
 ghost use lib.ListN.{length, take, drop};
 ghost use lib.Seq.{sets, slice};
 ghost use Rattle.fields.specs.declared.Fault.the-variants.{Clear};
-ghost use Rattle.item.specs.Items.{Twins};
-ghost use Rattle.values.specs.Values.{Judged};
 ghost use Rattle.table.specs.Table.{tableFault};
 ghost use Rattle.sheet_write.specs.Written.{sheetOf, saysLength, saysWritten, sheetLength, Outcome, stored, written, Draft};
 use fields::Fault;
 use fields::Refusal;
-use values::Kind;
 
 // How long the sheet is, in bytes.
 pub enum LengthAnswer {
@@ -39,32 +36,31 @@ fn put_copy(room: &mut [u8], from: usize, end: usize)
     }
 }
 
-// Stores the sheet of an accepted table, and answers where it ends; what would stand past the room is dropped. `lists`, here
-// and below, tells of some places of lists that they hold the same as another.
-fn put_sheet(table: &[u8], glyphs: usize, lists: &[u16], room: &mut [u8]) -> usize
-    requires { ⌜ (tableFault (now table) glyphs ≡ Clear) × Twins Kind.Lists (now table) (now lists) ⌝ }
+// Stores the sheet of an accepted table, and answers where it ends; what would stand past the room is dropped.
+fn put_sheet(table: &[u8], glyphs: usize, room: &mut [u8]) -> usize
+    requires { ⌜ tableFault (now table) glyphs ≡ Clear ⌝ }
     ensures { λ r. ⌜ (r ≡ length (sheetOf (now (table .entry)) glyphs)) × (r < 2 ^ 32)
         × (now (room .exit) ≡ sets (now (room .entry)) 0 (sheetOf (now (table .entry)) glyphs)) ⌝ }
 {
     fields::put_u32(room, 0, glyphs as u32);
     let first = fields::u16_at(table, 6);
-    let end = side_write::put_side(table, glyphs, first, lists, room, 4);
+    let end = side_write::put_side(table, glyphs, first, room, 4);
     let second = fields::u16_at(table, 8);
     // directions at one offset are written alike
     if first == second {
         put_copy(room, 4, end);
         return end + (end - 4);
     }
-    side_write::put_side(table, glyphs, second, lists, room, end)
+    side_write::put_side(table, glyphs, second, room, end)
 }
 
 // The length of the sheet of an accepted table: where it ends in a room of no length.
-fn length_accepted(table: &[u8], glyphs: usize, lists: &[u16]) -> usize
-    requires { ⌜ (tableFault (now table) glyphs ≡ Clear) × Twins Kind.Lists (now table) (now lists) ⌝ }
+fn length_accepted(table: &[u8], glyphs: usize) -> usize
+    requires { ⌜ tableFault (now table) glyphs ≡ Clear ⌝ }
     ensures { λ r. ⌜ (r ≡ length (sheetOf (now (table .entry)) glyphs)) × (r < 2 ^ 32) ⌝ }
 {
     let mut none = [0u8; 0];
-    put_sheet(table, glyphs, lists, &mut none)
+    put_sheet(table, glyphs, &mut none)
 }
 
 // Stores the first `count` bytes of a list from the start of the room on.
@@ -80,170 +76,104 @@ fn copy(bytes: &[u8], count: usize, room: &mut [u8])
 }
 
 // Stores the sheet, which is `size` bytes long, into a room that is long enough: from the draft, if it fits there.
-fn put_again(table: &[u8], glyphs: usize, lists: &[u16], draft: &[u8], size: usize, room: &mut [u8])
+fn put_again(table: &[u8], glyphs: usize, draft: &[u8], size: usize, room: &mut [u8])
     requires { ⌜ (tableFault (now table) glyphs ≡ Clear) × ((size ≡ length (sheetOf (now table) glyphs)) × (size ≤ length (now room))) ⌝ }
-    requires { ⌜ Twins Kind.Lists (now table) (now lists) × Draft (sheetOf (now table) glyphs) (now draft) ⌝ }
+    requires { ⌜ Draft (sheetOf (now table) glyphs) (now draft) ⌝ }
     ensures { λ r. ⌜ now (room .exit) ≡ sheetOf (now (table .entry)) glyphs ++ drop size (now (room .entry)) ⌝ }
 {
     if size <= draft.len() {
         copy(draft, size, room);
     } else {
-        put_sheet(table, glyphs, lists, room);
+        put_sheet(table, glyphs, room);
     }
 }
 
 // Writes the sheet of an accepted table where the room is long enough. It is stored into `draft` first, which tells its
 // length before a byte of the room is changed.
-fn write_by(
-    table: &[u8],
-    glyphs: usize,
-    lists: &[u16],
-    draft: &mut [u8],
-    room: &mut [u8],
-) -> WriteAnswer
-    requires { ⌜ (tableFault (now table) glyphs ≡ Clear) × Twins Kind.Lists (now table) (now lists) ⌝ }
-    ensures { λ r. ⌜ record { said = saysWritten r; room = now (room .exit) } ≡ stored (sheetOf (now (table .entry)) glyphs) (now (room .entry)) ⌝ }
-{
-    let size = put_sheet(table, glyphs, lists, draft);
-    if room.len() < size {
-        return WriteAnswer::Refused(Refusal::ShortRoom);
-    }
-    put_again(table, glyphs, lists, draft, size, room);
-    WriteAnswer::Written(size as u32)
-}
-
-// With a draft for most sheets.
-fn write_drafted(table: &[u8], glyphs: usize, lists: &[u16], room: &mut [u8]) -> WriteAnswer
-    requires { ⌜ (tableFault (now table) glyphs ≡ Clear) × Twins Kind.Lists (now table) (now lists) ⌝ }
-    ensures { λ r. ⌜ record { said = saysWritten r; room = now (room .exit) } ≡ stored (sheetOf (now (table .entry)) glyphs) (now (room .entry)) ⌝ }
-{
-    let mut draft = [0u8; 32768];
-    write_by(table, glyphs, lists, &mut draft, room)
-}
-
-// With a draft for long sheets. One that is longer yet is numbered twice, once to learn its length and once to store it.
-fn write_long(table: &[u8], glyphs: usize, lists: &[u16], room: &mut [u8]) -> WriteAnswer
-    requires { ⌜ (tableFault (now table) glyphs ≡ Clear) × Twins Kind.Lists (now table) (now lists) ⌝ }
-    ensures { λ r. ⌜ record { said = saysWritten r; room = now (room .exit) } ≡ stored (sheetOf (now (table .entry)) glyphs) (now (room .entry)) ⌝ }
-{
-    let mut draft = [0u8; 163840];
-    write_by(table, glyphs, lists, &mut draft, room)
-}
-
-// With the shorter draft where the room is short, since a sheet that is longer than the room is refused, and where the table is:
-// few sheets have eight times as many bytes as their table.
-fn write_large(table: &[u8], glyphs: usize, lists: &[u16], room: &mut [u8]) -> WriteAnswer
-    requires { ⌜ (tableFault (now table) glyphs ≡ Clear) × Twins Kind.Lists (now table) (now lists) ⌝ }
-    ensures { λ r. ⌜ record { said = saysWritten r; room = now (room .exit) } ≡ stored (sheetOf (now (table .entry)) glyphs) (now (room .entry)) ⌝ }
-{
-    if fields::lower(table.len(), room.len() / 8) <= 4096 {
-        return write_drafted(table, glyphs, lists, room);
-    }
-    write_long(table, glyphs, lists, room)
-}
-
-// Where lists overlap much, those that hold the same are found first.
-fn write_crowded(table: &[u8], glyphs: usize, marks: &[u8], room: &mut [u8]) -> WriteAnswer
+fn write_by(table: &[u8], glyphs: usize, draft: &mut [u8], room: &mut [u8]) -> WriteAnswer
     requires { ⌜ tableFault (now table) glyphs ≡ Clear ⌝ }
     ensures { λ r. ⌜ record { said = saysWritten r; room = now (room .exit) } ≡ stored (sheetOf (now (table .entry)) glyphs) (now (room .entry)) ⌝ }
 {
-    let mut lists = [0u16; 32768];
-    twins::find_twins(table, marks, &mut lists);
-    write_large(table, glyphs, &lists, room)
+    let size = put_sheet(table, glyphs, draft);
+    if room.len() < size {
+        return WriteAnswer::Refused(Refusal::ShortRoom);
+    }
+    put_again(table, glyphs, draft, size, room);
+    WriteAnswer::Written(size as u32)
 }
 
-// Writes the sheet of a table that is judged by the marks which are lent.
-fn write_marked(table: &[u8], count: u32, marks: &mut [u8], room: &mut [u8]) -> WriteAnswer
-    requires { ⌜ Judged (now table) count (now marks) ⌝ }
-    ensures { λ r. ⌜ record { said = saysWritten r; room = now (room .exit) } ≡ written (now (table .entry)) count (now (room .entry)) ⌝ }
+// With a draft for most sheets of small tables.
+fn write_small(table: &[u8], glyphs: usize, room: &mut [u8]) -> WriteAnswer
+    requires { ⌜ tableFault (now table) glyphs ≡ Clear ⌝ }
+    ensures { λ r. ⌜ record { said = saysWritten r; room = now (room .exit) } ≡ stored (sheetOf (now (table .entry)) glyphs) (now (room .entry)) ⌝ }
 {
-    let fault = table::fault_by(table, count, marks);
-    if let Fault::Bad { refusal, at: _ } = fault {
-        return WriteAnswer::Refused(refusal);
-    }
-    let glyphs = count as usize;
-    if twins::is_crowded(table, marks) {
-        return write_crowded(table, glyphs, marks, room);
-    }
-    let none = [0u16; 0];
-    write_large(table, glyphs, &none, room)
-}
-
-// Writes the sheet of a table of at most 512 bytes, whose lists are few.
-fn write_small(table: &[u8], count: u32, room: &mut [u8]) -> WriteAnswer
-    ensures { λ r. ⌜ record { said = saysWritten r; room = now (room .exit) } ≡ written (now (table .entry)) count (now (room .entry)) ⌝ }
-{
-    let fault = table::table_fault(table, count);
-    if let Fault::Bad { refusal, at: _ } = fault {
-        return WriteAnswer::Refused(refusal);
-    }
-    let none = [0u16; 0];
     let mut draft = [0u8; 1024];
-    write_by(table, count as usize, &none, &mut draft, room)
+    write_by(table, glyphs, &mut draft, room)
+}
+
+// With a draft for most sheets.
+fn write_drafted(table: &[u8], glyphs: usize, room: &mut [u8]) -> WriteAnswer
+    requires { ⌜ tableFault (now table) glyphs ≡ Clear ⌝ }
+    ensures { λ r. ⌜ record { said = saysWritten r; room = now (room .exit) } ≡ stored (sheetOf (now (table .entry)) glyphs) (now (room .entry)) ⌝ }
+{
+    let mut draft = [0u8; 32768];
+    write_by(table, glyphs, &mut draft, room)
+}
+
+// With a draft for long sheets. One that is longer yet is numbered twice, once to learn its length and once to store it.
+fn write_long(table: &[u8], glyphs: usize, room: &mut [u8]) -> WriteAnswer
+    requires { ⌜ tableFault (now table) glyphs ≡ Clear ⌝ }
+    ensures { λ r. ⌜ record { said = saysWritten r; room = now (room .exit) } ≡ stored (sheetOf (now (table .entry)) glyphs) (now (room .entry)) ⌝ }
+{
+    let mut draft = [0u8; 163840];
+    write_by(table, glyphs, &mut draft, room)
+}
+
+// With the shorter draft if that holds `most` bytes, what is expected of the sheet.
+fn write_large(table: &[u8], glyphs: usize, most: usize, room: &mut [u8]) -> WriteAnswer
+    requires { ⌜ tableFault (now table) glyphs ≡ Clear ⌝ }
+    ensures { λ r. ⌜ record { said = saysWritten r; room = now (room .exit) } ≡ stored (sheetOf (now (table .entry)) glyphs) (now (room .entry)) ⌝ }
+{
+    if most <= 32768 {
+        return write_drafted(table, glyphs, room);
+    }
+    write_long(table, glyphs, room)
+}
+
+// With a draft by what is expected of the sheet: few have eight times as many bytes as their table, and one that is longer than
+// the room is refused.
+fn write_accepted(table: &[u8], glyphs: usize, room: &mut [u8]) -> WriteAnswer
+    requires { ⌜ tableFault (now table) glyphs ≡ Clear ⌝ }
+    ensures { λ r. ⌜ record { said = saysWritten r; room = now (room .exit) } ≡ stored (sheetOf (now (table .entry)) glyphs) (now (room .entry)) ⌝ }
+{
+    if table.len() <= 512 {
+        return write_small(table, glyphs, room);
+    }
+    if table.len() <= 4096 {
+        return write_large(table, glyphs, 8 * table.len(), room);
+    }
+    write_large(table, glyphs, room.len(), room)
 }
 
 // Writes a table's sheet into the first bytes of the room, or answers a refusal and changes nothing.
 pub fn write_sheet(table: &[u8], count: u32, room: &mut [u8]) -> WriteAnswer
     ensures { λ r. ⌜ record { said = saysWritten r; room = now (room .exit) } ≡ written (now (table .entry)) count (now (room .entry)) ⌝ }
 {
-    if table.len() <= 512 {
-        return write_small(table, count, room);
-    }
-    if table.len() <= 4096 {
-        let mut marks = [0u8; 4096];
-        return write_marked(table, count, &mut marks, room);
-    }
-    let mut marks = [0u8; 32768];
-    write_marked(table, count, &mut marks, room)
-}
-
-// The length of the sheet of an accepted table whose lists overlap much.
-fn length_crowded(table: &[u8], glyphs: usize, marks: &[u8]) -> usize
-    requires { ⌜ tableFault (now table) glyphs ≡ Clear ⌝ }
-    ensures { λ r. ⌜ (r ≡ length (sheetOf (now (table .entry)) glyphs)) × (r < 2 ^ 32) ⌝ }
-{
-    let mut lists = [0u16; 32768];
-    twins::find_twins(table, marks, &mut lists);
-    length_accepted(table, glyphs, &lists)
-}
-
-// The length of the sheet of a table of at most 512 bytes, whose lists are few.
-fn length_small(table: &[u8], count: u32) -> LengthAnswer
-    ensures { λ r. ⌜ saysLength r ≡ sheetLength (now (table .entry)) count ⌝ }
-{
     let fault = table::table_fault(table, count);
     if let Fault::Bad { refusal, at: _ } = fault {
-        return LengthAnswer::Refused(refusal);
+        return WriteAnswer::Refused(refusal);
     }
-    let none = [0u16; 0];
-    let length = length_accepted(table, count as usize, &none);
-    LengthAnswer::Length(length as u32)
-}
-
-// The length of the sheet of an accepted table whose lists are marked.
-fn length_marked(table: &[u8], glyphs: usize, marks: &[u8]) -> usize
-    requires { ⌜ tableFault (now table) glyphs ≡ Clear ⌝ }
-    ensures { λ r. ⌜ (r ≡ length (sheetOf (now (table .entry)) glyphs)) × (r < 2 ^ 32) ⌝ }
-{
-    if twins::is_crowded(table, marks) {
-        return length_crowded(table, glyphs, marks);
-    }
-    let none = [0u16; 0];
-    length_accepted(table, glyphs, &none)
+    write_accepted(table, count as usize, room)
 }
 
 // The length of a table's sheet, without writing it, or the table's refusal.
 pub fn sheet_length(table: &[u8], count: u32) -> LengthAnswer
     ensures { λ r. ⌜ saysLength r ≡ sheetLength (now (table .entry)) count ⌝ }
 {
-    if table.len() <= 512 {
-        return length_small(table, count);
-    }
-    let mut marks = [0u8; 32768];
-    let fault = table::fault_by(table, count, &mut marks);
+    let fault = table::table_fault(table, count);
     if let Fault::Bad { refusal, at: _ } = fault {
         return LengthAnswer::Refused(refusal);
     }
-    let length = length_marked(table, count as usize, &marks);
+    let length = length_accepted(table, count as usize);
     LengthAnswer::Length(length as u32)
 }

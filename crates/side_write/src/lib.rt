@@ -4,7 +4,6 @@ ghost use mathlib.Core.Path.{_≡_};
 ghost use Prim.Native.Nat.{_+_, _<_, _^_};
 ghost use lib.ListN.{length};
 ghost use lib.Seq.{sets};
-ghost use Rattle.item.specs.Items.{Twins};
 ghost use Rattle.side_write.specs.Side.{sideBytes, machinePlace, clusterSource, listSource, Ready};
 use places::Source;
 use values::Kind;
@@ -51,33 +50,16 @@ fn list_source(table: &[u8], at: usize) -> Source
     }
 }
 
-// Stores the direction, and answers where it ends; what would stand past the end of the bytes is dropped. `lists` tells of
-// some places of lists that they hold the same as another.
-pub fn put_side(
-    table: &[u8],
-    glyphs: usize,
-    at: usize,
-    lists: &[u16],
-    out: &mut [u8],
-    to: usize,
-) -> usize
-    requires { ⌜ Ready (now table) glyphs at × (Twins Kind.Lists (now table) (now lists) × (to < 2 ^ 36)) ⌝ }
+// Stores the direction, and answers where it ends; what would stand past the end of the bytes is dropped.
+pub fn put_side(table: &[u8], glyphs: usize, at: usize, out: &mut [u8], to: usize) -> usize
+    requires { ⌜ Ready (now table) glyphs at × (to < 2 ^ 36) ⌝ }
     ensures { λ r. ⌜ (r ≡ to + length (sideBytes (now (table .entry)) glyphs at)) × (r < to + 2 ^ 30 + 2 ^ 20)
         × (now (out .exit) ≡ sets (now (out .entry)) to (sideBytes (now (table .entry)) glyphs at)) ⌝ }
 {
     let machine = machine_place(table, at);
     let machine_end = machine_code::put_machine(table, glyphs, machine, out, to);
     let widths = cluster_source(table, at);
-    let none = [0u16; 0];
-    let cluster_end = pool_code::put_pool(
-        table,
-        glyphs,
-        Kind::Clusters,
-        widths,
-        &none,
-        out,
-        machine_end,
-    );
+    let cluster_end = pool_code::put_pool(table, glyphs, Kind::Clusters, widths, out, machine_end);
     let actions = list_source(table, at);
-    pool_code::put_pool(table, glyphs, Kind::Lists, actions, lists, out, cluster_end)
+    pool_code::put_pool(table, glyphs, Kind::Lists, actions, out, cluster_end)
 }

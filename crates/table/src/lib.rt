@@ -108,7 +108,7 @@ fn directions_fault(table: &[u8], glyphs: usize, judged: &mut [u8]) -> Fault
 
 // The first fault of a table read with a glyph count, by marks that are lent: one for each position of the table, blank or left
 // by judging the same table with the same count. Where there are fewer, more is judged twice.
-pub fn fault_by(table: &[u8], count: u32, judged: &mut [u8]) -> Fault
+fn fault_by(table: &[u8], count: u32, judged: &mut [u8]) -> Fault
     requires { ⌜ Judged (now table) count (now judged) ⌝ }
     ensures { λ r. ⌜ r ≡ tableFault (now (table .entry)) count ⌝ }
 {

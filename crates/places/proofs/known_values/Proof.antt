@@ -8,23 +8,23 @@ use Rattle.places.proofs.known_values.Statement.{statement}
 use Rattle.places.proofs.known_values.Tie as tie
 
 abbrev Inv-loop : tie.InvT-loop
-Inv-loop table kind base twins seen alike place count number values₀ values =
+Inv-loop table kind base seen alike place count number values₀ values =
     (values ≤ count) × Lead kind table base seen place number values
 
 abbrev μ-loop : tie.MeasureT-loop
-μ-loop table kind base twins seen alike place count number values₀ values = count - values
+μ-loop table kind base seen alike place count number values₀ values = count - values
 
 loop-holds : tie.Need-loop-holds Inv-loop μ-loop
 loop-holds c = (omega arith, λ i l. absurd (omega arith))
 
 mul-p : tie.Need-mul-p Inv-loop μ-loop
-mul-p c = omega (arith, (c .before .before .before .before .before .before .pre) .0 .1, (c .before .loop) .inv .0)
+mul-p c = omega (arith, (c .before .before .before .before .before .pre) .0 .1, (c .before .loop) .inv .0)
 
 add-p : tie.Need-add-p Inv-loop μ-loop
-add-p c = omega (arith, (c .before .before .before .before .before .before .pre) .0 .1, (c .before .loop) .inv .0)
+add-p c = omega (arith, (c .before .before .before .before .before .pre) .0 .1, (c .before .loop) .inv .0)
 
 leads-requires : tie.Need-leads-requires Inv-loop μ-loop
-leads-requires c κs = ((c .before .before .before .before .before .before .pre) .0 .0, (c .before .before .before .before .before .before .pre) .1 .0)
+leads-requires c κs = (c .before .before .before .before .before .pre) .0 .0
 
 u8-at-requires : tie.Need-u8-at-requires Inv-loop μ-loop
 u8-at-requires c κs = search needs
@@ -39,20 +39,20 @@ lower-requires : tie.Need-lower-requires Inv-loop μ-loop
 lower-requires c κs = search needs
 
 add-values : tie.Need-add-values Inv-loop μ-loop
-add-values c = omega (arith, (c .lower) .ensures, (c .before .before .before .before .before .before .loop) .inv .0, (c .before .before .before .before .before .before .before .before .before .before .before .pre) .0 .1)
+add-values c = omega (arith, (c .lower) .ensures, (c .before .before .before .before .before .before .loop) .inv .0, (c .before .before .before .before .before .before .before .before .before .before .pre) .0 .1)
 
 loop-less : tie.Need-loop-less Inv-loop μ-loop
 loop-less c = omega (arith, (c .lower) .ensures, (c .before .larger) .ensures, (c .before .before .before .before .before .loop-test) .taken)
 
 loop-again : tie.Need-loop-again Inv-loop μ-loop
 loop-again c =
-    let a = (c .before .before .before .before .before .before .before .before .before .before .before .args) in
+    let a = (c .before .before .before .before .before .before .before .before .before .before .args) in
     let t = a .table .now in
     let l = (c .before .before .before .before .before .before .loop) in
     let n = (c .lower) in (
       omega (arith, n .ensures, l .inv .0),
       lead-more (a .kind) t (a .base) (a .seen .now) (a .place) (a .number) (l .values) (n .result) _ refl (l .inv .1)
-          (lead-alike (a .kind) t (a .base) (a .seen .now) (a .alike .now) _ (a .number) (n .result) ((c .before .before .before .before .before .before .before .before .before .before .before .pre) .1 .1) ((c .before .before .before .before .leads) .ensures ((c .before .before .before .if1) .taken))
+          (lead-alike (a .kind) t (a .base) (a .seen .now) (a .alike .now) _ (a .number) (n .result) ((c .before .before .before .before .before .before .before .before .before .before .pre) .1) ((c .before .before .before .before .leads) .ensures ((c .before .before .before .if1) .taken))
           (omega (arith, n .ensures, (c .before .larger) .ensures, (c .before .before .u8-at) .ensures .0))),
     )
 

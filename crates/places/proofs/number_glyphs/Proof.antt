@@ -11,14 +11,14 @@ use Rattle.places.proofs.number_glyphs.Statement.{statement}
 use Rattle.places.proofs.number_glyphs.Tie as tie
 
 abbrev Inv-loop : tie.InvT-loop
-Inv-loop table glyphs kind at base twins ends₀ nums₀ firsts₀ others₀ slots₀ seen₀ alike₀ format way₀ ends nums firsts others slots seen alike way =
+Inv-loop table glyphs kind at base ends₀ nums₀ firsts₀ others₀ slots₀ seen₀ alike₀ format way₀ ends nums firsts others slots seen alike way =
     Stands kind table (glyphItem kind table glyphs at base) glyphs ends nums firsts others slots seen (way .stretches) (way .items) (way .glyph)
     × (way .stretches < length ends → way .glyph < glyphs → Serves table at (way .glyph) (way .cursor))
     × (length ends ≡ length ends₀) × (length nums ≡ length nums₀) × (length firsts ≡ length firsts₀) × (length others ≡ length others₀) × (length slots ≡ length slots₀) × (length seen ≡ length seen₀) × (length alike ≡ length alike₀)
     × OneItem kind table base alike
 
 abbrev μ-loop : tie.MeasureT-loop
-μ-loop table glyphs kind at base twins ends₀ nums₀ firsts₀ others₀ slots₀ seen₀ alike₀ format way₀ ends nums firsts others slots seen alike way = glyphs - way .glyph
+μ-loop table glyphs kind at base ends₀ nums₀ firsts₀ others₀ slots₀ seen₀ alike₀ format way₀ ends nums firsts others slots seen alike way = glyphs - way .glyph
 
 u16-at-requires : tie.Need-u16-at-requires Inv-loop μ-loop
 u16-at-requires c κs = search needs
@@ -28,9 +28,9 @@ begin-requires c κs = search needs
 
 loop-holds : tie.Need-loop-holds Inv-loop μ-loop
 loop-holds c =
-    let a = (c .before .before .before .before .before .before .before .before .before .before .before .args) in (
-      stands-none (a .kind) (a .table .now) (glyphItem (a .kind) (a .table .now) (a .glyphs) (a .at) (a .base)) (a .glyphs) (a .ends .now) (a .nums .now) (a .firsts .now) (a .others .now) (a .slots .now) (a .seen .now) ((c .before .before .before .before .before .before .before .before .before .before .before .pre) .1 .1 .1 .0) ((c .before .before .before .before .before .before .before .before .before .before .before .pre) .1 .1 .1 .1 .0) ((c .before .before .before .before .before .before .before .before .before .before .before .pre) .1 .1 .1 .1 .1 .0),
-      (λ h g. (c .begin) .ensures (a .glyphs) ((c .before .before .before .before .before .before .before .before .before .before .before .pre) .0 .1 .1 .1)),
+    let a = (c .before .before .before .before .before .before .before .before .before .before .args) in (
+      stands-none (a .kind) (a .table .now) (glyphItem (a .kind) (a .table .now) (a .glyphs) (a .at) (a .base)) (a .glyphs) (a .ends .now) (a .nums .now) (a .firsts .now) (a .others .now) (a .slots .now) (a .seen .now) ((c .before .before .before .before .before .before .before .before .before .before .pre) .1 .1 .0) ((c .before .before .before .before .before .before .before .before .before .before .pre) .1 .1 .1 .0) ((c .before .before .before .before .before .before .before .before .before .before .pre) .1 .1 .1 .1 .0),
+      (λ h g. (c .begin) .ensures (a .glyphs) ((c .before .before .before .before .before .before .before .before .before .before .pre) .0 .1 .1 .1)),
       refl,
       refl,
       refl,
@@ -38,7 +38,7 @@ loop-holds c =
       refl,
       refl,
       refl,
-      alike-none (a .kind) (a .table .now) (a .base) (a .alike .now) ((c .before .before .before .before .before .before .before .before .before .before .before .pre) .1 .1 .1 .1 .1 .1),
+      alike-none (a .kind) (a .table .now) (a .base) (a .alike .now) ((c .before .before .before .before .before .before .before .before .before .before .pre) .1 .1 .1 .1 .1),
     )
 
 same-length : tie.Need-same-length Inv-loop μ-loop
@@ -64,15 +64,15 @@ same-length-7 c = omega (arith, (c .before .before .before .before .loop) .inv .
 
 returns : tie.Need-returns Inv-loop μ-loop
 returns c =
-    let a = (c .before .before .before .before .before .before .before .before .before .before .before .before .before .before .before .before .args) in
+    let a = (c .before .before .before .before .before .before .before .before .before .before .before .before .before .before .before .args) in
     let l = (c .before .before .before .before .loop) in
     passed (a .kind) (a .table .now) (a .glyphs) (a .at) (a .base) (l .ends) (l .nums) (l .firsts) (l .others) (l .slots) (l .seen) (l .way .stretches) (l .way .items) (l .way .glyph) (l .inv .0) (λ h. omega (arith, l .inv .0 .fits, (c .if2) .taken))
 
 number-run-requires : tie.Need-number-run-requires Inv-loop μ-loop
 number-run-requires c κs =
     let l = (c .before .before .before .before .before .before .before .before .before .before .before .loop) in
-    let o = (c .before .before .before .before .before .before .before .before .before .before .before .before .before .before .before .before .before .before .before .before .before .before .before .pre) .1 .0 .1 in
-    (((c .before .before .before .before .before .before .before .before .before .before .before .before .before .before .before .before .before .before .before .before .before .before .before .pre) .0 .0, ((c .before .before .before .before .before .before .before .before .before .before .before .before .before .before .before .before .before .before .before .before .before .before .before .pre) .0 .1 .0, ((c .before .before .before .before .before .before .before .before .before .before .before .before .before .before .before .before .before .before .before .before .before .before .before .pre) .0 .1 .1 .0, (c .before .before .before .before .before .before .before .before .before .before .before .before .before .u16-at) .ensures .0))), (((c .before .before .before .before .before .before .before .before .before .before .before .before .before .before .before .before .before .before .before .before .before .before .before .pre) .1 .0 .0, record { each = omega (arith, o .each, l .inv .2, l .inv .3); distinct = omega (arith, o .distinct, l .inv .2, l .inv .4); listed = omega (arith, o .listed, l .inv .2, l .inv .5); prints = omega (arith, l .inv .6, o .prints) }), ((c .before .before .before .before .before .before .before .before .before .before .before .before .before .before .before .before .before .before .before .before .before .before .before .pre) .1 .1 .0, (l .inv .0, (l .inv .9, ((c .before .before .before .before .before .before .before .before .before .if1) .taken, ((c .before .before .before .before .before .before .before .if2) .left, l .inv .1 ((c .before .before .before .before .before .before .before .if2) .left) ((c .before .before .before .before .before .before .before .before .before .if1) .taken))))))))
+    let o = (c .before .before .before .before .before .before .before .before .before .before .before .before .before .before .before .before .before .before .before .before .before .before .pre) .1 .0 .1 in
+    (((c .before .before .before .before .before .before .before .before .before .before .before .before .before .before .before .before .before .before .before .before .before .before .pre) .0 .0, ((c .before .before .before .before .before .before .before .before .before .before .before .before .before .before .before .before .before .before .before .before .before .before .pre) .0 .1 .0, ((c .before .before .before .before .before .before .before .before .before .before .before .before .before .before .before .before .before .before .before .before .before .before .pre) .0 .1 .1 .0, (c .before .before .before .before .before .before .before .before .before .before .before .before .before .u16-at) .ensures .0))), (((c .before .before .before .before .before .before .before .before .before .before .before .before .before .before .before .before .before .before .before .before .before .before .pre) .1 .0 .0, record { each = omega (arith, o .each, l .inv .2, l .inv .3); distinct = omega (arith, o .distinct, l .inv .2, l .inv .4); listed = omega (arith, o .listed, l .inv .2, l .inv .5); prints = omega (arith, l .inv .6, o .prints) }), (l .inv .0, (l .inv .9, ((c .before .before .before .before .before .before .before .before .before .if1) .taken, ((c .before .before .before .before .before .before .before .if2) .left, l .inv .1 ((c .before .before .before .before .before .before .before .if2) .left) ((c .before .before .before .before .before .before .before .before .before .if1) .taken)))))))
 
 loop-less : tie.Need-loop-less Inv-loop μ-loop
 loop-less c = omega (arith, (c .before .before .before .before .before .before .before .before .before .before .before .before .before .before .number-run) .ensures .2, (c .before .before .before .before .before .before .before .before .before .before .before .before .before .before .before .before .before .before .before .before .before .before .before .before .if1) .taken)
@@ -106,7 +106,7 @@ same-length-14 c = omega (arith, (c .before .before .loop) .inv .8)
 
 returns-2 : tie.Need-returns-2 Inv-loop μ-loop
 returns-2 c =
-    let a = (c .before .before .before .before .before .before .before .before .before .before .before .before .before .before .args) in
+    let a = (c .before .before .before .before .before .before .before .before .before .before .before .before .before .args) in
     let l = (c .before .before .loop) in
     passed (a .kind) (a .table .now) (a .glyphs) (a .at) (a .base) (l .ends) (l .nums) (l .firsts) (l .others) (l .slots) (l .seen) (l .way .stretches) (l .way .items) (l .way .glyph) (l .inv .0) (λ h. absurd (omega (arith, h, (c .if1) .left)))
 

@@ -1,34 +1,34 @@
 use Rattle.places.proofs.Stands.{stands-few, seen-agree, stands-next}
-use Rattle.places.proofs.Laws.{run-item, went-on, twin-item}
-use Rattle.item.specs.Items.{itemAt}
+use Rattle.places.proofs.Laws.{run-item, went-on}
+use Rattle.number.specs.Numbered.{Entered}
 use Rattle.places.specs.Places.{glyphItem, runPlace, OneItem, Stands}
 use Rattle.lookup.specs.Pass.{Serves}
 use lib.ListN.{length}
 use native.Mathlib.Omega.{arith}
-use mathlib.Core.Path.{_≡_, refl, sym, ap, _∙_, subst}
+use mathlib.Core.Path.{_≡_, refl, sym, subst}
 use Prim.Native.Nat.{ℕ, _-_, _≤_}
 use borrow.Author.Needs.{needs}
 use Rattle.places.proofs.number_run.Statement.{statement}
 use Rattle.places.proofs.number_run.Tie as tie
 
 abbrev Inv-loop : tie.InvT-loop
-Inv-loop table glyphs kind format at base twins ends₀ nums₀ firsts₀ others₀ slots₀ seen₀ alike₀ stretches₀ items₀ glyph₀ run after until ends nums firsts others slots seen alike stretches items glyph =
+Inv-loop table glyphs kind format at base ends₀ nums₀ firsts₀ others₀ slots₀ seen₀ alike₀ stretches₀ items₀ glyph₀ run after until ends nums firsts others slots seen alike stretches items glyph =
     Stands kind table (glyphItem kind table glyphs at base) glyphs ends nums firsts others slots seen stretches items glyph
     × (glyph₀ ≤ glyph) × (glyph ≤ glyph₀ → stretches ≡ stretches₀)
     × (length ends ≡ length ends₀) × (length nums ≡ length nums₀) × (length firsts ≡ length firsts₀) × (length others ≡ length others₀) × (length slots ≡ length slots₀) × (length seen ≡ length seen₀) × (length alike ≡ length alike₀) × (glyph ≤ until)
     × OneItem kind table base alike
 
 abbrev μ-loop : tie.MeasureT-loop
-μ-loop table glyphs kind format at base twins ends₀ nums₀ firsts₀ others₀ slots₀ seen₀ alike₀ stretches₀ items₀ glyph₀ run after until ends nums firsts others slots seen alike stretches items glyph = until - glyph
+μ-loop table glyphs kind format at base ends₀ nums₀ firsts₀ others₀ slots₀ seen₀ alike₀ stretches₀ items₀ glyph₀ run after until ends nums firsts others slots seen alike stretches items glyph = until - glyph
 
 next-run-requires : tie.Need-next-run-requires Inv-loop μ-loop
-next-run-requires c κs = ((c .before .before .before .before .before .before .before .before .before .before .pre) .0 .0, (omega (arith, (c .before .before .before .before .before .before .before .before .before .before .pre) .0 .1 .1 .0, (c .before .before .before .before .before .before .before .before .before .before .pre) .1 .1 .1 .1 .1 .0), ((c .before .before .before .before .before .before .before .before .before .before .pre) .0 .1 .1 .1, (c .before .before .before .before .before .before .before .before .before .before .pre) .1 .1 .1 .1 .1 .1 .1)))
+next-run-requires c κs = ((c .before .before .before .before .before .before .before .before .before .pre) .0 .0, (omega (arith, (c .before .before .before .before .before .before .before .before .before .pre) .0 .1 .1 .0, (c .before .before .before .before .before .before .before .before .before .pre) .1 .1 .1 .1 .0), ((c .before .before .before .before .before .before .before .before .before .pre) .0 .1 .1 .1, (c .before .before .before .before .before .before .before .before .before .pre) .1 .1 .1 .1 .1 .1)))
 
 lower-requires : tie.Need-lower-requires Inv-loop μ-loop
 lower-requires c κs = search needs
 
 loop-holds : tie.Need-loop-holds Inv-loop μ-loop
-loop-holds c = ((c .before .before .before .before .before .before .before .before .before .before .before .before .before .pre) .1 .1 .1 .0, omega arith, (λ h. refl), refl, refl, refl, refl, refl, refl, refl, omega (arith, (c .before .before .next-run) .ensures .begins, (c .before .before .next-run) .ensures .more, (c .lower) .ensures, (c .before .before .before .before .before .before .before .before .before .before .before .before .before .pre) .1 .1 .1 .1 .1 .0), (c .before .before .before .before .before .before .before .before .before .before .before .before .before .pre) .1 .1 .1 .1 .0)
+loop-holds c = ((c .before .before .before .before .before .before .before .before .before .before .before .before .pre) .1 .1 .0, omega arith, (λ h. refl), refl, refl, refl, refl, refl, refl, refl, omega (arith, (c .before .before .next-run) .ensures .begins, (c .before .before .next-run) .ensures .more, (c .lower) .ensures, (c .before .before .before .before .before .before .before .before .before .before .before .before .pre) .1 .1 .1 .1 .0), (c .before .before .before .before .before .before .before .before .before .before .before .before .pre) .1 .1 .1 .0)
 
 same-length : tie.Need-same-length Inv-loop μ-loop
 same-length c = omega (arith, (c .before .before .loop) .inv .3)
@@ -54,49 +54,46 @@ same-length-7 c = omega (arith, (c .before .before .loop) .inv .9)
 returns : tie.Need-returns Inv-loop μ-loop
 returns c =
     let l = (c .before .before .loop) in
-    (l .inv .0, l .inv .11, went-on _ _ _ _ _ (l .inv .1) (l .inv .2) ((c .before .before .before .before .before .before .before .before .before .before .before .before .before .before .before .before .pre) .1 .1 .1 .1 .1 .1 .0) (omega (arith, (c .if1) .taken, l .inv .3)), λ h g. absurd (omega (arith, h, (c .if1) .taken, l .inv .3)))
+    (l .inv .0, l .inv .11, went-on _ _ _ _ _ (l .inv .1) (l .inv .2) ((c .before .before .before .before .before .before .before .before .before .before .before .before .before .before .before .pre) .1 .1 .1 .1 .1 .0) (omega (arith, (c .if1) .taken, l .inv .3)), λ h g. absurd (omega (arith, h, (c .if1) .taken, l .inv .3)))
 
 run-place-requires : tie.Need-run-place-requires Inv-loop μ-loop
-run-place-requires c κs = ((c .before .before .before .before .before .before .before .before .before .before .before .before .before .before .before .before .pre) .0 .1 .0, (omega (arith, (c .before .before .before .before .before .before .before .before .before .before .before .before .before .before .before .before .pre) .0 .1 .1 .0, (c .before .loop-test) .taken, (c .before .before .before .lower) .ensures), (c .before .before .before .before .before .next-run) .ensures .near))
-
-twin-of-requires : tie.Need-twin-of-requires Inv-loop μ-loop
-twin-of-requires c κs = search needs
+run-place-requires c κs = ((c .before .before .before .before .before .before .before .before .before .before .before .before .before .before .before .pre) .0 .1 .0, (omega (arith, (c .before .before .before .before .before .before .before .before .before .before .before .before .before .before .before .pre) .0 .1 .1 .0, (c .before .loop-test) .taken, (c .before .before .before .lower) .ensures), (c .before .before .before .before .before .next-run) .ensures .near))
 
 number-of-requires : tie.Need-number-of-requires Inv-loop μ-loop
 number-of-requires c κs =
-    let a = (c .before .before .before .before .before .before .before .before .before .before .before .before .before .before .before .before .before .before .before .before .before .before .args) in
-    let l = (c .before .before .before .before .before .before .before .before .loop) in
+    let a = (c .before .before .before .before .before .before .before .before .before .before .before .before .before .before .before .before .before .before .before .before .args) in
+    let l = (c .before .before .before .before .before .before .before .loop) in
     let s = l .inv .0 in
-    let o = (c .before .before .before .before .before .before .before .before .before .before .before .before .before .before .before .before .before .before .before .before .before .before .pre) .1 .0 .1 in
-    (((c .before .before .before .before .before .before .before .before .before .before .before .before .before .before .before .before .before .before .before .before .before .before .pre) .1 .0 .0, (s .kept, s .known)), (omega (arith, stands-few (a .kind) (a .table .now) (glyphItem (a .kind) (a .table .now) (a .glyphs) (a .at) (a .base)) (a .glyphs) (l .ends) (l .nums) (l .firsts) (l .others) (l .slots) (l .seen) (l .stretches) (l .items) (l .glyph) s, (c .before .before .before .before .before .before .before .before .before .before .before .before .before .before .before .before .before .before .before .before .before .before .pre) .0 .1 .1 .0, (c .before .before .before .before .before .before .before .loop-test) .taken, (c .before .before .before .before .before .before .before .before .before .lower) .ensures), (omega (arith, s .few, o .distinct, l .inv .3, l .inv .5, (c .before .before .before .before .before .before .if1) .left), (omega (arith, s .few, o .listed, l .inv .3, l .inv .6, (c .before .before .before .before .before .before .if1) .left), omega (arith, l .inv .7, o .prints)))))
+    let o = (c .before .before .before .before .before .before .before .before .before .before .before .before .before .before .before .before .before .before .before .before .pre) .1 .0 .1 in
+    (((c .before .before .before .before .before .before .before .before .before .before .before .before .before .before .before .before .before .before .before .before .pre) .1 .0 .0, (s .kept, s .known)), (omega (arith, stands-few (a .kind) (a .table .now) (glyphItem (a .kind) (a .table .now) (a .glyphs) (a .at) (a .base)) (a .glyphs) (l .ends) (l .nums) (l .firsts) (l .others) (l .slots) (l .seen) (l .stretches) (l .items) (l .glyph) s, (c .before .before .before .before .before .before .before .before .before .before .before .before .before .before .before .before .before .before .before .before .pre) .0 .1 .1 .0, (c .before .before .before .before .before .before .loop-test) .taken, (c .before .before .before .before .before .before .before .before .lower) .ensures), (omega (arith, s .few, o .distinct, l .inv .3, l .inv .5, (c .before .before .before .before .before .if1) .left), (omega (arith, s .few, o .listed, l .inv .3, l .inv .6, (c .before .before .before .before .before .if1) .left), omega (arith, l .inv .7, o .prints)))))
 
 cast-stretch-end : tie.Need-cast-stretch-end Inv-loop μ-loop
 cast-stretch-end c =
-    let a = (c .before .before .before .before .before .before .before .before .before .before .before .before .before .before .before .before .before .before .before .before .before .before .before .before .before .before .before .before .before .before .before .before .before .args) in
-    let l = (c .before .before .before .before .before .before .before .before .before .before .before .before .before .before .before .before .before .before .before .loop) in
+    let a = (c .before .before .before .before .before .before .before .before .before .before .before .before .before .before .before .before .before .before .before .before .before .before .before .before .before .before .before .before .before .before .before .args) in
+    let l = (c .before .before .before .before .before .before .before .before .before .before .before .before .before .before .before .before .before .before .loop) in
     let s = l .inv .0 in
-    omega (arith, (c .before .before .before .before .before .before .before .before .before .before .number-of) .ensures .2, stands-few (a .kind) (a .table .now) (glyphItem (a .kind) (a .table .now) (a .glyphs) (a .at) (a .base)) (a .glyphs) (l .ends) (l .nums) (l .firsts) (l .others) (l .slots) (l .seen) (l .stretches) (l .items) (l .glyph) s, (c .before .before .before .before .before .before .before .before .before .before .before .before .before .before .before .before .before .before .before .before .before .before .before .before .before .before .before .before .before .before .before .before .before .pre) .0 .1 .1 .0, (c .before .before .before .before .before .before .before .before .before .before .before .before .before .before .before .before .before .before .loop-test) .taken, (c .before .before .before .before .before .before .before .before .before .before .before .before .before .before .before .before .before .before .before .before .lower) .ensures)
+    omega (arith, (c .before .before .before .before .before .before .before .before .before .before .number-of) .ensures .2, stands-few (a .kind) (a .table .now) (glyphItem (a .kind) (a .table .now) (a .glyphs) (a .at) (a .base)) (a .glyphs) (l .ends) (l .nums) (l .firsts) (l .others) (l .slots) (l .seen) (l .stretches) (l .items) (l .glyph) s, (c .before .before .before .before .before .before .before .before .before .before .before .before .before .before .before .before .before .before .before .before .before .before .before .before .before .before .before .before .before .before .before .pre) .0 .1 .1 .0, (c .before .before .before .before .before .before .before .before .before .before .before .before .before .before .before .before .before .loop-test) .taken, (c .before .before .before .before .before .before .before .before .before .before .before .before .before .before .before .before .before .before .before .lower) .ensures)
 
 stretch-end-requires : tie.Need-stretch-end-requires Inv-loop μ-loop
 stretch-end-requires c κs =
-    let a = (c .before .before .before .before .before .before .before .before .before .before .before .before .before .before .before .before .before .before .before .before .before .before .before .before .before .before .before .before .before .before .before .before .before .args) in
+    let a = (c .before .before .before .before .before .before .before .before .before .before .before .before .before .before .before .before .before .before .before .before .before .before .before .before .before .before .before .before .before .before .before .args) in
     let nb = (c .before .before .before .before .before .before .before .before .before .before .number-of) in
-    let l = (c .before .before .before .before .before .before .before .before .before .before .before .before .before .before .before .before .before .before .before .loop) in
-    let marks = seen-agree (a .kind) (a .table .now) (nb .last .1 .1 .0) (nb .last .1 .1 .1 .1 .1 .0) _ (omega (arith, nb .ensures .2, nb .kept, l .inv .0 .few, (c .before .before .before .before .before .before .before .before .before .before .before .before .before .before .before .before .before .before .before .before .before .before .before .before .before .before .before .before .before .before .before .before .before .pre) .1 .0 .1 .distinct, l .inv .3, l .inv .5, (c .before .before .before .before .before .before .before .before .before .before .before .before .before .before .before .before .before .if1) .left)) (nb .ensures .1) in
-    (((c .before .before .before .before .before .before .before .before .before .before .before .before .before .before .before .before .before .before .before .before .before .before .before .before .before .before .before .before .before .before .before .before .before .pre) .0 .1 .0, (omega (arith, (c .before .before .before .before .before .before .before .before .before .before .before .before .before .before .before .before .before .before .before .before .before .before .before .before .before .before .before .before .before .before .before .before .before .pre) .0 .1 .1 .0, (c .before .before .before .before .before .before .before .before .before .before .before .before .before .before .before .before .before .before .before .before .lower) .ensures), ((c .before .before .before .before .before .before .before .before .before .before .before .before .before .before .before .before .before .before .before .before .before .before .next-run) .ensures .near, (c .before .before .before .before .before .before .before .before .before .before .before .before .before .before .before .before .before .before .loop-test) .taken))), ((c .before .before .before .before .before .before .before .before .before .before .before .before .before .before .before .before .before .before .before .before .before .before .before .before .before .before .before .before .before .before .before .before .before .pre) .1 .1 .0, (marks, l .inv .11)))
+    let l = (c .before .before .before .before .before .before .before .before .before .before .before .before .before .before .before .before .before .before .loop) in
+    let marks = seen-agree (a .kind) (a .table .now) (nb .last .1 .1 .0) (nb .last .1 .1 .1 .1 .1 .0) _ (omega (arith, nb .ensures .2, nb .kept, l .inv .0 .few, (c .before .before .before .before .before .before .before .before .before .before .before .before .before .before .before .before .before .before .before .before .before .before .before .before .before .before .before .before .before .before .before .pre) .1 .0 .1 .distinct, l .inv .3, l .inv .5, (c .before .before .before .before .before .before .before .before .before .before .before .before .before .before .before .before .if1) .left)) (nb .ensures .1) in
+    (((c .before .before .before .before .before .before .before .before .before .before .before .before .before .before .before .before .before .before .before .before .before .before .before .before .before .before .before .before .before .before .before .pre) .0 .1 .0, (omega (arith, (c .before .before .before .before .before .before .before .before .before .before .before .before .before .before .before .before .before .before .before .before .before .before .before .before .before .before .before .before .before .before .before .pre) .0 .1 .1 .0, (c .before .before .before .before .before .before .before .before .before .before .before .before .before .before .before .before .before .before .before .lower) .ensures), ((c .before .before .before .before .before .before .before .before .before .before .before .before .before .before .before .before .before .before .before .before .before .next-run) .ensures .near, (c .before .before .before .before .before .before .before .before .before .before .before .before .before .before .before .before .before .loop-test) .taken))), (marks, l .inv .11))
 
 cast-extend : tie.Need-cast-extend Inv-loop μ-loop
-cast-extend c = omega (arith, (c .before .before .before .before .stretch-end) .ensures .0 .most, (c .before .before .before .before .before .before .before .before .before .before .before .before .before .before .before .before .before .before .before .before .before .before .before .before .before .lower) .ensures, (c .before .before .before .before .before .before .before .before .before .before .before .before .before .before .before .before .before .before .before .before .before .before .before .before .before .before .before .before .before .before .before .before .before .before .before .before .before .before .pre) .0 .1 .1 .0)
+cast-extend c = omega (arith, (c .before .before .before .before .stretch-end) .ensures .0 .most, (c .before .before .before .before .before .before .before .before .before .before .before .before .before .before .before .before .before .before .before .before .before .before .before .before .lower) .ensures, (c .before .before .before .before .before .before .before .before .before .before .before .before .before .before .before .before .before .before .before .before .before .before .before .before .before .before .before .before .before .before .before .before .before .before .before .before .pre) .0 .1 .1 .0)
 
 cast-extend-2 : tie.Need-cast-extend-2 Inv-loop μ-loop
 cast-extend-2 c =
-    let a = (c .before .before .before .before .before .before .before .before .before .before .before .before .before .before .before .before .before .before .before .before .before .before .before .before .before .before .before .before .before .before .before .before .before .before .before .before .before .before .args) in
-    let l = (c .before .before .before .before .before .before .before .before .before .before .before .before .before .before .before .before .before .before .before .before .before .before .before .before .loop) in
+    let a = (c .before .before .before .before .before .before .before .before .before .before .before .before .before .before .before .before .before .before .before .before .before .before .before .before .before .before .before .before .before .before .before .before .before .before .before .before .args) in
+    let l = (c .before .before .before .before .before .before .before .before .before .before .before .before .before .before .before .before .before .before .before .before .before .before .before .loop) in
     let s = l .inv .0 in
-    omega (arith, (c .before .before .before .before .before .before .before .before .before .before .before .before .before .before .before .number-of) .ensures .2, stands-few (a .kind) (a .table .now) (glyphItem (a .kind) (a .table .now) (a .glyphs) (a .at) (a .base)) (a .glyphs) (l .ends) (l .nums) (l .firsts) (l .others) (l .slots) (l .seen) (l .stretches) (l .items) (l .glyph) s, (c .before .before .before .before .before .before .before .before .before .before .before .before .before .before .before .before .before .before .before .before .before .before .before .before .before .before .before .before .before .before .before .before .before .before .before .before .before .before .pre) .0 .1 .1 .0, (c .before .before .before .before .before .before .before .before .before .before .before .before .before .before .before .before .before .before .before .before .before .before .before .loop-test) .taken, (c .before .before .before .before .before .before .before .before .before .before .before .before .before .before .before .before .before .before .before .before .before .before .before .before .before .lower) .ensures)
+    omega (arith, (c .before .before .before .before .before .before .before .before .before .before .before .before .before .before .before .number-of) .ensures .2, stands-few (a .kind) (a .table .now) (glyphItem (a .kind) (a .table .now) (a .glyphs) (a .at) (a .base)) (a .glyphs) (l .ends) (l .nums) (l .firsts) (l .others) (l .slots) (l .seen) (l .stretches) (l .items) (l .glyph) s, (c .before .before .before .before .before .before .before .before .before .before .before .before .before .before .before .before .before .before .before .before .before .before .before .before .before .before .before .before .before .before .before .before .before .before .before .before .pre) .0 .1 .1 .0, (c .before .before .before .before .before .before .before .before .before .before .before .before .before .before .before .before .before .before .before .before .before .before .loop-test) .taken, (c .before .before .before .before .before .before .before .before .before .before .before .before .before .before .before .before .before .before .before .before .before .before .before .before .lower) .ensures)
 
 extend-requires : tie.Need-extend-requires Inv-loop μ-loop
-extend-requires c κs = ((c .before .before .before .before .before .before .before .before .before .before .before .before .before .before .before .before .before .before .before .before .before .before .if1) .left, omega (arith, (c .before .before .before .before .before .before .before .before .before .before .before .before .before .before .before .before .before .before .before .before .before .before .before .before .before .before .before .before .before .before .before .before .before .before .before .before .before .before .pre) .1 .0 .1 .each, (c .before .before .before .before .before .before .before .before .before .before .before .before .before .before .before .before .before .before .before .before .before .before .before .before .loop) .inv .3, (c .before .before .before .before .before .before .before .before .before .before .before .before .before .before .before .before .before .before .before .before .before .before .before .before .loop) .inv .4))
+extend-requires c κs = ((c .before .before .before .before .before .before .before .before .before .before .before .before .before .before .before .before .before .before .before .before .before .if1) .left, omega (arith, (c .before .before .before .before .before .before .before .before .before .before .before .before .before .before .before .before .before .before .before .before .before .before .before .before .before .before .before .before .before .before .before .before .before .before .before .before .pre) .1 .0 .1 .each, (c .before .before .before .before .before .before .before .before .before .before .before .before .before .before .before .before .before .before .before .before .before .before .before .loop) .inv .3, (c .before .before .before .before .before .before .before .before .before .before .before .before .before .before .before .before .before .before .before .before .before .before .before .loop) .inv .4))
 
 larger-requires : tie.Need-larger-requires Inv-loop μ-loop
 larger-requires c κs = search needs
@@ -106,12 +103,12 @@ loop-less c = omega (arith, (c .before .before .before .before .before .before .
 
 loop-again : tie.Need-loop-again Inv-loop μ-loop
 loop-again c =
-    let a = (c .before .before .before .before .before .before .before .before .before .before .before .before .before .before .before .before .before .before .before .before .before .before .before .before .before .before .before .before .before .before .before .before .before .before .before .before .before .before .before .before .before .before .before .before .args) in
+    let a = (c .before .before .before .before .before .before .before .before .before .before .before .before .before .before .before .before .before .before .before .before .before .before .before .before .before .before .before .before .before .before .before .before .before .before .before .before .before .before .before .before .before .before .args) in
     let t = a .table .now in
-    let l = (c .before .before .before .before .before .before .before .before .before .before .before .before .before .before .before .before .before .before .before .before .before .before .before .before .before .before .before .before .before .before .loop) in
+    let l = (c .before .before .before .before .before .before .before .before .before .before .before .before .before .before .before .before .before .before .before .before .before .before .before .before .before .before .before .before .before .loop) in
     let s = l .inv .0 in
-    let o = (c .before .before .before .before .before .before .before .before .before .before .before .before .before .before .before .before .before .before .before .before .before .before .before .before .before .before .before .before .before .before .before .before .before .before .before .before .before .before .before .before .before .before .before .before .pre) .1 .0 .1 in
-    let run = (c .before .before .before .before .before .before .before .before .before .before .before .before .before .before .before .before .before .before .before .before .before .before .before .before .before .before .before .before .before .before .before .before .before .next-run) .result in
+    let o = (c .before .before .before .before .before .before .before .before .before .before .before .before .before .before .before .before .before .before .before .before .before .before .before .before .before .before .before .before .before .before .before .before .before .before .before .before .before .before .before .before .before .before .pre) .1 .0 .1 in
+    let run = (c .before .before .before .before .before .before .before .before .before .before .before .before .before .before .before .before .before .before .before .before .before .before .before .before .before .before .before .before .before .before .before .before .next-run) .result in
     let nb = (c .before .before .before .before .before .before .before .before .before .before .before .before .before .before .before .before .before .before .before .before .before .number-of) in
     let st = (c .before .before .before .before .before .before .before .before .before .before .stretch-end) in
     let ex = (c .before .before .before .before .before .extend) in
@@ -124,12 +121,11 @@ loop-again c =
     let ends = ex .last .0 in
     let nums = ex .last .1 .0 in
     let w = ex .ensures (l .glyph) (s .rise) (st .ensures .0 .more) in
-    let e = ap (itemAt (a .kind) t) ((c .before .before .before .before .before .before .before .before .before .before .before .before .before .before .before .before .before .before .before .before .before .before .before .before .before .before .twin-of) .ensures) ∙ twin-item (a .twins .now) ((c .before .before .before .before .before .before .before .before .before .before .before .before .before .before .before .before .before .before .before .before .before .before .before .before .before .before .before .run-place) .result) (a .kind) t ((c .before .before .before .before .before .before .before .before .before .before .before .before .before .before .before .before .before .before .before .before .before .before .before .before .before .before .before .before .before .before .before .before .before .before .before .before .before .before .before .before .before .before .before .before .pre) .1 .1 .0) ∙ ap (itemAt (a .kind) t) {y = P (l .glyph)} ((c .before .before .before .before .before .before .before .before .before .before .before .before .before .before .before .before .before .before .before .before .before .before .before .before .before .before .before .run-place) .ensures) in
     let next = stands-next (a .kind) t item (a .glyphs) (l .ends) (l .nums) (l .firsts) (l .others) (l .slots) (l .seen) (l .stretches) (l .items) (l .glyph) s
-    (omega (arith, s .few, o .distinct, l .inv .3, l .inv .5, (c .before .before .before .before .before .before .before .before .before .before .before .before .before .before .before .before .before .before .before .before .before .before .before .before .before .before .before .before .if1) .left)) P ((c .before .before .before .before .before .before .before .before .before .before .before .before .before .before .before .before .before .before .before .before .before .before .before .before .before .before .twin-of) .result) (st .result) (nb .result) (ex .result) ends nums firsts others slots seen
-    (omega (arith, nb .kept)) (st .ensures .0 .more) (omega (arith, st .ensures .0 .most, (c .before .before .before .before .before .before .before .before .before .before .before .before .before .before .before .before .before .before .before .before .before .before .before .before .before .before .before .before .before .before .before .lower) .ensures))
-    (λ x b d. run-item (a .kind) t (a .glyphs) (a .at) (a .base) _ x run ((c .before .before .before .before .before .before .before .before .before .before .before .before .before .before .before .before .before .before .before .before .before .before .before .before .before .before .before .before .before .before .before .before .before .before .before .before .before .before .before .before .before .before .before .before .pre) .1 .0 .0) ((c .before .before .before .before .before .before .before .before .before .before .before .before .before .before .before .before .before .before .before .before .before .before .before .before .before .before .before .before .before .before .before .before .before .before .before .before .before .before .before .before .before .before .before .before .pre) .0 .1 .1 .0) ((c .before .before .before .before .before .before .before .before .before .before .before .before .before .before .before .before .before .before .before .before .before .before .before .before .before .before .before .before .before .before .before .before .before .next-run) .ensures) (omega (arith, l .inv .1, b)) (omega (arith, st .ensures .0 .most, (c .before .before .before .before .before .before .before .before .before .before .before .before .before .before .before .before .before .before .before .before .before .before .before .before .before .before .before .before .before .before .before .lower) .ensures)) (omega (arith, st .ensures .0 .most, (c .before .before .before .before .before .before .before .before .before .before .before .before .before .before .before .before .before .before .before .before .before .before .before .before .before .before .before .before .before .before .before .lower) .ensures)))
-    e (nb .ensures .0) (nb .ensures .1) (st .ensures .0 .same) w (omega (arith, w .most, ex .kept, (c .before .before .before .before .before .before .before .before .before .before .before .before .before .before .before .before .before .before .before .before .before .before .before .before .before .before .before .before .if1) .left)) in (
+    (omega (arith, s .few, o .distinct, l .inv .3, l .inv .5, (c .before .before .before .before .before .before .before .before .before .before .before .before .before .before .before .before .before .before .before .before .before .before .before .before .before .before .before .if1) .left)) P (st .result) (nb .result) (ex .result) ends nums firsts others slots seen
+    (omega (arith, nb .kept)) (st .ensures .0 .more) (omega (arith, st .ensures .0 .most, (c .before .before .before .before .before .before .before .before .before .before .before .before .before .before .before .before .before .before .before .before .before .before .before .before .before .before .before .before .before .before .lower) .ensures))
+    (λ x b d. run-item (a .kind) t (a .glyphs) (a .at) (a .base) _ x run ((c .before .before .before .before .before .before .before .before .before .before .before .before .before .before .before .before .before .before .before .before .before .before .before .before .before .before .before .before .before .before .before .before .before .before .before .before .before .before .before .before .before .before .pre) .1 .0 .0) ((c .before .before .before .before .before .before .before .before .before .before .before .before .before .before .before .before .before .before .before .before .before .before .before .before .before .before .before .before .before .before .before .before .before .before .before .before .before .before .before .before .before .before .pre) .0 .1 .1 .0) ((c .before .before .before .before .before .before .before .before .before .before .before .before .before .before .before .before .before .before .before .before .before .before .before .before .before .before .before .before .before .before .before .before .next-run) .ensures) (omega (arith, l .inv .1, b)) (omega (arith, st .ensures .0 .most, (c .before .before .before .before .before .before .before .before .before .before .before .before .before .before .before .before .before .before .before .before .before .before .before .before .before .before .before .before .before .before .lower) .ensures)) (omega (arith, st .ensures .0 .most, (c .before .before .before .before .before .before .before .before .before .before .before .before .before .before .before .before .before .before .before .before .before .before .before .before .before .before .before .before .before .before .lower) .ensures)))
+    (subst (λ (q : ℕ). Entered (a .kind) t (l .firsts) firsts others slots (l .items) q (nb .result)) {y = P (l .glyph)} (c .before .before .before .before .before .before .before .before .before .before .before .before .before .before .before .before .before .before .before .before .before .before .before .before .before .before .run-place .ensures) (nb .ensures .0)) (nb .ensures .1) (st .ensures .0 .same) w (omega (arith, w .most, ex .kept, (c .before .before .before .before .before .before .before .before .before .before .before .before .before .before .before .before .before .before .before .before .before .before .before .before .before .before .before .if1) .left)) in (
       subst (λ (k : ℕ). Stands (a .kind) t item (a .glyphs) ends nums firsts others slots seen (ex .result) k (st .result)) (sym ((c .larger) .ensures)) next,
       omega (arith, l .inv .1, st .ensures .0 .more),
       (λ h. absurd (omega (arith, h, l .inv .1, st .ensures .0 .more))),
@@ -168,11 +164,11 @@ same-length-14 c = omega (arith, (c .before .loop) .inv .9)
 returns-2 : tie.Need-returns-2 Inv-loop μ-loop
 returns-2 c =
     let l = (c .before .loop) in
-    let a = (c .before .before .before .before .before .before .before .before .before .before .before .before .before .before .before .args) in
+    let a = (c .before .before .before .before .before .before .before .before .before .before .before .before .before .before .args) in
     let w = (c .before .before .before .before .next-run) .ensures in (
       l .inv .0,
       l .inv .11,
-      omega (arith, (c .loop-test) .left, (c .before .before .lower) .ensures, w .begins, w .more, (c .before .before .before .before .before .before .before .before .before .before .before .before .before .before .before .pre) .1 .1 .1 .1 .1 .0),
+      omega (arith, (c .loop-test) .left, (c .before .before .lower) .ensures, w .begins, w .more, (c .before .before .before .before .before .before .before .before .before .before .before .before .before .before .pre) .1 .1 .1 .1 .0),
       λ h g.
           let e : (c .before .before .before .before .next-run) .result .until ≡ l .glyph =
           omega (arith, (c .loop-test) .left, (c .before .before .lower) .ensures, g, l .inv .10) in
@@ -197,7 +193,6 @@ number-run-spec =
     same-length-7
     returns
     run-place-requires
-    twin-of-requires
     number-of-requires
     cast-stretch-end
     stretch-end-requires

@@ -22,11 +22,11 @@ same-length c = search needs
 -- src/lib.rt:136:1
 returns : tie.Need-returns
 returns c =
-    let a = c .before .before .before .before .before .before .before .before .before .before .args in
-    let k = c .before .before .before .before .before .before .before .before .before .before .pre in
+    let a = c .before .before .before .before .before .before .before .before .before .args in
+    let k = c .before .before .before .before .before .before .before .before .before .pre in
     let v = c .before .before .before .before .known-values in
-    let s = lead-same (a .kind) (a .table .now) (a .base) (a .seen .now) (a .place) (a .number) (v .result) (k .1 .1 .0) (v .ensures .1) in
-    (v .ensures .0, v .ensures .1, noted-alike (a .kind) (a .table .now) (a .base) (a .place) (v .result) (a .alike .now) _ (c .before .before .note-values .ensures) s (k .1 .1 .1))
+    let s = lead-same (a .kind) (a .table .now) (a .base) (a .seen .now) (a .place) (a .number) (v .result) (k .1 .0) (v .ensures .1) in
+    (v .ensures .0, v .ensures .1, noted-alike (a .kind) (a .table .now) (a .base) (a .place) (v .result) (a .alike .now) _ (c .before .before .note-values .ensures) s (k .1 .1))
 
 pub same-values-spec : {M : Type 1} → statement M
 same-values-spec =

@@ -11,13 +11,13 @@ lower-requires c κs = search needs
 
 returns : tie.Need-returns
 returns c =
-    let a = c .before .before .before .before .before .before .args in
-    (alike-before (a .kind) (a .table .now) (a .base) (a .from) (a .until) (a .place) (a .array) (a .glyph) (a .seen .now) (a .number) _ (c .before .before .before .before .before .before .pre .0 .1 .1 .1) (c .before .if1 .taken) (c .lower .ensures), c .before .before .before .before .before .before .pre .1 .1 .1)
+    let a = c .before .before .before .before .before .args in
+    (alike-before (a .kind) (a .table .now) (a .base) (a .from) (a .until) (a .place) (a .array) (a .glyph) (a .seen .now) (a .number) _ (c .before .before .before .before .before .pre .0 .1 .1 .1) (c .before .if1 .taken) (c .lower .ensures), c .before .before .before .before .before .pre .1 .1)
 
 returns-2 : tie.Need-returns-2
 returns-2 c =
-    let a = c .before .before .before .before .before .before .args in
-    (alike-one (a .kind) (a .table .now) (a .base) (a .from) (a .until) (a .place) (a .array) (a .glyph) (a .seen .now) (a .number) _ (c .before .before .before .before .before .before .pre .0 .1 .1 .1) (c .before .if1 .left) (not-true _ (c .if2 .taken)) refl, c .before .before .before .before .before .before .pre .1 .1 .1)
+    let a = c .before .before .before .before .before .args in
+    (alike-one (a .kind) (a .table .now) (a .base) (a .from) (a .until) (a .place) (a .array) (a .glyph) (a .seen .now) (a .number) _ (c .before .before .before .before .before .pre .0 .1 .1 .1) (c .before .if1 .left) (not-true _ (c .if2 .taken)) refl, c .before .before .before .before .before .pre .1 .1)
 
 add-next : tie.Need-add-next
 add-next c = search needs
@@ -45,9 +45,9 @@ same-length c = search needs
 
 returns-3 : tie.Need-returns-3
 returns-3 c =
-    let a = c .before .before .before .before .before .before .before .before .before .before .args in
+    let a = c .before .before .before .before .before .before .before .before .before .args in
     let v = c .before .before .same-values in
-    (alike-array (a .kind) (a .table .now) (a .base) (a .from) (a .until) (a .place) (a .array) (a .glyph) (a .seen .now) (a .number) _ (c .before .before .before .before .before .before .before .before .before .before .pre .0 .1 .1 .1) (c .before .before .before .before .before .if1 .left) (not-false _ (c .before .before .before .before .if2 .left)) _ (v .result) refl (omega (arith, v .ensures .0)) (v .ensures .1) (omega arith), v .ensures .2)
+    (alike-array (a .kind) (a .table .now) (a .base) (a .from) (a .until) (a .place) (a .array) (a .glyph) (a .seen .now) (a .number) _ (c .before .before .before .before .before .before .before .before .before .pre .0 .1 .1 .1) (c .before .before .before .before .before .if1 .left) (not-false _ (c .before .before .before .before .if2 .left)) _ (v .result) refl (omega (arith, v .ensures .0)) (v .ensures .1) (omega arith), v .ensures .2)
 
 pub stretch-end-spec : {M : Type 1} → statement M
 stretch-end-spec =

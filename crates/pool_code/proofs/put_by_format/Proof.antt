@@ -17,7 +17,7 @@ slice-aggregate-put-medium c = search needs
 
 -- src/lib.rt:201:9
 put-medium-requires : tie.Need-put-medium-requires
-put-medium-requires c κs = (c .before .before .before .before .before .before .before .pre, getD-zeros 32768)
+put-medium-requires c κs = (c .before .before .before .before .before .before .pre, getD-zeros 32768)
 
 -- src/lib.rt:201:9
 same-length : tie.Need-same-length

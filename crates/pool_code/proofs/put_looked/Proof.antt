@@ -24,9 +24,9 @@ same-length c = search needs
 -- src/lib.rt:273:9
 returns : tie.Need-returns
 returns c =
-    let a = c .before .before .before .before .before .before .before .before .before .args in
+    let a = c .before .before .before .before .before .before .before .before .args in
     let l = c .before .before .put-large in
-    tried-all (a .kind) (a .table .now) (a .glyphs) (Lookup (a .at) (a .base)) (a .out .now) (l .last .1 .1 .1 .1 .1 .1 .0) (a .to) (l .result) (c .before .before .before .before .before .before .before .before .before .pre .0 .few) (l .ensures)
+    tried-all (a .kind) (a .table .now) (a .glyphs) (Lookup (a .at) (a .base)) (a .out .now) (l .last .1 .1 .1 .1 .1 .0) (a .to) (l .result) (c .before .before .before .before .before .before .before .before .pre .0 .few) (l .ensures)
 
 -- src/lib.rt:275:9
 put-by-format-requires : tie.Need-put-by-format-requires
@@ -51,11 +51,11 @@ same-length-3 c = search needs
 -- src/lib.rt:259:1
 returns-3 : tie.Need-returns-3
 returns-3 c =
-    let a = c .before .before .before .before .before .before .before .before .before .before .before .before .before .before .args in
+    let a = c .before .before .before .before .before .before .before .before .before .before .before .before .before .args in
     let m = c .before .before .before .before .before .before .before .put-by-format in
     let l = c .before .before .put-large2 in
-    tried-again (a .kind) (a .table .now) (a .glyphs) (Lookup (a .at) (a .base)) 4096 (a .out .now) (m .last .1 .1 .1 .1 .1 .1 .0) (l .last .1 .1 .1 .1 .1 .1 .0) (a .to) (m .result) (l .result) (c .before .before .before .before .if2 .left) (m .ensures)
-    (tried-all (a .kind) (a .table .now) (a .glyphs) (Lookup (a .at) (a .base)) (m .last .1 .1 .1 .1 .1 .1 .0) (l .last .1 .1 .1 .1 .1 .1 .0) (a .to) (l .result) (c .before .before .before .before .before .before .before .before .before .before .before .before .before .before .pre .0 .few) (l .ensures))
+    tried-again (a .kind) (a .table .now) (a .glyphs) (Lookup (a .at) (a .base)) 4096 (a .out .now) (m .last .1 .1 .1 .1 .1 .0) (l .last .1 .1 .1 .1 .1 .0) (a .to) (m .result) (l .result) (c .before .before .before .before .if2 .left) (m .ensures)
+    (tried-all (a .kind) (a .table .now) (a .glyphs) (Lookup (a .at) (a .base)) (m .last .1 .1 .1 .1 .1 .0) (l .last .1 .1 .1 .1 .1 .0) (a .to) (l .result) (c .before .before .before .before .before .before .before .before .before .before .before .before .before .pre .0 .few) (l .ensures))
 
 pub put-looked-spec : {M : Type 1} → statement M
 put-looked-spec =

@@ -21,8 +21,8 @@ same-length-2 c = search needs
 
 returns-2 : tie.Need-returns-2
 returns-2 c =
-    let a = (c .before .before .before .before .before .before .before .before .before .before .before .before .args) in
-    tried-again (a .kind) (a .table .now) (a .glyphs) (Lookup (a .at) (a .base)) 128 (a .out .now) ((c .before .before .before .before .before .before .before .put-small) .last .1 .1 .1 .1 .1 .1 .0) ((c .before .before .put-looked) .last .1 .1 .1 .1 .1 .1 .0) (a .to) ((c .before .before .before .before .before .before .before .put-small) .result) ((c .before .before .put-looked) .result) ((c .before .before .before .before .if1) .left) ((c .before .before .before .before .before .before .before .put-small) .ensures) ((c .before .before .put-looked) .ensures)
+    let a = (c .before .before .before .before .before .before .before .before .before .before .before .args) in
+    tried-again (a .kind) (a .table .now) (a .glyphs) (Lookup (a .at) (a .base)) 128 (a .out .now) ((c .before .before .before .before .before .before .before .put-small) .last .1 .1 .1 .1 .1 .0) ((c .before .before .put-looked) .last .1 .1 .1 .1 .1 .0) (a .to) ((c .before .before .before .before .before .before .before .put-small) .result) ((c .before .before .put-looked) .result) ((c .before .before .before .before .if1) .left) ((c .before .before .before .before .before .before .before .put-small) .ensures) ((c .before .before .put-looked) .ensures)
 
 pub put-lookup-spec : {M : Type 1} → statement M
 put-lookup-spec =

@@ -34,7 +34,7 @@ slice-aggregate-put-with-6 c = search needs
 
 -- src/lib.rt:166:5
 put-with-requires : tie.Need-put-with-requires
-put-with-requires c κs = (c .before .before .before .before .before .before .before .before .before .before .before .before .pre .0, (fresh 4096 8191 (omega arith), (getD-zeros 4096, (getD-zeros 8191, (getD-zeros 32768, c .before .before .before .before .before .before .before .before .before .before .before .before .pre .1)))))
+put-with-requires c κs = (c .before .before .before .before .before .before .before .before .before .before .before .pre .0, (fresh 4096 8191 (omega arith), (getD-zeros 4096, (getD-zeros 8191, (getD-zeros 32768, c .before .before .before .before .before .before .before .before .before .before .before .pre .1)))))
 
 -- src/lib.rt:145:1
 same-length : tie.Need-same-length

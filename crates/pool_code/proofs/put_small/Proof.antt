@@ -27,7 +27,7 @@ slice-aggregate-put-with-7 : tie.Need-slice-aggregate-put-with-7
 slice-aggregate-put-with-7 c = search needs
 
 put-with-requires : tie.Need-put-with-requires
-put-with-requires c κs = ((c .before .before .before .before .before .before .before .before .before .before .before .pre), (fresh 128 251 (omega arith), (getD-zeros 128, (getD-zeros 251, (getD-zeros 512, getD-zeros 512)))))
+put-with-requires c κs = ((c .before .before .before .before .before .before .before .before .before .before .pre), (fresh 128 251 (omega arith), (getD-zeros 128, (getD-zeros 251, (getD-zeros 512, getD-zeros 512)))))
 
 same-length : tie.Need-same-length
 same-length c = search needs

@@ -10,7 +10,7 @@ use Rattle.sheet_write.proofs.put_sheet.Statement.{statement}
 use Rattle.sheet_write.proofs.put_sheet.Tie as tie
 
 cast-put-u32 : tie.Need-cast-put-u32
-cast-put-u32 c = omega (arith, glyphs-few ((c .before .before .before .before .args) .table .now) ((c .before .before .before .before .args) .glyphs) ((c .before .before .before .before .pre) .0))
+cast-put-u32 c = omega (arith, glyphs-few ((c .before .before .before .args) .table .now) ((c .before .before .before .args) .glyphs) ((c .before .before .before .pre)))
 
 put-u32-requires : tie.Need-put-u32-requires
 put-u32-requires c κs = search needs
@@ -19,7 +19,7 @@ u16-at-requires : tie.Need-u16-at-requires
 u16-at-requires c κs = search needs
 
 put-side-requires : tie.Need-put-side-requires
-put-side-requires c κs = (first-ready ((c .before .before .before .before .before .before .before .before .before .args) .table .now) ((c .before .before .before .before .before .before .before .before .before .args) .glyphs) ((c .before .before .before .before .before .before .before .before .before .pre) .0) ((c .before .u16-at) .result) ((c .before .u16-at) .ensures .1) ((c .before .u16-at) .ensures .0), ((c .before .before .before .before .before .before .before .before .before .pre) .1, omega arith))
+put-side-requires c κs = (first-ready ((c .before .before .before .before .before .before .before .before .args) .table .now) ((c .before .before .before .before .before .before .before .before .args) .glyphs) ((c .before .before .before .before .before .before .before .before .pre)) ((c .before .u16-at) .result) ((c .before .u16-at) .ensures .1) ((c .before .u16-at) .ensures .0), omega arith)
 
 u16-at-requires-2 : tie.Need-u16-at-requires-2
 u16-at-requires-2 c κs = search needs
@@ -38,11 +38,11 @@ same-length c = search needs
 
 returns : tie.Need-returns
 returns c =
-    let a = (c .before .before .before .before .before .before .before .before .before .before .before .before .before .before .before .before .before .before .args) in
+    let a = (c .before .before .before .before .before .before .before .before .before .before .before .before .before .before .before .before .before .args) in
     let t = a .table .now in
     let n = a .glyphs in
     let l1 = (c .before .before .before .before .before .before .before .before .before .before .before .before .before .put-u32) .last .0 in
-    let l2 = (c .before .before .before .before .before .before .before .before .put-side) .last .1 .1 .1 .1 .0 in
+    let l2 = (c .before .before .before .before .before .before .before .before .put-side) .last .1 .1 .1 .0 in
     let l3 = (c .before .before .put-copy) .last .0 in
     let first = (c .before .before .before .before .before .before .before .before .before .before .u16-at) in
     let second = (c .before .before .before .before .before .u16-at2) in
@@ -58,19 +58,19 @@ returns c =
     )
 
 put-side-requires-2 : tie.Need-put-side-requires-2
-put-side-requires-2 c κs = (second-ready ((c .before .before .before .before .before .before .before .before .before .before .before .before .before .before .before .args) .table .now) ((c .before .before .before .before .before .before .before .before .before .before .before .before .before .before .before .args) .glyphs) ((c .before .before .before .before .before .before .before .before .before .before .before .before .before .before .before .pre) .0) ((c .before .before .u16-at2) .result) ((c .before .before .u16-at2) .ensures .1) ((c .before .before .u16-at2) .ensures .0), ((c .before .before .before .before .before .before .before .before .before .before .before .before .before .before .before .pre) .1, omega (arith, (c .before .before .before .before .before .put-side) .ensures .1)))
+put-side-requires-2 c κs = (second-ready ((c .before .before .before .before .before .before .before .before .before .before .before .before .before .before .args) .table .now) ((c .before .before .before .before .before .before .before .before .before .before .before .before .before .before .args) .glyphs) ((c .before .before .before .before .before .before .before .before .before .before .before .before .before .before .pre)) ((c .before .before .u16-at2) .result) ((c .before .before .u16-at2) .ensures .1) ((c .before .before .u16-at2) .ensures .0), omega (arith, (c .before .before .before .before .before .put-side) .ensures .1))
 
 same-length-2 : tie.Need-same-length-2
 same-length-2 c = search needs
 
 returns-2 : tie.Need-returns-2
 returns-2 c =
-    let a = (c .before .before .before .before .before .before .before .before .before .before .before .before .before .before .before .before .before .before .args) in
+    let a = (c .before .before .before .before .before .before .before .before .before .before .before .before .before .before .before .before .before .args) in
     let t = a .table .now in
     let n = a .glyphs in
     let l1 = (c .before .before .before .before .before .before .before .before .before .before .before .before .before .put-u32) .last .0 in
-    let l2 = (c .before .before .before .before .before .before .before .before .put-side) .last .1 .1 .1 .1 .0 in
-    let l3 = (c .before .before .put-side2) .last .1 .1 .1 .1 .0 in
+    let l2 = (c .before .before .before .before .before .before .before .before .put-side) .last .1 .1 .1 .0 in
+    let l3 = (c .before .before .put-side2) .last .1 .1 .1 .0 in
     let first = (c .before .before .before .before .before .before .before .before .before .before .u16-at) in
     let second = (c .before .before .before .before .before .u16-at2) in
     let side = (c .before .before .before .before .before .before .before .before .put-side) in

@@ -11,13 +11,13 @@ same-length : tie.Need-same-length
 same-length c = search needs
 
 returns : tie.Need-returns
-returns c = stored-short (sheetOf ((c .before .before .before .before .before .before .before .before .before .args) .table .now) ((c .before .before .before .before .before .before .before .before .before .args) .glyphs)) ((c .before .before .before .before .before .before .before .before .before .args) .room .now) ((c .before .before .before .put-sheet) .result) ((c .before .before .before .put-sheet) .ensures .0) ((c .if1) .taken)
+returns c = stored-short (sheetOf ((c .before .before .before .before .before .before .before .before .args) .table .now) ((c .before .before .before .before .before .before .before .before .args) .glyphs)) ((c .before .before .before .before .before .before .before .before .args) .room .now) ((c .before .before .before .put-sheet) .result) ((c .before .before .before .put-sheet) .ensures .0) ((c .if1) .taken)
 
 put-again-requires : tie.Need-put-again-requires
-put-again-requires c κs = (((c .before .before .before .before .before .before .before .before .before .before .before .pre) .0, ((c .before .before .before .before .before .put-sheet) .ensures .0, (c .before .before .if1) .left)), ((c .before .before .before .before .before .before .before .before .before .before .before .pre) .1, drafted (sheetOf ((c .before .before .before .before .before .before .before .before .before .before .before .args) .table .now) ((c .before .before .before .before .before .before .before .before .before .before .before .args) .glyphs)) ((c .before .before .before .before .before .before .before .before .before .before .before .args) .draft .now) ((c .before .before .before .before .before .put-sheet) .last .1 .1 .1 .0) ((c .before .before .before .before .before .put-sheet) .ensures .2)))
+put-again-requires c κs = (((c .before .before .before .before .before .before .before .before .before .before .pre), ((c .before .before .before .before .before .put-sheet) .ensures .0, (c .before .before .if1) .left)), drafted (sheetOf ((c .before .before .before .before .before .before .before .before .before .before .args) .table .now) ((c .before .before .before .before .before .before .before .before .before .before .args) .glyphs)) ((c .before .before .before .before .before .before .before .before .before .before .args) .draft .now) ((c .before .before .before .before .before .put-sheet) .last .1 .1 .0) ((c .before .before .before .before .before .put-sheet) .ensures .2))
 
-cast-t17 : tie.Need-cast-t17
-cast-t17 c = search needs
+cast-t16 : tie.Need-cast-t16
+cast-t16 c = search needs
 
 same-length-2 : tie.Need-same-length-2
 same-length-2 c = search needs
@@ -26,7 +26,7 @@ same-length-3 : tie.Need-same-length-3
 same-length-3 c = search needs
 
 returns-2 : tie.Need-returns-2
-returns-2 c = stored-fits (sheetOf ((c .before .before .before .before .before .before .before .before .before .before .before .before .before .before .args) .table .now) ((c .before .before .before .before .before .before .before .before .before .before .before .before .before .before .args) .glyphs)) ((c .before .before .before .before .before .before .before .before .before .before .before .before .before .before .args) .room .now) ((c .before .before .put-again) .last .1 .1 .1 .1 .1 .0) ((c .before .before .before .before .before .before .before .before .put-sheet) .result) ((c .before .before .before .before .before .before .before .before .put-sheet) .ensures .0) ((c .before .before .before .before .before .if1) .left) ((c .before .before .put-again) .ensures)
+returns-2 c = stored-fits (sheetOf ((c .before .before .before .before .before .before .before .before .before .before .before .before .before .args) .table .now) ((c .before .before .before .before .before .before .before .before .before .before .before .before .before .args) .glyphs)) ((c .before .before .before .before .before .before .before .before .before .before .before .before .before .args) .room .now) ((c .before .before .put-again) .last .1 .1 .1 .1 .0) ((c .before .before .before .before .before .before .before .before .put-sheet) .result) ((c .before .before .before .before .before .before .before .before .put-sheet) .ensures .0) ((c .before .before .before .before .before .if1) .left) ((c .before .before .put-again) .ensures)
 
 pub write-by-spec : {M : Type 1} → statement M
 write-by-spec =
@@ -36,7 +36,7 @@ write-by-spec =
     same-length
     returns
     put-again-requires
-    cast-t17
+    cast-t16
     same-length-2
     same-length-3
     returns-2)

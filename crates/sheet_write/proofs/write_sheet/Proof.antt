@@ -1,68 +1,42 @@
-use Rattle.values.proofs.Laws.{none-judged}
+use mathlib.Core.Path.{sym, _∙_}
+use Rattle.sheet_write.proofs.Laws.{written-bad, written-clear}
 use borrow.Author.Needs.{needs}
 use Rattle.sheet_write.proofs.write_sheet.Statement.{statement}
 use Rattle.sheet_write.proofs.write_sheet.Tie as tie
-use Rattle.sheet_write.proofs.write_sheet.Reads as reads
-use Rattle.sheet_write.proofs.write_sheet.Lts as lts
-use Rattle.sheet_write.proofs.write_marked.Reads as write-marked-reads
-use Rattle.sheet_write.proofs.write_small.Reads as write-small-reads
 
--- src/lib.rt:151:9
-write-small-requires : tie.Need-write-small-requires
-write-small-requires c κs = search needs
+table-fault-requires : tie.Need-table-fault-requires
+table-fault-requires c κs = search needs
 
--- src/lib.rt:151:9
+enum-known-fault : tie.Need-enum-known-fault
+enum-known-fault c = search needs
+
+returns : tie.Need-returns
+returns c =
+    let a = c .before .before .before .before .before .before .args in
+    written-bad (a .table .now) (a .count) (a .room .now) _ _ (sym (c .before .before .before .table-fault .ensures) ∙ c .before .fault .given .1)
+
+enum-told : tie.Need-enum-told
+enum-told c = search needs
+
+write-accepted-requires : tie.Need-write-accepted-requires
+write-accepted-requires c κs = sym (c .before .before .before .table-fault .ensures) ∙ c .before .enum-told .given .1
+
 same-length : tie.Need-same-length
 same-length c = search needs
 
--- src/lib.rt:151:9
-returns : tie.Need-returns
-returns c = search needs
-
--- src/lib.rt:155:43
-slice-aggregate-write-marked : tie.Need-slice-aggregate-write-marked
-slice-aggregate-write-marked c = search needs
-
--- src/lib.rt:155:9
-write-marked-requires : tie.Need-write-marked-requires
-write-marked-requires c κs = none-judged _ _ 4096
-
--- src/lib.rt:155:9
-same-length-2 : tie.Need-same-length-2
-same-length-2 c = search needs
-
--- src/lib.rt:155:9
 returns-2 : tie.Need-returns-2
-returns-2 c = search needs
-
--- src/lib.rt:158:32
-slice-aggregate-write-marked-2 : tie.Need-slice-aggregate-write-marked-2
-slice-aggregate-write-marked-2 c = search needs
-
--- src/lib.rt:158:5
-write-marked-requires-2 : tie.Need-write-marked-requires-2
-write-marked-requires-2 c κs = none-judged _ _ 32768
-
--- src/lib.rt:147:1
-same-length-3 : tie.Need-same-length-3
-same-length-3 c = search needs
-
--- src/lib.rt:147:1
-returns-3 : tie.Need-returns-3
-returns-3 c = search needs
+returns-2 c =
+    let a = c .before .before .before .before .before .before .before .before .before .args in
+    c .before .before .write-accepted .ensures ∙ written-clear (a .table .now) (a .count) (a .room .now) (sym (c .before .before .before .before .before .before .table-fault .ensures) ∙ c .before .before .before .before .enum-told .given .1)
 
 pub write-sheet-spec : {M : Type 1} → statement M
 write-sheet-spec =
     tie.close
     (tie.spec
-    write-small-requires
-    same-length
+    table-fault-requires
+    enum-known-fault
     returns
-    slice-aggregate-write-marked
-    write-marked-requires
-    same-length-2
-    returns-2
-    slice-aggregate-write-marked-2
-    write-marked-requires-2
-    same-length-3
-    returns-3)
+    enum-told
+    write-accepted-requires
+    same-length
+    returns-2)
