@@ -1,18 +1,18 @@
 -- A cluster in bytes: the turns of its reader's loop, and what the reader concludes.
 use Prim.Native.Nat.{ℕ, suc, _+_, _*_, _≤_, _<_, _^_}
 use mathlib.Core.Path.{_≡_, refl, sym, ap, _∙_, subst}
-use mathlib.Core.List.{List, [], _∷_, _++_}
+use mathlib.Core.List.{List, _++_}
 use native.Mathlib.Omega.{arith}
 use lib.ListN.{length, drop}
 use Rattle.fields.specs.Field.{be16, be32, u16At, u32At, Bytes}
 use Rattle.fields.specs.Laws.{u16At-fits, u32At-fits}
-use Rattle.lists.specs.Codes.{All, PrefixFree, Found, Absent, itemsAt}
+use Rattle.lists.specs.Codes.{All, Found, Absent, itemsAt}
 use Rattle.lists.proofs.ReadLaws.{items-length, refuse-count}
 use Rattle.parts.specs.declared.Pair.{Pair}
-use Rattle.meaning.specs.Limits.{OkCluster, Rising}
+use Rattle.meaning.specs.Limits.{Rising}
 use Rattle.meaning.specs.Sheet.{pairCode}
 use Rattle.meaning.specs.Wide.{WidePair}
-use Rattle.meaning.proofs.SheetLaws.{pair-free, cluster-free, few-pairs}
+use Rattle.meaning.proofs.SheetLaws.{pair-free, few-pairs}
 use Rattle.section.specs.Section.{Room}
 use Rattle.section.proofs.SectionLaws.{field16, field32, items-outside, items-good, items-bad}
 use Rattle.sheet_clusters.specs.Clusters.{pairAt, GoodPair, GoodPairs, clusterCode, SomeCluster}
@@ -39,23 +39,8 @@ module _ (s : List ℕ) (least place left left′ : ℕ) (el : left ≡ suc left
         subst (λ (n : ℕ). GoodPairs least (itemsAt pairAt 24 s place n)) (sym el)
         ((g .1, h .0), (g .0, subst (λ (n : ℕ). Rising n (itemsAt pairAt 24 s (place + 24) left′)) f (h .1)))
 
--- ---- a cluster that is written, and one or none
-
 few : (ps : List Pair) → SomeCluster ps → (length ps < 2 ^ 32) × All WidePair ps
 few ps h = few-pairs ps (h .1)
-
-pub some-free : PrefixFree clusterCode SomeCluster
-some-free a b s t ha hb e = cluster-free a b s t (few a ha) (few b hb) e
-
-pub none-ok : OkCluster []
-none-ok = (omega arith, tt, tt)
-
-pub some→ : (x : List Pair) → SomeCluster x → ([] ≡ x → ⊥) × OkCluster x
-some→ x h = ((λ e. omega (arith, h .0, ap length e)), h .1)
-
-pub some← : (x : List Pair) → ([] ≡ x → ⊥) → OkCluster x → SomeCluster x
-some← [] h o = absurd (h refl)
-some← (p ∷ x) h o = (omega arith, o)
 
 -- ---- what the reader concludes
 

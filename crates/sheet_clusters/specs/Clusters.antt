@@ -1,6 +1,5 @@
--- Clusters in the bytes of a sheet (document 01, "The sheet", sections 5 and 6): each its 32-bit pair count and 24-byte pairs.
+-- Clusters in the bytes of a sheet (document 01, "The sheet", section 5): each its 32-bit pair count and 24-byte pairs.
 use Prim.Native.Nat.{ℕ, _+_, _≤_}
-use mathlib.Core.Path.{_≡_}
 use mathlib.Core.List.{List}
 use lib.ListN.{length}
 use Rattle.fields.specs.Field.{u16At, u32At}
@@ -37,7 +36,3 @@ clusterCode = counted pairCode
 -- a cluster that is written has a pair or more: no pairs stand for no cluster
 abbrev pub SomeCluster : List Pair → Type 0
 SomeCluster ps = (1 ≤ length ps) × OkCluster ps
-
--- the clusters of n glyphs, [] where a glyph has none
-abbrev pub OkClusters : ℕ → List (List Pair) → Type 0
-OkClusters n cs = (length cs ≡ n) × All OkCluster cs

@@ -25,7 +25,8 @@ use Rattle.answers.specs.declared.RecordAnswer.{RecordAnswer}
 use Rattle.answers.specs.declared.ActionAnswer.{ActionAnswer}
 use Rattle.answers.specs.Says.{given, saysRecord, saysAction}
 use Rattle.sheet_clusters.specs.Clusters.{clusterCode}
-use Rattle.sheet_clusters.proofs.ClusterLaws.{none-ok}
+use Rattle.sorts.specs.declared.Sort.the-variants.{Clusters}
+use Rattle.sorts.proofs.Laws.{none-ok}
 use Rattle.sheet_action.specs.Action.{listCode}
 use Rattle.sheet_walk.specs.Passes.{Passes, Reaches, clustersOn, listsOn, afterSide}
 use Rattle.sheet_walk.specs.LookUp.{runMore, lookUp, ValueIn}
@@ -108,7 +109,7 @@ module _ (s : List ℕ) (bytes : Bytes s) (m : Meaning) (v : Valid m) (w : write
     the-record c j q ej i r fr =
         let t = pool-place cluster-discrete clusterCode [] FewPairs (omega arith, tt) s bytes (m .glyphs) few (sideOf d m .clusters) (valid-side d m v .cluster-count) wide-clusters
         at (listsOn d m ++ []) clusters-there k p ek f g y fy j q ej i in
-        fr (getD (sideOf d m .clusters) g []) (t .0) (all-getD OkCluster (sideOf d m .clusters) [] g none-ok (valid-side d m v .clusters)) (t .1)
+        fr (getD (sideOf d m .clusters) g []) (t .0) (all-getD OkCluster (sideOf d m .clusters) [] g (none-ok Clusters (m .glyphs)) (valid-side d m v .clusters)) (t .1)
 
   module _ (h : Passes write (listsOn d) Valid s 0 at) (k p : ℕ) (ek : k ≡ u32At s at) (f : Reaches listCode FewActions k s at p)
       (g y : ℕ) (fy : ValueIn 1 0 s p g y) where

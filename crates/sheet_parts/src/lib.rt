@@ -9,6 +9,7 @@ use answers::SizesAnswer;
 use answers::Sought;
 use parts::Direction;
 use parts::Entry;
+use sorts::Sort;
 ghost use mathlib.Core.Path.{_≡_};
 ghost use Prim.Native.Nat.{_%_, _<_, _≤_, _^_};
 ghost use lib.ListN.{length};
@@ -140,12 +141,12 @@ pub fn record_of(bytes: &[u8], direction: Direction, glyph: u16, class: u8) -> R
     ensures { λ r. ⌜ RecordOf (now (bytes .entry)) direction glyph class r ⌝ }
 {
     let at = sheet_walk::clusters_at(bytes, direction);
-    let runs = sheet_walk::cluster_place(bytes, at, fields::u32_at(bytes, at));
+    let runs = sheet_walk::item_place(bytes, at, Sort::Clusters, fields::u32_at(bytes, at));
     let number = sheet_walk::value_of(bytes, runs, glyph as usize, 1, 0);
     if number == 0 {
         return RecordAnswer::Nothing;
     }
-    let place = sheet_walk::cluster_place(bytes, at, number - 1);
+    let place = sheet_walk::item_place(bytes, at, Sort::Clusters, number - 1);
     record_in(bytes, place, class)
 }
 
@@ -172,11 +173,11 @@ pub fn action_of(bytes: &[u8], direction: Direction, glyph: u16, number: u16) ->
     ensures { λ r. ⌜ ActionOf (now (bytes .entry)) direction glyph number r ⌝ }
 {
     let at = sheet_walk::lists_at(bytes, direction);
-    let runs = sheet_walk::list_place(bytes, at, fields::u32_at(bytes, at));
+    let runs = sheet_walk::item_place(bytes, at, Sort::Lists, fields::u32_at(bytes, at));
     let list = sheet_walk::value_of(bytes, runs, glyph as usize, 1, 0);
     if list == 0 {
         return answers::no_action(Sought::Nothing);
     }
-    let place = sheet_walk::list_place(bytes, at, list - 1);
+    let place = sheet_walk::item_place(bytes, at, Sort::Lists, list - 1);
     action_in(bytes, place, number as usize)
 }

@@ -12,20 +12,20 @@ use Rattle.meaning.specs.Meaning.{Side}
 use Rattle.meaning.specs.Limits.{OkMaybe, OkSide}
 use Rattle.meaning.specs.Sheet.{writeSide, machineBytes, clusterBytes, listBytes}
 use Rattle.meaning.proofs.SheetLaws.{machine-free, clusters-free, side-parts}
-use Rattle.sheet_clusters.specs.Clusters.{OkClusters}
-use Rattle.sheet_lists.specs.Lists.{OkLists}
+use Rattle.sorts.specs.declared.Sort.the-variants.{Clusters, Lists}
+use Rattle.sorts.specs.Items.{OkPool}
 use Rattle.sheet_read.specs.Whole.{valuesBytes, OkValues}
 
 module _ (n : ℕ) (hn : n < 2 ^ 16) (s : List ℕ) (at : ℕ) where
-  pub values-none : Absent clusterBytes (OkClusters n) s at → Absent valuesBytes (OkValues n) s at
-  values-none = first-absent clusterBytes (OkClusters n) (clusters-free n hn) (λ c l. listBytes l) (λ c l. OkLists n l) s at
+  pub values-none : Absent clusterBytes (OkPool Clusters n) s at → Absent valuesBytes (OkValues n) s at
+  values-none = first-absent clusterBytes (OkPool Clusters n) (clusters-free n hn) (λ c l. listBytes l) (λ c l. OkPool Lists n l) s at
 
-  pub values-parse : (q : ℕ) → Found clusterBytes (OkClusters n) s at q → (r : Read) → Parses listBytes (OkLists n) s q r
+  pub values-parse : (q : ℕ) → Found clusterBytes (OkPool Clusters n) s at q → (r : Read) → Parses listBytes (OkPool Lists n) s q r
       → Parses valuesBytes (OkValues n) s at r
   values-parse q f (Upto t) h =
-      both-found clusterBytes (OkClusters n) (clusters-free n hn) (λ c l. listBytes l) (λ c l. OkLists n l) s at q f t h
+      both-found clusterBytes (OkPool Clusters n) (clusters-free n hn) (λ c l. listBytes l) (λ c l. OkPool Lists n l) s at q f t h
   values-parse q f Nothing h =
-      second-absent clusterBytes (OkClusters n) (clusters-free n hn) (λ c l. listBytes l) (λ c l. OkLists n l) s at q f h
+      second-absent clusterBytes (OkPool Clusters n) (clusters-free n hn) (λ c l. listBytes l) (λ c l. OkPool Lists n l) s at q f h
 
   -- a direction's bytes, as those of its machine and of the rest
   opened : (d : Side) (rest : List ℕ) → drop at s ≡ writeSide d ++ rest

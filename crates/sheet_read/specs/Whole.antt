@@ -5,15 +5,15 @@ use Rattle.parts.specs.declared.Pair.{Pair}
 use Rattle.meaning.specs.Meaning.{Action, Side}
 use Rattle.meaning.specs.Limits.{OkSide}
 use Rattle.meaning.specs.Sheet.{writeSide, clusterBytes, listBytes}
-use Rattle.sheet_clusters.specs.Clusters.{OkClusters}
-use Rattle.sheet_lists.specs.Lists.{OkLists}
+use Rattle.sorts.specs.declared.Sort.the-variants.{Clusters, Lists}
+use Rattle.sorts.specs.Items.{OkPool}
 
 -- the clusters and the action lists of so many glyphs
 abbrev pub valuesBytes : List (List Pair) × List (List Action) → List ℕ
 valuesBytes p = clusterBytes (p .0) ++ listBytes (p .1)
 
 abbrev pub OkValues : ℕ → List (List Pair) × List (List Action) → Type 0
-OkValues glyphs p = OkClusters glyphs (p .0) × OkLists glyphs (p .1)
+OkValues glyphs p = OkPool Clusters glyphs (p .0) × OkPool Lists glyphs (p .1)
 
 -- horizontal and vertical
 abbrev pub sidesBytes : Side × Side → List ℕ

@@ -3,6 +3,7 @@
 use answers::Checked;
 use fields::Refusal;
 use section::Read;
+use sorts::Sort;
 ghost use Prim.Native.Nat.{_<_, _^_};
 ghost use Rattle.meaning.specs.Limits.{OkSide};
 ghost use Rattle.meaning.specs.Sheet.{writeSide, IsSheet};
@@ -16,9 +17,9 @@ fn read_values(bytes: &[u8], at: usize, glyphs: usize) -> Read
     requires { ⌜ glyphs < 2 ^ 16 ⌝ }
     ensures { λ r. ⌜ Parses valuesBytes (OkValues glyphs) (now (bytes .entry)) at r ⌝ }
 {
-    let found = sheet_clusters::read_clusters(bytes, at, glyphs);
+    let found = sheet_pools::read_pool(bytes, at, Sort::Clusters, glyphs);
     match found {
-        Read::Upto(end) => sheet_lists::read_lists(bytes, end, glyphs),
+        Read::Upto(end) => sheet_pools::read_pool(bytes, end, Sort::Lists, glyphs),
         Read::Absent => Read::Absent,
     }
 }

@@ -18,15 +18,16 @@ use Rattle.lists.proofs.SectionLaws.{WideRun, distinct-length, numbers-length}
 use Rattle.parts.specs.declared.Direction.{Direction}
 use Rattle.parts.specs.declared.Direction.the-variants.{Horizontal, Vertical}
 use Rattle.meaning.specs.Meaning.{Machine, Meaning}
-use Rattle.meaning.specs.Discrete.{Entry-discrete, cluster-discrete, list-discrete}
-use Rattle.meaning.specs.Limits.{OkMaybe, OkCluster, OkActions, Valid, OkSide}
+use Rattle.meaning.specs.Discrete.{Entry-discrete}
+use Rattle.meaning.specs.Limits.{OkMaybe, Valid, OkSide}
 use Rattle.meaning.specs.Ask.{sideOf}
 use Rattle.meaning.specs.Sheet.{sizesCode, entryCode, sizesOf, kindsOf, cellsOf, writeSide, write, machineBytes, clusterBytes, listBytes}
-use Rattle.meaning.specs.Wide.{WideSizes, WideEntry, FewPairs, FewActions}
-use Rattle.meaning.proofs.SheetLaws.{few-pairs, few-actions, side-parts}
-use Rattle.sheet_clusters.specs.Clusters.{clusterCode, OkClusters}
-use Rattle.sheet_action.specs.Action.{listCode}
-use Rattle.sheet_lists.specs.Lists.{OkLists}
+use Rattle.meaning.specs.Wide.{WideSizes, WideEntry}
+use Rattle.meaning.proofs.SheetLaws.{side-parts}
+use Rattle.sorts.specs.declared.Sort.{Sort}
+use Rattle.sorts.specs.declared.Sort.the-variants.{Clusters, Lists}
+use Rattle.sorts.specs.Items.{noItem, item-discrete, itemCode, OkItem, FewItem, poolBytes, OkPool}
+use Rattle.sorts.proofs.Laws.{item-few, none-few}
 use Rattle.sheet_walk.specs.Passes.{Passes, ItemsEnd, ByGlyphs, afterSizes, afterClasses, afterSide, sideOn, clustersOn, listsOn}
 use Rattle.sheet_walk.proofs.PassLaws.{items-end}
 use Rattle.sheet_walk.proofs.PoolLaws.{pool-end}
@@ -80,15 +81,11 @@ module _ (s : List ℕ) (bytes : Bytes s) where
   -- ---- clusters and action lists
 
   module _ (at p q : ℕ) where
-    pub clusters-passed : Passes (counted clusterCode) (λ ds. []) (λ ds. (length ds < 2 ^ 32) × All FewPairs ds) s at p → ItemsEnd 6 s p q
-        → Passes clusterBytes (λ xs. []) (ByGlyphs OkClusters) s at q
-    clusters-passed h f xs rest (n, hn, o) e =
-        pool-end cluster-discrete clusterCode [] FewPairs (omega arith, tt) s bytes at p q h f n hn xs rest (o .0) (all-map OkCluster FewPairs few-pairs xs (o .1)) e
-
-    pub lists-passed : Passes (counted listCode) (λ ds. []) (λ ds. (length ds < 2 ^ 32) × All FewActions ds) s at p → ItemsEnd 6 s p q
-        → Passes listBytes (λ xs. []) (ByGlyphs OkLists) s at q
-    lists-passed h f xs rest (n, hn, o) e =
-        pool-end list-discrete listCode [] FewActions (omega arith, tt) s bytes at p q h f n hn xs rest (o .0) (all-map (OkActions n) FewActions (few-actions n) xs (o .1)) e
+    pub pool-passed : (sort : Sort) → Passes (counted (itemCode sort)) (λ ds. []) (λ ds. (length ds < 2 ^ 32) × All (FewItem sort) ds) s at p → ItemsEnd 6 s p q
+        → Passes (poolBytes sort) (λ xs. []) (ByGlyphs (OkPool sort)) s at q
+    pool-passed sort h f xs rest (n, hn, o) e =
+        pool-end (item-discrete sort) (itemCode sort) (noItem sort) (FewItem sort) (none-few sort) s bytes at p q h f n hn xs rest (o .0)
+        (all-map (OkItem sort n) (FewItem sort) (item-few sort n) xs (o .1)) e
 
   -- ---- the directions of a sheet
 
@@ -119,14 +116,14 @@ module _ (s : List ℕ) (bytes : Bytes s) where
         f (sideOf d m .machine) (clustersOn d m ++ rest) (m .glyphs, few m v, valid-side d m v .machine) (machine-first m rest v e)
 
   module _ (d : Direction) (p : ℕ) (k : Passes write (clustersOn d) Valid s 0 p) where
-    pub to-lists : (q : ℕ) → Passes clusterBytes (λ xs. []) (ByGlyphs OkClusters) s p q → Passes write (listsOn d) Valid s 0 q
+    pub to-lists : (q : ℕ) → Passes clusterBytes (λ xs. []) (ByGlyphs (OkPool Clusters)) s p q → Passes write (listsOn d) Valid s 0 q
     to-lists q f m rest v e =
         let x = sideOf d m in
         let o = valid-side d m v in
         f (x .clusters) (listsOn d m ++ rest) (m .glyphs, few m v, (o .cluster-count, o .clusters))
         (k m rest v e ∙ append-assoc (clusterBytes (x .clusters)) (listsOn d m) rest)
 
-    pub to-end : (q t : ℕ) → Passes write (listsOn d) Valid s 0 q → Passes listBytes (λ xs. []) (ByGlyphs OkLists) s q t
+    pub to-end : (q t : ℕ) → Passes write (listsOn d) Valid s 0 q → Passes listBytes (λ xs. []) (ByGlyphs (OkPool Lists)) s q t
         → Passes write (afterSide d) Valid s 0 t
     to-end q t g f m rest v e =
         let x = sideOf d m in
@@ -135,8 +132,8 @@ module _ (s : List ℕ) (bytes : Bytes s) where
         (g m rest v e ∙ append-assoc (listBytes (x .lists)) (afterSide d m) rest)
 
   -- vertical begins where horizontal ends
-  pub vertical-passed : (p q t : ℕ) → Passes machineBytes (λ m. []) (ByGlyphs OkMaybe) s 4 p → Passes clusterBytes (λ xs. []) (ByGlyphs OkClusters) s p q
-      → Passes listBytes (λ xs. []) (ByGlyphs OkLists) s q t → Passes write (sideOn Vertical) Valid s 0 t
+  pub vertical-passed : (p q t : ℕ) → Passes machineBytes (λ m. []) (ByGlyphs OkMaybe) s 4 p → Passes clusterBytes (λ xs. []) (ByGlyphs (OkPool Clusters)) s p q
+      → Passes listBytes (λ xs. []) (ByGlyphs (OkPool Lists)) s q t → Passes write (sideOn Vertical) Valid s 0 t
   vertical-passed p q t f g k m rest v e =
       let a = machine-passed Horizontal 4 horizontal-passed p f in
       let b = to-lists Horizontal p a q g in

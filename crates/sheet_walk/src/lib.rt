@@ -1,17 +1,16 @@
 // Where the parts of a sheet stand (document 01, "The sheet"): sections are passed over by their counts, clusters and
 // action lists one by one. Any bytes may be handed in; only of a sheet is it known what stands at the place.
 use parts::Direction;
+use sorts::Sort;
 ghost use mathlib.Core.Path.{_≡_};
 ghost use mathlib.Core.List.{[]};
 ghost use Prim.Native.Nat.{_+_, _*_, _≤_, _^_};
 ghost use lib.ListN.{length};
 ghost use Rattle.lists.specs.Codes.{itemsAt};
 ghost use Rattle.meaning.specs.Limits.{OkMaybe, Valid};
-ghost use Rattle.meaning.specs.Sheet.{actionCode, write, machineBytes, clusterBytes, listBytes};
-ghost use Rattle.meaning.specs.Wide.{WideAction, FewPairs, FewActions};
-ghost use Rattle.sheet_clusters.specs.Clusters.{clusterCode, OkClusters};
-ghost use Rattle.sheet_action.specs.Action.{listCode};
-ghost use Rattle.sheet_lists.specs.Lists.{OkLists};
+ghost use Rattle.meaning.specs.Sheet.{actionCode, write, machineBytes};
+ghost use Rattle.meaning.specs.Wide.{WideAction};
+ghost use Rattle.sorts.specs.Items.{itemCode, FewItem, poolBytes, OkPool};
 ghost use Rattle.sheet_walk.specs.Passes.{Passes, ItemsEnd, Reaches, ByGlyphs, afterSizes, afterClasses, sideOn, clustersOn, listsOn};
 ghost use Rattle.sheet_walk.specs.LookUp.{runMore, lookUp, ValueIn};
 
@@ -55,10 +54,20 @@ pub fn action_place(bytes: &[u8], at: usize, number: usize) -> usize
     place
 }
 
-// Where the list with a number begins, of the section of action lists at a position; for the count of lists, where the
-// section ends.
-pub fn list_place(bytes: &[u8], at: usize, number: usize) -> usize
-    ensures { λ r. ⌜ Reaches listCode FewActions number (now (bytes .entry)) at r ⌝ }
+// Where a cluster, or a list of actions, ends.
+fn after_item(bytes: &[u8], at: usize, sort: Sort) -> usize
+    ensures { λ r. ⌜ Passes (itemCode sort) (λ x. []) (FewItem sort) (now (bytes .entry)) at r ⌝ }
+{
+    match sort {
+        Sort::Clusters => after_items(bytes, at, 24),
+        Sort::Lists => action_place(bytes, at, fields::u32_at(bytes, at)),
+    }
+}
+
+// Where the item with a number begins, of the section of clusters, or of action lists, at a position; for the count of
+// items, where the section ends.
+pub fn item_place(bytes: &[u8], at: usize, sort: Sort, number: usize) -> usize
+    ensures { λ r. ⌜ Reaches (itemCode sort) (FewItem sort) number (now (bytes .entry)) at r ⌝ }
 {
     if !section::has_items(bytes, at, 0) {
         return bytes.len();
@@ -69,45 +78,17 @@ pub fn list_place(bytes: &[u8], at: usize, number: usize) -> usize
         if bytes.len() <= place {
             return place;
         }
-        place = action_place(bytes, place, fields::u32_at(bytes, place));
+        place = after_item(bytes, place, sort);
         left -= 1;
     }
     place
 }
 
-// Where the cluster with a number begins, of the section of clusters at a position; for the count of clusters, where
-// the section ends.
-pub fn cluster_place(bytes: &[u8], at: usize, number: usize) -> usize
-    ensures { λ r. ⌜ Reaches clusterCode FewPairs number (now (bytes .entry)) at r ⌝ }
+// Where sections 5 and 6 end, or 7 and 8: the items, and their runs.
+fn after_pool(bytes: &[u8], at: usize, sort: Sort) -> usize
+    ensures { λ r. ⌜ Passes (poolBytes sort) (λ x. []) (ByGlyphs (OkPool sort)) (now (bytes .entry)) at r ⌝ }
 {
-    if !section::has_items(bytes, at, 0) {
-        return bytes.len();
-    }
-    let mut place = at + 4;
-    let mut left = number;
-    while 0 < left {
-        if bytes.len() <= place {
-            return place;
-        }
-        place = after_items(bytes, place, 24);
-        left -= 1;
-    }
-    place
-}
-
-// Where sections 5 and 6 end: the clusters, and their runs.
-fn after_clusters(bytes: &[u8], at: usize) -> usize
-    ensures { λ r. ⌜ Passes clusterBytes (λ x. []) (ByGlyphs OkClusters) (now (bytes .entry)) at r ⌝ }
-{
-    let runs = cluster_place(bytes, at, fields::u32_at(bytes, at));
-    after_items(bytes, runs, 6)
-}
-
-// Where sections 7 and 8 end: the action lists, and their runs.
-fn after_lists(bytes: &[u8], at: usize) -> usize
-    ensures { λ r. ⌜ Passes listBytes (λ x. []) (ByGlyphs OkLists) (now (bytes .entry)) at r ⌝ }
-{
-    let runs = list_place(bytes, at, fields::u32_at(bytes, at));
+    let runs = item_place(bytes, at, sort, fields::u32_at(bytes, at));
     after_items(bytes, runs, 6)
 }
 
@@ -141,8 +122,8 @@ pub fn side_at(bytes: &[u8], direction: Direction) -> usize
         Direction::Horizontal => 4,
         Direction::Vertical => {
             let clusters = after_machine(bytes, 4);
-            let lists = after_clusters(bytes, clusters);
-            after_lists(bytes, lists)
+            let lists = after_pool(bytes, clusters, Sort::Clusters);
+            after_pool(bytes, lists, Sort::Lists)
         }
     }
 }
@@ -158,7 +139,7 @@ pub fn clusters_at(bytes: &[u8], direction: Direction) -> usize
 pub fn lists_at(bytes: &[u8], direction: Direction) -> usize
     ensures { λ r. ⌜ Passes write (listsOn direction) Valid (now (bytes .entry)) 0 r ⌝ }
 {
-    after_clusters(bytes, clusters_at(bytes, direction))
+    after_pool(bytes, clusters_at(bytes, direction), Sort::Clusters)
 }
 
 // Of `count` runs from a position on, the value of the one that a glyph is in, with `more` added; `skip` for a glyph in

@@ -16,8 +16,8 @@ lists-at-requires c κs = search needs
 u32-at-requires : tie.Need-u32-at-requires
 u32-at-requires c κs = search needs
 
-list-place-requires : tie.Need-list-place-requires
-list-place-requires c κs = search needs
+item-place-requires : tie.Need-item-place-requires
+item-place-requires c κs = search needs
 
 value-of-requires : tie.Need-value-of-requires
 value-of-requires c κs = search needs
@@ -32,16 +32,16 @@ returns c =
     let bytes : Bytes s = λ i. omega (arith, c .before .before .before .before .before .before .shared-slice-known .given i) in
     record {
       answer = λ m v w. ap saysAction (c .no-action .ensures)
-          ∙ no-action s bytes m v w (a .direction) (c .before .before .before .before .before .lists-at .result) (c .before .before .before .before .before .lists-at .ensures) (c .before .before .before .before .u32-at .result) (c .before .before .before .list-place .result)
-          (c .before .before .before .before .u32-at .ensures .0) (c .before .before .before .list-place .ensures) (a .glyph) (c .before .before .value-of .result) (c .before .before .value-of .ensures) (a .number) (omega arith);
+          ∙ no-action s bytes m v w (a .direction) (c .before .before .before .before .before .lists-at .result) (c .before .before .before .before .before .lists-at .ensures) (c .before .before .before .before .u32-at .result) (c .before .before .before .item-place .result)
+          (c .before .before .before .before .u32-at .ensures .0) (c .before .before .before .item-place .ensures) (a .glyph) (c .before .before .value-of .result) (c .before .before .value-of .ensures) (a .number) (omega arith);
       room = nothing-room (c .no-action .result) (c .no-action .ensures);
     }
 
-sub-list-place : tie.Need-sub-list-place
-sub-list-place c = search needs
+sub-item-place : tie.Need-sub-item-place
+sub-item-place c = search needs
 
-list-place-requires-2 : tie.Need-list-place-requires-2
-list-place-requires-2 c κs = search needs
+item-place-requires-2 : tie.Need-item-place-requires-2
+item-place-requires-2 c κs = search needs
 
 action-in-requires : tie.Need-action-in-requires
 action-in-requires c κs = search needs
@@ -53,9 +53,9 @@ returns-2 c =
     let bytes : Bytes s = λ i. omega (arith, c .before .before .before .before .before .before .before .shared-slice-known .given i) in
     record {
       answer = λ m v w.
-          the-action s bytes m v w (a .direction) (c .before .before .before .before .before .before .lists-at .result) (c .before .before .before .before .before .before .lists-at .ensures) (c .before .before .before .before .before .u32-at .result) (c .before .before .before .before .list-place .result)
-          (c .before .before .before .before .before .u32-at .ensures .0) (c .before .before .before .before .list-place .ensures) (a .glyph) (c .before .before .before .value-of .result) (c .before .before .before .value-of .ensures) (a .number)
-          (c .before .before .before .value-of .result - 1) (c .before .list-place2 .result) (omega (arith, c .before .before .if1 .left)) (c .before .list-place2 .ensures) (c .action-in .result) (c .action-in .ensures);
+          the-action s bytes m v w (a .direction) (c .before .before .before .before .before .before .lists-at .result) (c .before .before .before .before .before .before .lists-at .ensures) (c .before .before .before .before .before .u32-at .result) (c .before .before .before .before .item-place .result)
+          (c .before .before .before .before .before .u32-at .ensures .0) (c .before .before .before .before .item-place .ensures) (a .glyph) (c .before .before .before .value-of .result) (c .before .before .before .value-of .ensures) (a .number)
+          (c .before .before .before .value-of .result - 1) (c .before .item-place2 .result) (omega (arith, c .before .before .if1 .left)) (c .before .item-place2 .ensures) (c .action-in .result) (c .action-in .ensures);
       room = c .action-in .ensures .room;
     }
 
@@ -65,11 +65,11 @@ action-of-spec =
     (tie.spec
     lists-at-requires
     u32-at-requires
-    list-place-requires
+    item-place-requires
     value-of-requires
     no-action-requires
     returns
-    sub-list-place
-    list-place-requires-2
+    sub-item-place
+    item-place-requires-2
     action-in-requires
     returns-2)

@@ -3,20 +3,21 @@ use Rattle.section.specs.Section.{Parses}
 use Rattle.lists.specs.Codes.{Found}
 use mathlib.Core.Path.{subst}
 use Rattle.sheet_read.proofs.SideLaws.{values-none, values-parse}
-use Rattle.sheet_clusters.specs.Clusters.{OkClusters}
+use Rattle.sorts.specs.declared.Sort.the-variants.{Clusters}
+use Rattle.sorts.specs.Items.{OkPool}
 use Rattle.meaning.specs.Sheet.{clusterBytes}
 use borrow.Author.Needs.{needs}
 use Rattle.sheet_read.proofs.read_values.Statement.{statement}
 use Rattle.sheet_read.proofs.read_values.Tie as tie
 
-read-clusters-requires : tie.Need-read-clusters-requires
-read-clusters-requires c κs = search needs
+read-pool-requires : tie.Need-read-pool-requires
+read-pool-requires c κs = search needs
 
 enum-known-found : tie.Need-enum-known-found
 enum-known-found c = search needs
 
-read-lists-requires : tie.Need-read-lists-requires
-read-lists-requires c κs = search needs
+read-pool-requires-2 : tie.Need-read-pool-requires-2
+read-pool-requires-2 c κs = search needs
 
 enum-told : tie.Need-enum-told
 enum-told c = search needs
@@ -27,23 +28,23 @@ returns c =
     let s = a .bytes .now in
     let n = a .glyphs in
     let q = c .before .before .found .given .0 .0 in
-    let f : Found clusterBytes (OkClusters n) s (a .at) q = subst (Parses clusterBytes (OkClusters n) s (a .at)) (c .before .before .found .given .1) (c .before .before .before .before .read-clusters .ensures) in
-    values-parse n (c .before .before .before .before .before .before .pre) s (a .at) q f (c .read-lists .result) (c .read-lists .ensures)
+    let f : Found clusterBytes (OkPool Clusters n) s (a .at) q = subst (Parses clusterBytes (OkPool Clusters n) s (a .at)) (c .before .before .found .given .1) (c .before .before .before .before .read-pool .ensures) in
+    values-parse n (c .before .before .before .before .before .before .pre) s (a .at) q f (c .read-pool2 .result) (c .read-pool2 .ensures)
 
 returns-2 : tie.Need-returns-2
 returns-2 c =
     let a = c .before .before .before .before .args in
     let s = a .bytes .now in
     let n = a .glyphs in
-    values-none n (c .before .before .before .before .pre) s (a .at) (subst (Parses clusterBytes (OkClusters n) s (a .at)) (c .enum-told .given .1) (c .before .before .read-clusters .ensures))
+    values-none n (c .before .before .before .before .pre) s (a .at) (subst (Parses clusterBytes (OkPool Clusters n) s (a .at)) (c .enum-told .given .1) (c .before .before .read-pool .ensures))
 
 pub read-values-spec : {M : Type 1} → statement M
 read-values-spec =
     tie.close
     (tie.spec
-    read-clusters-requires
+    read-pool-requires
     enum-known-found
-    read-lists-requires
+    read-pool-requires-2
     enum-told
     returns
     returns-2)

@@ -9,15 +9,15 @@ use Rattle.sheet_walk.proofs.lists_at.Tie as tie
 clusters-at-requires : tie.Need-clusters-at-requires
 clusters-at-requires c κs = search needs
 
-after-clusters-requires : tie.Need-after-clusters-requires
-after-clusters-requires c κs = search needs
+after-pool-requires : tie.Need-after-pool-requires
+after-pool-requires c κs = search needs
 
 returns : tie.Need-returns
 returns c =
     let a = c .before .before .before .args in
     let s = a .bytes .now in
     let bytes : Bytes s = λ i. omega (arith, c .before .before .shared-slice-known .given i) in
-    to-lists s bytes (a .direction) (c .before .clusters-at .result) (c .before .clusters-at .ensures) (c .after-clusters .result) (c .after-clusters .ensures)
+    to-lists s bytes (a .direction) (c .before .clusters-at .result) (c .before .clusters-at .ensures) (c .after-pool .result) (c .after-pool .ensures)
 
 pub lists-at-spec : {M : Type 1} → statement M
-lists-at-spec = tie.close (tie.spec clusters-at-requires after-clusters-requires returns)
+lists-at-spec = tie.close (tie.spec clusters-at-requires after-pool-requires returns)

@@ -20,11 +20,11 @@ enum-told-2 c = search needs
 after-machine-requires : tie.Need-after-machine-requires
 after-machine-requires c κs = search needs
 
-after-clusters-requires : tie.Need-after-clusters-requires
-after-clusters-requires c κs = search needs
+after-pool-requires : tie.Need-after-pool-requires
+after-pool-requires c κs = search needs
 
-after-lists-requires : tie.Need-after-lists-requires
-after-lists-requires c κs = search needs
+after-pool-requires-2 : tie.Need-after-pool-requires-2
+after-pool-requires-2 c κs = search needs
 
 returns : tie.Need-returns
 returns c =
@@ -36,9 +36,9 @@ returns-2 : tie.Need-returns-2
 returns-2 c =
     let s = c .before .before .before .before .before .before .args .bytes .now in
     let bytes : Bytes s = λ i. omega (arith, c .before .before .before .before .before .shared-slice-known .given i) in
-    subst (λ (d : Direction). Passes write (sideOn d) Valid s 0 (c .after-lists .result)) (sym (c .before .before .before .enum-told2 .given .1))
-    (vertical-passed s bytes (c .before .before .after-machine .result) (c .before .after-clusters .result) (c .after-lists .result)
-    (c .before .before .after-machine .ensures) (c .before .after-clusters .ensures) (c .after-lists .ensures))
+    subst (λ (d : Direction). Passes write (sideOn d) Valid s 0 (c .after-pool2 .result)) (sym (c .before .before .before .enum-told2 .given .1))
+    (vertical-passed s bytes (c .before .before .after-machine .result) (c .before .after-pool .result) (c .after-pool2 .result)
+    (c .before .before .after-machine .ensures) (c .before .after-pool .ensures) (c .after-pool2 .ensures))
 
 pub side-at-spec : {M : Type 1} → statement M
 side-at-spec =
@@ -47,7 +47,7 @@ side-at-spec =
     enum-told
     enum-told-2
     after-machine-requires
-    after-clusters-requires
-    after-lists-requires
+    after-pool-requires
+    after-pool-requires-2
     returns
     returns-2)
