@@ -1,14 +1,21 @@
 -- What a line's call says in C (document 01, demand 2 and "Numbers of refusal"): its answer in a struct of C layout, beside the four lent buffers.
 use Prim.Native.Nat.{ℕ}
+use mathlib.Core.Bool.{Bool}
 use mathlib.Core.List.{List}
 use lib.IntN.{ℤ, pos}
 use Rattle.fields.specs.Refusals.{numberOf}
 use Rattle.parts.specs.declared.Verdict.{Verdict}
+use Rattle.parts.specs.InC.{directionIn}
+use Rattle.lines.specs.declared.LineShape.{LineShape}
 use Rattle.line.specs.declared.LineAnswer.{LineAnswer}
 use Rattle.line.specs.declared.LineAnswer.the-variants.{Justified, Refused}
 use Rattle.line.specs.Justified.{Lent, Outcome}
 use Rattle.line.specs.Settle.{lentBy}
 use Rattle.just_line.specs.declared.JustLine.{JustLine}
+
+-- a line but for its glyphs and advances, as it is handed in
+abbrev pub shapeIn : ℕ → Bool → Bool → ℕ → ℤ → LineShape
+shapeIn direction starts ends size target = record { direction = directionIn direction; starts = starts; ends = ends; size = size; target = target }
 
 -- a refusal's number, and zeros beside it
 abbrev pub refusedIn : ℕ → JustLine

@@ -2,11 +2,11 @@
 // numbers, slices (a pointer, then a length) and structs of C layout; a refusal is its number, 0 for none; a direction
 // is 0 for horizontal, any other number for vertical. specs/LineInC.antt says what the struct holds.
 ghost use mathlib.Core.Path.{_≡_};
-ghost use Rattle.parts.specs.InC.{directionIn};
 ghost use Rattle.line.specs.Justified.{justified};
 ghost use Rattle.line.specs.Settle.{lineBy, lentBy};
-ghost use Rattle.just_line.specs.LineInC.{lineIn, calledIn, calledIs};
+ghost use Rattle.just_line.specs.LineInC.{shapeIn, lineIn, calledIn, calledIs};
 use line::LineAnswer;
+use lines::LineShape;
 use parts::Verdict;
 
 // The remainder in units, the count of entries that the class walk took, and the count of verdicts.
@@ -16,6 +16,20 @@ pub struct JustLine {
     pub remainder: i32,
     pub entries: u32,
     pub verdicts: u32,
+}
+
+// What is handed in of a line beside its glyphs and advances.
+fn shape_in(direction: u32, starts: bool, ends: bool, size: u32, target: i32) -> LineShape
+    ensures { λ r. ⌜ r ≡ shapeIn direction starts ends size target ⌝ }
+{
+    let along = parts::direction_in(direction);
+    LineShape {
+        direction: along,
+        starts,
+        ends,
+        size,
+        target,
+    }
 }
 
 fn line_out(answer: LineAnswer) -> JustLine
@@ -61,21 +75,17 @@ pub extern "C" fn just_justify<'a, 'v>(
     ensures { λ r. ⌜
         calledIs r (now (classes .exit)) (now (before .exit)) (now (after .exit)) (now (verdicts .exit))
         ≡ calledIn (justified (now (table .entry)) count
-        (lineBy (directionIn direction) starts ends size (now (glyphs .entry)) (now (advances .entry)) target)
+        (lineBy (shapeIn direction starts ends size target) (now (glyphs .entry)) (now (advances .entry)))
         (lentBy (now (classes .entry)) (now (before .entry)) (now (after .entry)) (now (verdicts .entry))))
         ⌝ }
 {
-    let along = parts::direction_in(direction);
+    let shape = shape_in(direction, starts, ends, size, target);
     let answer = records::justify(
         table,
         count,
-        along,
-        starts,
-        ends,
-        size,
+        shape,
         glyphs,
         advances,
-        target,
         classes,
         before,
         after,

@@ -1,13 +1,13 @@
 -- From the stretches of a line's call to the whole: what bars it, and what is settled.
 use Prim.Native.Nat.{ℕ, zero, suc, _≤_, _<_}
-use mathlib.Core.Path.{_≡_, refl, sym, ap, ap₂, _∙_, subst}
-use mathlib.Core.Bool.{Bool, true, false, cond, _&&_}
-use mathlib.Core.List.{List}
+use mathlib.Core.Path.{_≡_, refl, sym, ap, ap₂, _∙_}
+use mathlib.Core.Bool.{Bool, true, false, cond}
+use mathlib.Core.List.{List, [], _∷_}
 use native.Mathlib.Omega.{arith}
-use lib.Dec.{leb, eqb}
+use lib.Dec.{leb}
 use lib.IntN.{ℤ}
 use lib.ListN.{length, take, replicate}
-use borrow.Author.Tests.{le-leb, lt-leb, leb-true, eqb-true}
+use borrow.Author.Tests.{le-leb, lt-leb, leb-true}
 use Rattle.fields.specs.declared.Refusal.{Refusal}
 use Rattle.fields.specs.declared.Refusal.the-variants.{UnequalLengths, LongLine, PointSize, ShortRoom}
 use Rattle.fields.specs.declared.Fault.{Fault}
@@ -24,10 +24,10 @@ use Rattle.line.specs.declared.LineAnswer.the-variants.{Justified, Refus
 use Rattle.line.specs.declared.Settled.{Settled}
 use Rattle.line.specs.declared.Worked.{Worked}
 use Rattle.line.specs.declared.Worked.the-variants as worked
-use Rattle.line.specs.Justified.{lineFault, settled, justified}
+use Rattle.line.specs.Justified.{roomTest, workedFault, lineFault, settled, justified}
 use Rattle.line.specs.Settle.{lentBy, settlementIs, settlementIn}
 use Rattle.line.specs.Steps.{inputFault, workFault, workedBy, WorkedOut, Finished, SettledIn}
-use Rattle.line.proofs.Tests.{and-left, and-right}
+use Rattle.line.proofs.Tests.{and-right, lengths-hold}
 
 -- ---- 16
 
@@ -53,7 +53,7 @@ module _ {room verdicts : ℕ} (remainder : ℤ) (entries : ℕ) (held cs : List
 
 module _ (s : Side) (n : ℕ) (l : Line) (room : ℕ) (cs : List ℕ) (bs fs : List ℤ) where
   last : Fault
-  last = rule (leb (length (verdictsOf s l)) room) ShortRoom 0
+  last = roomTest s l room
 
   -- a fault bars the line and changes nothing
   outcome-bad : {f : Fault} (r : Refusal) (at : ℕ) → f ≡ Bad r at → (verdicts : List Verdict)
@@ -124,11 +124,6 @@ module _ (s : Side) (n : ℕ) (l : Line) (room : ℕ) (cs : List ℕ) (bs fs : L
             ∙ outcome-clear (fault ∙ rule-clear ShortRoom 0 t) (ez ∙ done .left) (done .count) counted (o .classes (done .clear)) (o .before (done .clear)) (o .after (done .clear)) verdicts
         go false t a x y w = (λ i. settlementIs (a i) (x i) (y i) (w i)) ∙ outcome-bad ShortRoom 0 (fault ∙ rule-fails ShortRoom 0 t) verdicts
 
--- the target as it was read
-pub same-target : (s : Side) (n : ℕ) (line : ℤ → Line) (room : ℕ) (cs : List ℕ) (bs fs : List ℤ) (answer : Settled) (cs′ : List ℕ) (bs′ fs′ : List ℤ) {z z′ : ℤ} → z ≡ z′
-    → SettledIn s n (line z) room cs bs fs answer cs′ bs′ fs′ → SettledIn s n (line z′) room cs bs fs answer cs′ bs′ fs′
-same-target s n line room cs bs fs answer cs′ bs′ fs′ e = subst (λ (x : ℤ). SettledIn s n (line x) room cs bs fs answer cs′ bs′ fs′) e
-
 -- ---- the whole
 
 module _ (t : List ℕ) (n : ℕ) (l : Line) (cs : List ℕ) (bs fs : List ℤ) where
@@ -136,14 +131,14 @@ module _ (t : List ℕ) (n : ℕ) (l : Line) (cs : List ℕ) (bs fs : List ℤ) 
   s = sideOf (l .direction) (meaningOf t n)
 
   abbrev input : Fault
-  input = inputFault t n (l .size) (length (l .glyphs)) (length (l .advances)) (length cs) (length bs) (length fs)
+  input = inputFault t n l (length cs ∷ length bs ∷ length fs ∷ [])
 
-  chain : (a b c d e f g h i : Fault) → (a then b then c then d then e then f then g then h then i) ≡ ((a then b then c then d) then ((e then f then g then h) then i))
-  chain a b c d e f g h i = sym (simp then-assoc)
+  chain : (a b c d e f g h i : Fault) → ((a then b then c then d then e then f then g then h) then i) ≡ ((a then b then c then d) then ((e then f then g then h) then i))
+  chain a b c d e f g h i = simp then-assoc
 
   split : (verdicts : List Verdict)
-      → lineFault t n l (lentBy cs bs fs verdicts) ≡ (input then (workFault s n l then rule (leb (length (verdictsOf s l)) (length verdicts)) ShortRoom 0))
-  unfolding lineFault inputFault workFault s
+      → lineFault t n l (lentBy cs bs fs verdicts) ≡ (input then (workFault s n l then roomTest s l (length verdicts)))
+  unfolding lineFault workedFault inputFault workFault s
   split verdicts = chain _ _ _ _ _ _ _ _ _
 
   pub whole-bad : (r : Refusal) (at : ℕ) {f : Fault} → f ≡ input → f ≡ Bad r at → (verdicts : List Verdict)
@@ -165,18 +160,15 @@ module _ (t : List ℕ) (n : ℕ) (l : Line) (cs : List ℕ) (bs fs : List ℤ) 
   pub input-clear : {f : Fault} → f ≡ input → f ≡ Clear → Input
   unfolding inputFault
   input-clear {f} e q =
-      let a : inputFault t n (l .size) (length (l .glyphs)) (length (l .advances)) (length cs) (length bs) (length fs) ≡ Clear = sym e ∙ q in
+      let a : inputFault t n l (length cs ∷ length bs ∷ length fs ∷ []) ≡ Clear = sym e ∙ q in
       let b = then-second _ _ a in
-      let same = rule-holds _ UnequalLengths 0 (then-first _ _ b) in
-      let m : ℕ = length (l .glyphs) in
-      let three = and-left (eqb (length (l .advances)) m && eqb (length cs) m && eqb (length bs) m) (eqb (length fs) m) same in
-      let two = and-left (eqb (length (l .advances)) m && eqb (length cs) m) (eqb (length bs) m) three in
+      let long = lengths-hold (length (l .glyphs)) _ _ _ _ (rule-holds _ UnequalLengths 0 (then-first _ _ b)) in
       record {
         accepted = then-first _ _ a;
         short = leb-true _ _ (rule-holds _ LongLine 0 (then-first _ _ (then-second _ _ b)));
-        classes = eqb-true _ _ (and-right (eqb (length (l .advances)) m) (eqb (length cs) m) two);
-        before = eqb-true _ _ (and-right (eqb (length (l .advances)) m && eqb (length cs) m) (eqb (length bs) m) three);
-        after = eqb-true _ _ (and-right (eqb (length (l .advances)) m && eqb (length cs) m && eqb (length bs) m) (eqb (length fs) m) same);
+        classes = long .1;
+        before = long .2;
+        after = long .3;
         small = leb-true _ _ (and-right (leb 1 (l .size)) (leb (l .size) 67108864) (rule-holds _ PointSize 0 (then-second _ _ (then-second _ _ b))));
       }
 
@@ -186,7 +178,7 @@ module _ (t : List ℕ) (n : ℕ) (l : Line) (cs : List ℕ) (bs fs : List ℤ) 
   unfolding justified s
   whole-clear {f} {room} {answer} {cs′} {bs′} {fs′} e q w verdicts h =
       w verdicts
-      ∙ ap (λ (x : ℕ). settlementIn (settled (workFault s n l then rule (leb (length (verdictsOf s l)) x) ShortRoom 0) s l (lentBy cs bs fs verdicts))) (sym h)
+      ∙ ap (λ (x : ℕ). settlementIn (settled (workFault s n l then roomTest s l x) s l (lentBy cs bs fs verdicts))) (sym h)
       ∙ ap (λ (g : Fault). settlementIn (settled g s l (lentBy cs bs fs verdicts))) (sym (split verdicts ∙ then-go _ (sym e ∙ q)))
 
 -- a local array, lent in part

@@ -12,7 +12,7 @@ use lib.Seq.{drop-cons}
 use borrow.Author.Tests.{ltb-true, eqb-true}
 use Rattle.share.proofs.Fill.{fill-again, fill-end}
 use Rattle.line_parts.specs.Parts.{Known}
-use Rattle.line.specs.Justified.{allKnown}
+use Rattle.line.specs.Justified.{allLong, allKnown}
 
 -- ---- conjunctions
 
@@ -23,6 +23,20 @@ and-left false b e = e
 pub and-right : (a b : Bool) → (a && b) ≡ true → b ≡ true
 and-right true b e = e
 and-right false b e = absurd (false≢true e)
+
+pub and-true : (a : Bool) → a ≡ (a && true)
+and-true true = refl
+and-true false = refl
+
+-- ---- lengths
+
+-- four that refusal 9 does not bar
+pub lengths-hold : (n a b c d : ℕ) → allLong n (a ∷ b ∷ c ∷ d ∷ []) ≡ true → (a ≡ n) × (b ≡ n) × (c ≡ n) × (d ≡ n)
+lengths-hold n a b c d e =
+    let q = and-right (eqb a n) (eqb b n && (eqb c n && (eqb d n && true))) e in
+    let w = and-right (eqb b n) (eqb c n && (eqb d n && true)) q in
+    let z = and-right (eqb c n) (eqb d n && true) w in
+    (eqb-true a n (and-left (eqb a n) _ e), eqb-true b n (and-left (eqb b n) _ q), eqb-true c n (and-left (eqb c n) _ w), eqb-true d n (and-left (eqb d n) true z))
 
 -- ---- one glyph more
 

@@ -34,7 +34,7 @@ use Rattle.line_parts.specs.Parts.{Known}
 use Rattle.line_parts.proofs.Walks.{walk-length}
 use Rattle.line_parts.proofs.Parts.{parts-length}
 use Rattle.line.specs.declared.LineAnswer.the-variants.{Justified, Refused}
-use Rattle.line.specs.Justified.{Lent, lineFault, settled, justified}
+use Rattle.line.specs.Justified.{Lent, lengthsOf, workedFault, lineFault, settled, justified}
 use Rattle.line.specs.Settle.{storedIn}
 use Rattle.line.proofs.Tests.{known-each}
 
@@ -122,8 +122,7 @@ module _ (t : List ℕ) (n : ℕ) (l : Line) (b : Lent) where
 
   last-clear : lineFault t n l b ≡ Clear → length (verdictsOf side l) ≤ length (b .verdicts)
   unfolding lineFault
-  last-clear e =
-      leb-true _ _ (rule-holds _ ShortRoom 0 (then-second _ _ (then-second _ _ (then-second _ _ (then-second _ _ (then-second _ _ (then-second _ _ (then-second _ _ (then-second _ _ e)))))))))
+  last-clear e = leb-true _ _ (rule-holds _ ShortRoom 0 (then-second _ _ e))
 
   -- THE VERDICTS HAVE ROOM
   pub stored-fits : storedIn (justified t n l b .answer) ≤ length (b .verdicts)
@@ -148,9 +147,14 @@ module _ (t : List ℕ) (n : ℕ) (l : Line) (b : Lent) where
   each-class (going c) e h = let z : _≡_ {A = ℕ} 0 1 = cc in absurd (omega arith)
   each-class (stopped cs k) e h = walk-length (side .machine) l cs k e
 
+  worked-clear : lineFault t n l b ≡ Clear → workedFault t n l (lengthsOf b) ≡ Clear
+  unfolding lineFault
+  worked-clear e = then-first _ _ e
+
   pub cleared : lineFault t n l b ≡ Clear → Cleared
-  unfolding lineFault beforeOf afterOf
-  cleared e =
+  unfolding workedFault beforeOf afterOf
+  cleared w =
+      let e = worked-clear w in
       let e9 = then-second _ _ e in
       let e10 = then-second _ _ e9 in
       let e11 = then-second _ _ e10 in

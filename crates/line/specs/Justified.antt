@@ -31,13 +31,18 @@ pub record Lent : Type 0 where
 
 -- ---- what bars a line
 
--- 9: glyphs, advances, classes and both sides' movements have one length; the verdicts may have another
-abbrev pub equalLengths : Line → Lent → Bool
-equalLengths l b =
-    eqb (length (l .advances)) (length (l .glyphs))
-    && eqb (length (b .classes)) (length (l .glyphs))
-    && eqb (length (b .before)) (length (l .glyphs))
-    && eqb (length (b .after)) (length (l .glyphs))
+-- these lengths are all n
+abbrev pub allLong : ℕ → List ℕ → Bool
+allLong n [] = true
+allLong n (m ∷ ms) = eqb m n && allLong n ms
+
+-- 9: the advances, and each slice that is lent with a place for every glyph, have the glyphs' number; `lengths` are those of such slices
+abbrev pub equalLengths : Line → List ℕ → Bool
+equalLengths l lengths = allLong (length (l .glyphs)) (length (l .advances) ∷ lengths)
+
+-- classes and both sides' movements are such slices; the verdicts are not
+abbrev pub lengthsOf : Lent → List ℕ
+lengthsOf b = length (b .classes) ∷ length (b .before) ∷ length (b .after) ∷ []
 
 -- 12: advances and target are 0 or more; the advances' sum, and the target, at most 1,073,741,823 units
 abbrev pub within : ℤ → Bool
@@ -55,21 +60,40 @@ abbrev pub allKnown : ℕ → List ℕ → Bool
 allKnown n [] = true
 allKnown n (g ∷ gs) = (ltb g n || eqb g 0xFFFF) && allKnown n gs
 
--- the first fault, the table's before the line's
+-- what can bar a line, in order: 9 to 11, by the lengths of what is lent
+abbrev pub inputTests : Line → List ℕ → List Fault
+inputTests l lengths =
+    rule (equalLengths l lengths) UnequalLengths 0
+    ∷ rule (leb (length (l .glyphs)) 1024) LongLine 0
+    ∷ rule (leb 1 (l .size) && leb (l .size) 67108864) PointSize 0
+    ∷ []
+
+-- 12 to 15, by the meaning of its direction
+abbrev pub workTests : Side → ℕ → Line → List Fault
+workTests s n l =
+    rule (goodAdvances l) Advances 0
+    ∷ rule (allKnown n (l .glyphs)) UnknownGlyph 0
+    ∷ rule (hasStopped (walkOf (s .machine) l)) EndlessWalk 0
+    ∷ rule (lineFits (partsFor s l)) StageTotal 0
+    ∷ []
+
+-- 16: there is room for its verdicts
+abbrev pub roomTest : Side → Line → ℕ → Fault
+roomTest s l room = rule (leb (length (verdictsOf s l)) room) ShortRoom 0
+
+-- the first fault of a list
+abbrev pub firstFault : List Fault → Fault
+firstFault [] = Clear
+firstFault (f ∷ []) = f
+firstFault (f ∷ g ∷ fs) = f then firstFault (g ∷ fs)
+
+-- the first fault up to 15, the table's before the line's: what bars a line whose verdicts are not stored
+unfoldable pub workedFault : List ℕ → ℕ → Line → List ℕ → Fault
+workedFault t n l lengths = firstFault (tableFault t n ∷ (inputTests l lengths ++ workTests (sideOf (l .direction) (meaningOf t n)) n l))
+
+-- the first fault of all
 unfoldable pub lineFault : List ℕ → ℕ → Line → Lent → Fault
-lineFault t n l b =
-    tableFault t n
-    then rule (equalLengths l b) UnequalLengths 0
-    then rule (leb (length (l .glyphs)) 1024) LongLine 0
-    then rule (leb 1 (l .size) && leb (l .size) 67108864) PointSize 0
-    then rule (goodAdvances l) Advances 0
-    then rule (allKnown n (l .glyphs)) UnknownGlyph 0
-    then rule (hasStopped (walkOf (side .machine) l)) EndlessWalk 0
-    then rule (lineFits (partsFor side l)) StageTotal 0
-    then rule (leb (length (verdictsOf side l)) (length (b .verdicts))) ShortRoom 0
-  where
-    side : Side
-    side = sideOf (l .direction) (meaningOf t n)
+lineFault t n l b = workedFault t n l (lengthsOf b) then roomTest (sideOf (l .direction) (meaningOf t n)) l (length (b .verdicts))
 
 -- ---- the outcome
 

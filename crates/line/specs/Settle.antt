@@ -1,11 +1,10 @@
 -- A line's call from its parameters, and all that it settles before the verdicts are stored (document 01, demand 2): the answer, how many verdicts there are to store,
 -- and what the lent classes and movements hold.
 use Prim.Native.Nat.{ℕ}
-use mathlib.Core.Bool.{Bool}
 use mathlib.Core.List.{List}
 use lib.IntN.{ℤ}
-use Rattle.parts.specs.declared.Direction.{Direction}
 use Rattle.parts.specs.declared.Verdict.{Verdict}
+use Rattle.lines.specs.declared.LineShape.{LineShape}
 use Rattle.lines.specs.Line.{Line}
 use Rattle.line.specs.declared.LineAnswer.{LineAnswer}
 use Rattle.line.specs.declared.LineAnswer.the-variants.{Justified, Refused}
@@ -13,9 +12,17 @@ use Rattle.line.specs.declared.Settled.{Settled}
 use Rattle.line.specs.Justified.{Lent, Outcome}
 
 -- the line and what is lent, as the call has them
-abbrev pub lineBy : Direction → Bool → Bool → ℕ → List ℕ → List ℤ → ℤ → Line
-lineBy direction starts ends size glyphs advances target =
-    record { direction = direction; starts = starts; ends = ends; size = size; glyphs = glyphs; advances = advances; target = target }
+abbrev pub lineBy : LineShape → List ℕ → List ℤ → Line
+lineBy shape glyphs advances =
+    record {
+      direction = shape .direction;
+      starts = shape .starts;
+      ends = shape .ends;
+      size = shape .size;
+      glyphs = glyphs;
+      advances = advances;
+      target = shape .target;
+    }
 
 abbrev pub lentBy : List ℕ → List ℤ → List ℤ → List Verdict → Lent
 lentBy classes before after verdicts = record { classes = classes; before = before; after = after; verdicts = verdicts }

@@ -3,20 +3,20 @@
 use Prim.Native.Nat.{ℕ}
 use mathlib.Core.Path.{_≡_}
 use mathlib.Core.Bool.{false, cond, _&&_}
-use mathlib.Core.List.{List, []}
-use lib.Dec.{leb, eqb}
+use mathlib.Core.List.{List, [], _∷_}
+use lib.Dec.{leb}
 use lib.IntN.{ℤ, natAbs}
 use lib.ListN.{length}
-use Rattle.fields.specs.declared.Refusal.the-variants.{UnequalLengths, LongLine, PointSize, Advances, UnknownGlyph, EndlessWalk, StageTotal, ShortRoom}
+use Rattle.fields.specs.declared.Refusal.the-variants.{ShortRoom}
 use Rattle.fields.specs.declared.Fault.{Fault}
 use Rattle.fields.specs.declared.Fault.the-variants.{Clear, Bad}
-use Rattle.fields.specs.Faults.{_then_, rule}
+use Rattle.fields.specs.Faults.{_then_}
 use Rattle.parts.specs.declared.Direction.the-variants.{Horizontal}
 use Rattle.parts.specs.declared.Verdict.{Verdict}
 use Rattle.meaning.specs.Meaning.{Side}
-use Rattle.share.specs.Line.{lineFits, sumℤ}
+use Rattle.share.specs.Line.{sumℤ}
 use Rattle.table.specs.Table.{tableFault}
-use Rattle.lines.specs.Line.{Line, shrinks, gapSize, walkOf, hasStopped, classesOf, entriesOf, partsFor, beforeOf, afterOf, remainderOf, verdictsOf}
+use Rattle.lines.specs.Line.{Line, shrinks, gapSize, walkOf, classesOf, entriesOf, beforeOf, afterOf, remainderOf}
 use Rattle.line.specs.declared.LineAnswer.the-variants.{Justified, Refused}
 use Rattle.line.specs.declared.Settled.{Settled}
 use Rattle.line.specs.declared.Sum.{Sum}
@@ -25,17 +25,13 @@ use Rattle.line.specs.declared.Gap.{Gap}
 use Rattle.line.specs.declared.Gap.the-variants as gap
 use Rattle.line.specs.declared.Worked.{Worked}
 use Rattle.line.specs.declared.Worked.the-variants as worked
-use Rattle.line.specs.Justified.{within, noneNegative, goodAdvances, allKnown, settled}
+use Rattle.line.specs.Justified.{within, noneNegative, goodAdvances, inputTests, workTests, roomTest, firstFault, settled}
 use Rattle.line.specs.Settle.{lentBy, settlementIs, settlementIn}
 
--- ---- the table's refusals and 9 to 11, from lengths
+-- ---- the table's refusals and 9 to 11
 
-unfoldable pub inputFault : List ℕ → ℕ → ℕ → ℕ → ℕ → ℕ → ℕ → ℕ → Fault
-inputFault t n size glyphs advances classes before after =
-    tableFault t n
-    then rule (eqb advances glyphs && eqb classes glyphs && eqb before glyphs && eqb after glyphs) UnequalLengths 0
-    then rule (leb glyphs 1024) LongLine 0
-    then rule (leb 1 size && leb size 67108864) PointSize 0
+unfoldable pub inputFault : List ℕ → ℕ → Line → List ℕ → Fault
+inputFault t n l lengths = firstFault (tableFault t n ∷ inputTests l lengths)
 
 -- ---- 12: the advances' sum, and the gap
 
@@ -53,11 +49,7 @@ gapIn l = cond (goodAdvances l) (gap.Of (shrinks l) (gapSize l)) gap.Unfit
 -- ---- 12 to 15
 
 unfoldable pub workFault : Side → ℕ → Line → Fault
-workFault s n l =
-    rule (goodAdvances l) Advances 0
-    then rule (allKnown n (l .glyphs)) UnknownGlyph 0
-    then rule (hasStopped (walkOf (s .machine) l)) EndlessWalk 0
-    then rule (lineFits (partsFor s l)) StageTotal 0
+workFault s n l = firstFault (workTests s n l)
 
 abbrev pub workedBy : Fault → Side → Line → Worked
 workedBy Clear s l = worked.Done (remainderOf s l) (entriesOf (walkOf (s .machine) l))
@@ -98,4 +90,4 @@ abbrev pub SettledIn : Side → ℕ → Line → ℕ → List ℕ → List ℤ �
 SettledIn s n l room cs bs fs answer cs′ bs′ fs′ =
     (verdicts : List Verdict)
     → settlementIs answer cs′ bs′ fs′
-    ≡ settlementIn (settled (workFault s n l then rule (leb (length (verdictsOf s l)) room) ShortRoom 0) s l (lentBy cs bs fs verdicts))
+    ≡ settlementIn (settled (workFault s n l then roomTest s l room) s l (lentBy cs bs fs verdicts))

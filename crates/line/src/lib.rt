@@ -3,7 +3,7 @@
 // lent is written before every refusal is judged.
 ghost use mathlib.Core.Path.{_≡_};
 ghost use mathlib.Core.Bool.{_&&_, _||_};
-ghost use mathlib.Core.List.{List};
+ghost use mathlib.Core.List.{List, [], _∷_};
 ghost use Prim.Native.Nat.{_≤_};
 ghost use lib.Dec.{eqb, leb, ltb};
 ghost use lib.ListN.{length};
@@ -13,13 +13,13 @@ ghost use Rattle.meaning.specs.Ask.{sideOf};
 ghost use Rattle.table.specs.Table.{tableFault};
 ghost use Rattle.table.specs.Means.{meaningOf};
 ghost use Rattle.lines.specs.Line.{verdictsFrom};
-ghost use Rattle.line.specs.Justified.{allKnown, justified};
+ghost use Rattle.line.specs.Justified.{allLong, allKnown, justified};
 ghost use Rattle.line.specs.Settle.{lineBy, lentBy, settlementIs, settlementIn};
 ghost use Rattle.line.specs.Steps.{measuredLine, sumIn, gapIn, inputFault, WorkedOut, Finished, SettledIn, Room};
 use fields::Fault;
 use fields::Refusal;
 use line_parts::Shared;
-use parts::Direction;
+use lines::LineShape;
 
 // What a line's call answers: the remainder in units, the count of entries that the class walk took, and the count
 // of verdicts; or the refusal alone.
@@ -70,7 +70,7 @@ fn equal_lengths(
     before: usize,
     after: usize,
 ) -> bool
-    ensures { λ r. ⌜ r ≡ (eqb advances glyphs && eqb classes glyphs && eqb before glyphs && eqb after glyphs) ⌝ }
+    ensures { λ r. ⌜ r ≡ allLong glyphs (advances ∷ classes ∷ before ∷ after ∷ []) ⌝ }
 {
     if advances != glyphs {
         return false;
@@ -98,20 +98,24 @@ fn good_size(size: u32) -> bool
 fn input_fault(
     table: &[u8],
     count: u32,
-    size: u32,
-    glyphs: usize,
-    advances: usize,
+    shape: LineShape,
+    glyphs: &[u16],
+    advances: &[i32],
     classes: usize,
     before: usize,
     after: usize,
 ) -> Fault
-    ensures { λ r. ⌜ r ≡ inputFault (now (table .entry)) count size glyphs advances classes before after ⌝ }
+    ensures { λ r. ⌜
+        r ≡ inputFault (now (table .entry)) count (lineBy shape (now (glyphs .entry)) (now (advances .entry)))
+        (classes ∷ before ∷ after ∷ [])
+        ⌝ }
 {
+    let n = glyphs.len();
     let table_is = table::table_fault(table, count);
-    let equal = equal_lengths(glyphs, advances, classes, before, after);
+    let equal = equal_lengths(n, advances.len(), classes, before, after);
     let lengths = fields::ruled(equal, Refusal::UnequalLengths, 0);
-    let short = fields::ruled(glyphs <= LONGEST, Refusal::LongLine, 0);
-    let sized = fields::ruled(good_size(size), Refusal::PointSize, 0);
+    let short = fields::ruled(n <= LONGEST, Refusal::LongLine, 0);
+    let sized = fields::ruled(good_size(shape.size), Refusal::PointSize, 0);
     fields::then(table_is, fields::then(lengths, fields::then(short, sized)))
 }
 
@@ -212,32 +216,28 @@ fn copy_moves(from: &[i32], to: &mut [i32])
 fn work_out(
     table: &[u8],
     count: u32,
-    direction: Direction,
-    starts: bool,
-    ends: bool,
-    size: u32,
+    shape: LineShape,
     glyphs: &[u16],
     advances: &[i32],
-    target: i32,
     held: &mut [u8],
     befores: &mut [i32],
     afters: &mut [i32],
 ) -> Worked
     requires { ⌜
         (tableFault (now table) count ≡ Clear) × (length (now glyphs) ≤ 1024)
-        × Room (length (now glyphs)) (now held) (now befores) (now afters) × (size ≤ 67108864)
+        × Room (length (now glyphs)) (now held) (now befores) (now afters) × (shape .size ≤ 67108864)
         ⌝ }
     ensures { λ r. ⌜
-        WorkedOut (sideOf direction (meaningOf (now (table .entry)) count)) count
-        (lineBy direction starts ends size (now (glyphs .entry)) (now (advances .entry)) target)
+        WorkedOut (sideOf (shape .direction) (meaningOf (now (table .entry)) count)) count
+        (lineBy shape (now (glyphs .entry)) (now (advances .entry)))
         r (now (held .exit)) (now (befores .exit)) (now (afters .exit))
         ⌝ }
 {
-    let Gap::Of { shrinks, size: gap } = gap_of(advances, target) else {
+    let Gap::Of { shrinks, size: gap } = gap_of(advances, shape.target) else {
         return Worked::Bad(Refusal::Advances);
     };
     if all_known(count, glyphs) {
-        let walked = line_parts::line_walk(table, count, direction, glyphs, starts, ends);
+        let walked = line_parts::line_walk(table, count, shape, glyphs);
         if walked.ends {
             let classes = walked.classes;
             let n = glyphs.len();
@@ -245,10 +245,9 @@ fn work_out(
             let shared = line_parts::share_glyphs(
                 table,
                 count,
-                direction,
+                shape,
                 shrinks,
                 gap,
-                size,
                 glyphs,
                 held,
                 befores,
@@ -271,8 +270,7 @@ fn work_out(
 fn finish<'a, 'b>(
     table: &'a [u8],
     count: u32,
-    direction: Direction,
-    size: u32,
+    shape: LineShape,
     glyphs: &'a [u16],
     remainder: i32,
     entries: u32,
@@ -291,7 +289,7 @@ fn finish<'a, 'b>(
         ⌝ }
     ensures { λ r. ⌜
         Finished room
-        (length (verdictsFrom (sideOf direction (meaningOf (now (table .entry)) count)) size 0
+        (length (verdictsFrom (sideOf (shape .direction) (meaningOf (now (table .entry)) count)) (shape .size) 0
         (now (glyphs .entry)) (now (held .entry)) (now (befores .entry)) (now (afters .entry))))
         remainder entries
         (now (held .entry)) (now (classes .entry)) (now (classes .exit))
@@ -303,8 +301,7 @@ fn finish<'a, 'b>(
     let verdicts = line_verdicts::count_verdicts(
         table,
         count,
-        direction,
-        size,
+        shape,
         glyphs,
         held,
         befores,
@@ -333,13 +330,9 @@ fn finish<'a, 'b>(
 fn settle_in<'a, 'b>(
     table: &'a [u8],
     count: u32,
-    direction: Direction,
-    starts: bool,
-    ends: bool,
-    size: u32,
+    shape: LineShape,
     glyphs: &'a [u16],
     advances: &'a [i32],
-    target: i32,
     room: usize,
     held: &'a mut [u8],
     befores: &'a mut [i32],
@@ -351,29 +344,16 @@ fn settle_in<'a, 'b>(
     requires { ⌜ (tableFault (now table) count ≡ Clear) × (length (now glyphs) ≤ 1024) ⌝ }
     requires { ⌜
         Room (length (now glyphs)) (now held) (now befores) (now afters)
-        × Room (length (now glyphs)) (now classes) (now before) (now after) × (size ≤ 67108864)
+        × Room (length (now glyphs)) (now classes) (now before) (now after) × (shape .size ≤ 67108864)
         ⌝ }
     ensures { λ r. ⌜
-        SettledIn (sideOf direction (meaningOf (now (table .entry)) count)) count
-        (lineBy direction starts ends size (now (glyphs .entry)) (now (advances .entry)) target) room
+        SettledIn (sideOf (shape .direction) (meaningOf (now (table .entry)) count)) count
+        (lineBy shape (now (glyphs .entry)) (now (advances .entry))) room
         (now (classes .entry)) (now (before .entry)) (now (after .entry))
         r (now (classes .exit)) (now (before .exit)) (now (after .exit))
         ⌝ }
 {
-    let worked = work_out(
-        table,
-        count,
-        direction,
-        starts,
-        ends,
-        size,
-        glyphs,
-        advances,
-        target,
-        held,
-        befores,
-        afters,
-    );
+    let worked = work_out(table, count, shape, glyphs, advances, held, befores, afters);
     match worked {
         Worked::Bad(refusal) => Settled {
             answer: LineAnswer::Refused(refusal),
@@ -382,8 +362,7 @@ fn settle_in<'a, 'b>(
         Worked::Done { remainder, entries } => finish(
             table,
             count,
-            direction,
-            size,
+            shape,
             glyphs,
             remainder,
             entries,
@@ -402,13 +381,9 @@ fn settle_in<'a, 'b>(
 pub fn settle<'a, 'b>(
     table: &'a [u8],
     count: u32,
-    direction: Direction,
-    starts: bool,
-    ends: bool,
-    size: u32,
+    shape: LineShape,
     glyphs: &'a [u16],
     advances: &'a [i32],
-    target: i32,
     room: usize,
     classes: &'b mut [u8],
     before: &'b mut [i32],
@@ -418,7 +393,7 @@ pub fn settle<'a, 'b>(
         ((verdicts : List Verdict) → length verdicts ≡ room →
         settlementIs r (now (classes .exit)) (now (before .exit)) (now (after .exit))
         ≡ settlementIn (justified (now (table .entry)) count
-        (lineBy direction starts ends size (now (glyphs .entry)) (now (advances .entry)) target)
+        (lineBy shape (now (glyphs .entry)) (now (advances .entry)))
         (lentBy (now (classes .entry)) (now (before .entry)) (now (after .entry)) verdicts)))
         ⌝ }
 {
@@ -426,9 +401,9 @@ pub fn settle<'a, 'b>(
     let fault = input_fault(
         table,
         count,
-        size,
-        n,
-        advances.len(),
+        shape,
+        glyphs,
+        advances,
         classes.len(),
         before.len(),
         after.len(),
@@ -445,13 +420,9 @@ pub fn settle<'a, 'b>(
     settle_in(
         table,
         count,
-        direction,
-        starts,
-        ends,
-        size,
+        shape,
         glyphs,
         advances,
-        target,
         room,
         &mut held[..n],
         &mut befores[..n],

@@ -23,7 +23,7 @@ use Rattle.share.specs.Share.{stages, goesBack, shares, stageMoves, stageLeft, 
 use Rattle.share.specs.Line.{lineFits, lineMoves, lineLeft}
 use Rattle.lines.specs.Line.{Line, gapOf, walkOf, partsOf, beforeOf, afterOf, remainderOf, firings, verdictsFrom, verdictsOf}
 use Rattle.lines.specs.Edges.{aimed}
-use Rattle.line.specs.Justified.{Lent, lineFault, justified}
+use Rattle.line.specs.Justified.{Lent, workedFault, lineFault, justified}
 use Rattle.line.specs.Settle.{lineBy, lentBy}
 use Rattle.line_laws.specs.Edges.{Shown, left, right}
 
@@ -37,7 +37,7 @@ onePair =
 
 -- one glyph of 100 units at 1 pt
 abbrev pub oneGlyph : Line
-oneGlyph = lineBy Horizontal true true 65536 (0 ∷ []) (pos 100 ∷ []) (pos 100)
+oneGlyph = lineBy (record { direction = Horizontal; starts = true; ends = true; size = 65536; target = pos 100 }) (0 ∷ []) (pos 100 ∷ [])
 
 abbrev pub room : Lent
 room = lentBy (7 ∷ []) (pos 7 ∷ []) (pos 7 ∷ []) []
@@ -50,7 +50,7 @@ pub record Stands (target from to : ℤ) : Type 0 where
 
 -- 40 units narrower, each side shrinks by its limit; 30 units wider, each grows by its limit
 pub columns : Stands (pos 60) (negℤ (pos 10)) (pos 60) × Stands (pos 130) (pos 10) (pos 130)
-unfolding onePair justified lineFault tableFault headerFault directionFault present offsetsFault machinePart actionPart u16At u32At inside rule _then_ walk valuesFault lookupFault formatFault placeFault glyphFault valueOf valueFrom clusterFault pairFault classAt classFault growFault shrinkFault flagsFault fixedSize widthFlags pairAt pairsAt clusterAt clusterOf machineOf listsOf sideAt directionOf meaningOf emptySide from stages goesBack shares stageMoves stageLeft movesBy leftBy lineFits lineMoves lineLeft gapOf walkOf partsOf beforeOf afterOf remainderOf verdictsFrom verdictsOf firings
+unfolding onePair justified lineFault workedFault tableFault headerFault directionFault present offsetsFault machinePart actionPart u16At u32At inside rule _then_ walk valuesFault lookupFault formatFault placeFault glyphFault valueOf valueFrom clusterFault pairFault classAt classFault growFault shrinkFault flagsFault fixedSize widthFlags pairAt pairsAt clusterAt clusterOf machineOf listsOf sideAt directionOf meaningOf emptySide from stages goesBack shares stageMoves stageLeft movesBy leftBy lineFits lineMoves lineLeft gapOf walkOf partsOf beforeOf afterOf remainderOf verdictsFrom verdictsOf firings
 columns = (
   record { shown = record { remainder = pos 0; entries = 0; verdicts = 0; answer = refl }; left-at = refl; right-at = refl },
   record { shown = record { remainder = pos 0; entries = 0; verdicts = 0; answer = refl }; left-at = refl; right-at = refl },

@@ -8,20 +8,20 @@ use lib.IntN.{ℤ}
 use Rattle.fields.specs.declared.Refusal.{Refusal}
 use Rattle.fields.specs.declared.Fault.{Fault}
 use Rattle.fields.specs.declared.Fault.the-variants.{Clear, Bad}
-use Rattle.fields.specs.Laws.{then-clear}
+use Rattle.fields.specs.Laws.{then-assoc, then-clear}
 use Rattle.meaning.specs.Ask.{sideOf}
 use Rattle.table.specs.Means.{meaningOf}
 use Rattle.table_laws.specs.Order.{First, Free}
 use Rattle.table_laws.proofs.Faults.{chain, chain-first, first-chain, chain-free, free-chain}
 use Rattle.lines.specs.Line.{Line}
 use Rattle.line.specs.declared.LineAnswer.the-variants.{Justified, Refused}
-use Rattle.line.specs.Justified.{Lent, lineFault, settled, justified}
+use Rattle.line.specs.Justified.{Lent, workedFault, lineFault, settled, justified}
 use Rattle.line_laws.specs.Bars.{sideFor, lineParts}
 
 module _ (t : List ℕ) (n : ℕ) (l : Line) (b : Lent) where
   line-chain : lineFault t n l b ≡ chain (lineParts t n l b)
-  unfolding lineFault
-  line-chain = simp then-clear
+  unfolding lineFault workedFault
+  line-chain = simp (then-assoc, then-clear)
 
   pub line-first : (r : Refusal) (at : ℕ) → (lineFault t n l b ≡ Bad r at) ↔ First (lineParts t n l b) r at
   line-first r at = (

@@ -1,43 +1,28 @@
 -- Tables that mean the same justify every line alike: of two accepted tables of one glyph count with equal sheets, every line has one outcome, whatever its direction.
 use Prim.Native.Nat.{ℕ}
 use mathlib.Core.Path.{_≡_, refl, sym, ap, ap₂, _∙_}
-use mathlib.Core.Bool.{_&&_}
-use mathlib.Core.List.{List}
-use lib.Dec.{leb}
+use mathlib.Core.List.{List, _∷_, _++_}
 use lib.ListN.{length}
 use Rattle.fields.specs.declared.Fault.{Fault}
 use Rattle.fields.specs.declared.Fault.the-variants.{Clear}
-use Rattle.fields.specs.declared.Refusal.the-variants.{UnequalLengths, LongLine, PointSize, Advances, UnknownGlyph, EndlessWalk, StageTotal, ShortRoom}
 use Rattle.fields.specs.Field.{Bytes}
-use Rattle.fields.specs.Faults.{_then_, rule}
+use Rattle.fields.specs.Faults.{_then_}
 use Rattle.meaning.specs.Meaning.{Side, Meaning}
 use Rattle.meaning.specs.Ask.{sideOf}
 use Rattle.meaning.specs.Sheet.{write}
 use Rattle.meaning.proofs.SheetLaws.{write-injective}
-use Rattle.share.specs.Line.{lineFits}
 use Rattle.table.specs.Table.{Accepted, tableFault}
 use Rattle.table.specs.Means.{meaningOf}
 use Rattle.table_laws.proofs.Valid.{valid-meaning}
-use Rattle.lines.specs.Line.{Line, walkOf, hasStopped, partsFor, verdictsOf}
-use Rattle.line.specs.Justified.{Lent, Outcome, equalLengths, goodAdvances, allKnown, lineFault, settled, justified}
+use Rattle.lines.specs.Line.{Line}
+use Rattle.line.specs.Justified.{Lent, Outcome, lengthsOf, inputTests, workTests, roomTest, firstFault, workedFault, lineFault, settled, justified}
 
 -- a line's outcome from its table's fault and the meaning of its direction
 abbrev outcomeBy : ℕ → Line → Lent → Fault → Side → Outcome
-outcomeBy n l b f s =
-    settled
-    (f
-    then rule (equalLengths l b) UnequalLengths 0
-    then rule (leb (length (l .glyphs)) 1024) LongLine 0
-    then rule (leb 1 (l .size) && leb (l .size) 67108864) PointSize 0
-    then rule (goodAdvances l) Advances 0
-    then rule (allKnown n (l .glyphs)) UnknownGlyph 0
-    then rule (hasStopped (walkOf (s .machine) l)) EndlessWalk 0
-    then rule (lineFits (partsFor s l)) StageTotal 0
-    then rule (leb (length (verdictsOf s l)) (length (b .verdicts))) ShortRoom 0)
-    s l b
+outcomeBy n l b f s = settled (firstFault (f ∷ (inputTests l (lengthsOf b) ++ workTests s n l)) then roomTest s l (length (b .verdicts))) s l b
 
 outcome-by : (t : List ℕ) (n : ℕ) (l : Line) (b : Lent) → justified t n l b ≡ outcomeBy n l b (tableFault t n) (sideOf (l .direction) (meaningOf t n))
-unfolding justified lineFault
+unfolding justified lineFault workedFault
 outcome-by t n l b = refl
 
 -- EQUAL SHEETS, EQUAL LINES

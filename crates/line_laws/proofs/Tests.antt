@@ -9,13 +9,13 @@ use native.Mathlib.Decide.{decLt}
 use lib.Dec.{leb, ltb, eqb}
 use lib.IntN.{ℤ, pos, negsuc, natAbs, _+ℤ_}
 use lib.ListN.{length, getD}
-use borrow.Author.Tests.{leb-true, le-leb, eqb-true, eq-eqb, lt-ltb, le-ltb}
+use borrow.Author.Tests.{leb-true, le-leb, eq-eqb, lt-ltb, le-ltb}
 use Rattle.share.specs.Share.{total, ofStage, stages, most}
 use Rattle.share.specs.Line.{Glyph, sideStages, sideFactors, lineFits, sumℤ}
 use Rattle.lines.specs.Line.{Line}
 use Rattle.line_parts.specs.Parts.{Known}
-use Rattle.line.specs.Justified.{Lent, equalLengths, within, noneNegative, goodAdvances, allKnown}
-use Rattle.line.proofs.Tests.{and-left, and-right, known-each}
+use Rattle.line.specs.Justified.{Lent, equalLengths, lengthsOf, within, noneNegative, goodAdvances, allKnown}
+use Rattle.line.proofs.Tests.{and-left, and-right, lengths-hold, known-each}
 use Rattle.line_laws.specs.Bars.{OneLength, Measured, stageTotal, SmallTotals}
 
 and-both : {a b : Bool} → a ≡ true → b ≡ true → (a && b) ≡ true
@@ -23,37 +23,16 @@ and-both {a} {b} p q = ap₂ (λ (x y : Bool). x && y) p q
 
 -- ---- 9
 
-pub lengths-are : (l : Line) (b : Lent) → (equalLengths l b ≡ true) ↔ OneLength l b
+pub lengths-are : (l : Line) (b : Lent) → (equalLengths l (lengthsOf b) ≡ true) ↔ OneLength l b
 lengths-are l b = (holds, tested)
   where
-    n : ℕ
-    n = length (l .glyphs)
-
-    advances : Bool
-    advances = eqb (length (l .advances)) n
-
-    classes : Bool
-    classes = eqb (length (b .classes)) n
-
-    before : Bool
-    before = eqb (length (b .before)) n
-
-    after : Bool
-    after = eqb (length (b .after)) n
-
-    holds : equalLengths l b ≡ true → OneLength l b
+    holds : equalLengths l (lengthsOf b) ≡ true → OneLength l b
     holds e =
-        let three = and-left (advances && classes && before) after e in
-        let two = and-left (advances && classes) before three in
-        record {
-          advances = eqb-true _ _ (and-left advances classes two);
-          classes = eqb-true _ _ (and-right advances classes two);
-          before = eqb-true _ _ (and-right (advances && classes) before three);
-          after = eqb-true _ _ (and-right (advances && classes && before) after e);
-        }
+        let h = lengths-hold (length (l .glyphs)) _ _ _ _ e in
+        record { advances = h .0; classes = h .1; before = h .2; after = h .3 }
 
-    tested : OneLength l b → equalLengths l b ≡ true
-    tested h = and-both (and-both (and-both (eq-eqb _ _ (h .advances)) (eq-eqb _ _ (h .classes))) (eq-eqb _ _ (h .before))) (eq-eqb _ _ (h .after))
+    tested : OneLength l b → equalLengths l (lengthsOf b) ≡ true
+    tested h = and-both (eq-eqb _ _ (h .advances)) (and-both (eq-eqb _ _ (h .classes)) (and-both (eq-eqb _ _ (h .before)) (and-both (eq-eqb _ _ (h .after)) refl)))
 
 -- ---- 11
 

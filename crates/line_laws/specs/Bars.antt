@@ -1,27 +1,23 @@
 -- What bars a line (document 01, "Numbers of refusal", 9 to 16), each in plain words, and in their order after the table's.
 use Prim.Native.Nat.{ℕ, _+_, _*_, _≤_}
 use mathlib.Core.Path.{_≡_}
-use mathlib.Core.Bool.{_&&_}
 use mathlib.Core.Option.{Option, none, some}
-use mathlib.Core.List.{List, [], _∷_, map}
-use lib.Dec.{leb}
+use mathlib.Core.List.{List, [], _∷_, _++_, map}
 use lib.IntN.{pos}
 use lib.ListN.{length, replicate}
-use Rattle.fields.specs.declared.Refusal.the-variants.{UnequalLengths, LongLine, PointSize, Advances, UnknownGlyph, EndlessWalk, StageTotal, ShortRoom}
 use Rattle.fields.specs.declared.Fault.{Fault}
-use Rattle.fields.specs.Faults.{rule}
 use Rattle.meaning.specs.Meaning.{Side, Machine}
 use Rattle.meaning.specs.Ask.{sideOf}
 use Rattle.walk.specs.Walk.{Ends, Never}
 use Rattle.walk.specs.Walk as walk
 use Rattle.walk.specs.Line.{lineOf}
 use Rattle.share.specs.Share.{total, ofStage}
-use Rattle.share.specs.Line.{Glyph, sideStages, sideFactors, lineFits}
+use Rattle.share.specs.Line.{Glyph, sideStages, sideFactors}
 use Rattle.table.specs.Table.{tableFault}
 use Rattle.table.specs.Means.{meaningOf}
-use Rattle.lines.specs.Line.{Line, walkMachine, kindOf, walkOf, hasStopped, partsFor, verdictsOf}
+use Rattle.lines.specs.Line.{Line, walkMachine, kindOf}
 use Rattle.line_parts.specs.Parts.{Known}
-use Rattle.line.specs.Justified.{Lent, equalLengths, goodAdvances, allKnown}
+use Rattle.line.specs.Justified.{Lent, lengthsOf, inputTests, workTests, roomTest}
 
 -- the direction of a line in the meaning of its table
 abbrev pub sideFor : List ℕ → ℕ → Line → Side
@@ -31,15 +27,7 @@ sideFor t n l = sideOf (l .direction) (meaningOf t n)
 abbrev pub lineParts : List ℕ → ℕ → Line → Lent → List Fault
 lineParts t n l b =
     tableFault t n
-    ∷ rule (equalLengths l b) UnequalLengths 0
-    ∷ rule (leb (length (l .glyphs)) 1024) LongLine 0
-    ∷ rule (leb 1 (l .size) && leb (l .size) 67108864) PointSize 0
-    ∷ rule (goodAdvances l) Advances 0
-    ∷ rule (allKnown n (l .glyphs)) UnknownGlyph 0
-    ∷ rule (hasStopped (walkOf (sideFor t n l .machine) l)) EndlessWalk 0
-    ∷ rule (lineFits (partsFor (sideFor t n l) l)) StageTotal 0
-    ∷ rule (leb (length (verdictsOf (sideFor t n l) l)) (length (b .verdicts))) ShortRoom 0
-    ∷ []
+    ∷ (inputTests l (lengthsOf b) ++ (workTests (sideFor t n l) n l ++ (roomTest (sideFor t n l) l (length (b .verdicts)) ∷ [])))
 
 -- ---- the tests in plain words
 

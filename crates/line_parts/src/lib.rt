@@ -17,6 +17,7 @@ ghost use Rattle.lines.specs.Line.{walkOf, recordFor, unitsOf, stageOf, partBy,
 ghost use Rattle.line_parts.specs.Parts.{Known, bareLine, Small, IsSize, PartOf, Laid, Room, SharedOut};
 use actions::Spot;
 use cluster::Sought;
+use lines::LineShape;
 use parts::Direction;
 use table_parts::Lookup;
 use units::Ems;
@@ -43,18 +44,12 @@ pub enum Shared {
 const APART: u8 = 255;
 
 // The walk of a line by the machine of a direction; with no machine, every class 0 and no entry taken.
-pub fn line_walk(
-    table: &[u8],
-    count: u32,
-    direction: Direction,
-    glyphs: &[u16],
-    starts: bool,
-    ends: bool,
-) -> Walked
+pub fn line_walk(table: &[u8], count: u32, shape: LineShape, glyphs: &[u16]) -> Walked
     requires { ⌜ (tableFault (now table) count ≡ Clear) × (length (now glyphs) ≤ 1024) ⌝ }
     requires { ⌜ Known count (now glyphs) ⌝ }
-    ensures { λ r. ⌜ r ≡ handedOut (walkOf (sideOf direction (meaningOf (now (table .entry)) count) .machine) (bareLine (now (glyphs .entry)) starts ends)) ⌝ }
+    ensures { λ r. ⌜ r ≡ handedOut (walkOf (sideOf (shape .direction) (meaningOf (now (table .entry)) count) .machine) (bareLine (now (glyphs .entry)) (shape .starts) (shape .ends))) ⌝ }
 {
+    let direction = shape.direction;
     let offset = table_parts::machine_in(table, direction);
     if offset == 0 {
         return Walked {
@@ -66,7 +61,7 @@ pub fn line_walk(
     let here = offset + 8;
     let kinds = walk::line_kinds(table, here, glyphs);
     let n = glyphs.len();
-    walk::walk_line(table, here, &kinds[..n], starts, ends)
+    walk::walk_line(table, here, &kinds[..n], shape.starts, shape.ends)
 }
 
 // The factor of a limit, which is a size.
@@ -165,9 +160,8 @@ fn record_for(
 fn lay_parts(
     table: &[u8],
     count: u32,
-    direction: Direction,
+    shape: LineShape,
     shrink: bool,
-    size: u32,
     glyphs: &[u16],
     classes: &[u8],
     marks: &mut [u8],
@@ -177,13 +171,14 @@ fn lay_parts(
 )
     requires { ⌜ (tableFault (now table) count ≡ Clear) × (length (now classes) ≡ length (now glyphs)) ⌝ }
     requires { ⌜ Room (length (now glyphs)) (now marks) (now extras) (now first) (now second) ⌝ }
-    ensures { λ r. ⌜ Laid (partsOf (sideOf direction (meaningOf (now (table .entry)) count)) shrink size (now (glyphs .entry)) (now (classes .entry))) (now (marks .exit)) (now (extras .exit)) (now (first .exit)) (now (second .exit)) ⌝ }
+    ensures { λ r. ⌜ Laid (partsOf (sideOf (shape .direction) (meaningOf (now (table .entry)) count)) shrink (shape .size) (now (glyphs .entry)) (now (classes .entry))) (now (marks .exit)) (now (extras .exit)) (now (first .exit)) (now (second .exit)) ⌝ }
 {
+    let direction = shape.direction;
     let clusters = table_parts::clusters_in(table, direction);
     let mut i = 0;
     while i < glyphs.len() {
         let sought = record_for(table, count, direction, clusters, glyphs[i], classes[i]);
-        let part = part_of(shrink, size, sought);
+        let part = part_of(shrink, shape.size, sought);
         marks[i] = part.mark;
         extras[i] = part.extra;
         first[i] = plain(part.before);
@@ -197,10 +192,9 @@ fn lay_parts(
 fn share_parts(
     table: &[u8],
     count: u32,
-    direction: Direction,
+    shape: LineShape,
     shrink: bool,
     gap: u64,
-    size: u32,
     glyphs: &[u16],
     classes: &[u8],
     marks: &mut [u8],
@@ -212,15 +206,14 @@ fn share_parts(
 ) -> Shared
     requires { ⌜ (tableFault (now table) count ≡ Clear) × (length (now classes) ≡ length (now glyphs)) ⌝ }
     requires { ⌜ Room (length (now glyphs)) (now marks) (now extras) (now first) (now second) ⌝ }
-    requires { ⌜ (length (now before) ≡ length (now glyphs)) × (length (now after) ≡ length (now glyphs)) × (length (now glyphs) ≤ 1024) × (gap ≤ 1073741823) × (size ≤ 67108864) ⌝ }
-    ensures { λ r. ⌜ SharedOut shrink gap (partsOf (sideOf direction (meaningOf (now (table .entry)) count)) shrink size (now (glyphs .entry)) (now (classes .entry))) (now (before .entry)) (now (after .entry)) r (now (before .exit)) (now (after .exit)) ⌝ }
+    requires { ⌜ (length (now before) ≡ length (now glyphs)) × (length (now after) ≡ length (now glyphs)) × (length (now glyphs) ≤ 1024) × (gap ≤ 1073741823) × (shape .size ≤ 67108864) ⌝ }
+    ensures { λ r. ⌜ SharedOut shrink gap (partsOf (sideOf (shape .direction) (meaningOf (now (table .entry)) count)) shrink (shape .size) (now (glyphs .entry)) (now (classes .entry))) (now (before .entry)) (now (after .entry)) r (now (before .exit)) (now (after .exit)) ⌝ }
 {
     lay_parts(
         table,
         count,
-        direction,
+        shape,
         shrink,
-        size,
         glyphs,
         classes,
         marks,
@@ -250,18 +243,17 @@ fn share_parts(
 fn share_short(
     table: &[u8],
     count: u32,
-    direction: Direction,
+    shape: LineShape,
     shrink: bool,
     gap: u64,
-    size: u32,
     glyphs: &[u16],
     classes: &[u8],
     before: &mut [i32],
     after: &mut [i32],
 ) -> Shared
     requires { ⌜ (tableFault (now table) count ≡ Clear) × (length (now classes) ≡ length (now glyphs)) ⌝ }
-    requires { ⌜ (length (now before) ≡ length (now glyphs)) × (length (now after) ≡ length (now glyphs)) × (length (now glyphs) ≤ 128) × (gap ≤ 1073741823) × (size ≤ 67108864) ⌝ }
-    ensures { λ r. ⌜ SharedOut shrink gap (partsOf (sideOf direction (meaningOf (now (table .entry)) count)) shrink size (now (glyphs .entry)) (now (classes .entry))) (now (before .entry)) (now (after .entry)) r (now (before .exit)) (now (after .exit)) ⌝ }
+    requires { ⌜ (length (now before) ≡ length (now glyphs)) × (length (now after) ≡ length (now glyphs)) × (length (now glyphs) ≤ 128) × (gap ≤ 1073741823) × (shape .size ≤ 67108864) ⌝ }
+    ensures { λ r. ⌜ SharedOut shrink gap (partsOf (sideOf (shape .direction) (meaningOf (now (table .entry)) count)) shrink (shape .size) (now (glyphs .entry)) (now (classes .entry))) (now (before .entry)) (now (after .entry)) r (now (before .exit)) (now (after .exit)) ⌝ }
 {
     let n = glyphs.len();
     let mut marks = [0u8; 128];
@@ -271,10 +263,9 @@ fn share_short(
     share_parts(
         table,
         count,
-        direction,
+        shape,
         shrink,
         gap,
-        size,
         glyphs,
         classes,
         &mut marks[..n],
@@ -290,18 +281,17 @@ fn share_short(
 fn share_long(
     table: &[u8],
     count: u32,
-    direction: Direction,
+    shape: LineShape,
     shrink: bool,
     gap: u64,
-    size: u32,
     glyphs: &[u16],
     classes: &[u8],
     before: &mut [i32],
     after: &mut [i32],
 ) -> Shared
     requires { ⌜ (tableFault (now table) count ≡ Clear) × (length (now classes) ≡ length (now glyphs)) ⌝ }
-    requires { ⌜ (length (now before) ≡ length (now glyphs)) × (length (now after) ≡ length (now glyphs)) × (length (now glyphs) ≤ 1024) × (gap ≤ 1073741823) × (size ≤ 67108864) ⌝ }
-    ensures { λ r. ⌜ SharedOut shrink gap (partsOf (sideOf direction (meaningOf (now (table .entry)) count)) shrink size (now (glyphs .entry)) (now (classes .entry))) (now (before .entry)) (now (after .entry)) r (now (before .exit)) (now (after .exit)) ⌝ }
+    requires { ⌜ (length (now before) ≡ length (now glyphs)) × (length (now after) ≡ length (now glyphs)) × (length (now glyphs) ≤ 1024) × (gap ≤ 1073741823) × (shape .size ≤ 67108864) ⌝ }
+    ensures { λ r. ⌜ SharedOut shrink gap (partsOf (sideOf (shape .direction) (meaningOf (now (table .entry)) count)) shrink (shape .size) (now (glyphs .entry)) (now (classes .entry))) (now (before .entry)) (now (after .entry)) r (now (before .exit)) (now (after .exit)) ⌝ }
 {
     let n = glyphs.len();
     let mut marks = [0u8; 1024];
@@ -311,10 +301,9 @@ fn share_long(
     share_parts(
         table,
         count,
-        direction,
+        shape,
         shrink,
         gap,
-        size,
         glyphs,
         classes,
         &mut marks[..n],
@@ -331,27 +320,25 @@ fn share_long(
 pub fn share_glyphs(
     table: &[u8],
     count: u32,
-    direction: Direction,
+    shape: LineShape,
     shrink: bool,
     gap: u64,
-    size: u32,
     glyphs: &[u16],
     classes: &[u8],
     before: &mut [i32],
     after: &mut [i32],
 ) -> Shared
     requires { ⌜ (tableFault (now table) count ≡ Clear) × (length (now classes) ≡ length (now glyphs)) ⌝ }
-    requires { ⌜ (length (now before) ≡ length (now glyphs)) × (length (now after) ≡ length (now glyphs)) × (length (now glyphs) ≤ 1024) × (gap ≤ 1073741823) × (size ≤ 67108864) ⌝ }
-    ensures { λ r. ⌜ SharedOut shrink gap (partsOf (sideOf direction (meaningOf (now (table .entry)) count)) shrink size (now (glyphs .entry)) (now (classes .entry))) (now (before .entry)) (now (after .entry)) r (now (before .exit)) (now (after .exit)) ⌝ }
+    requires { ⌜ (length (now before) ≡ length (now glyphs)) × (length (now after) ≡ length (now glyphs)) × (length (now glyphs) ≤ 1024) × (gap ≤ 1073741823) × (shape .size ≤ 67108864) ⌝ }
+    ensures { λ r. ⌜ SharedOut shrink gap (partsOf (sideOf (shape .direction) (meaningOf (now (table .entry)) count)) shrink (shape .size) (now (glyphs .entry)) (now (classes .entry))) (now (before .entry)) (now (after .entry)) r (now (before .exit)) (now (after .exit)) ⌝ }
 {
     if glyphs.len() <= 128 {
         return share_short(
             table,
             count,
-            direction,
+            shape,
             shrink,
             gap,
-            size,
             glyphs,
             classes,
             before,
@@ -361,10 +348,9 @@ pub fn share_glyphs(
     share_long(
         table,
         count,
-        direction,
+        shape,
         shrink,
         gap,
-        size,
         glyphs,
         classes,
         before,

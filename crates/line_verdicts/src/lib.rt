@@ -15,6 +15,7 @@ ghost use Rattle.table_parts.specs.Places.{listsIn, Readable};
 ghost use Rattle.lines.specs.Line.{firings, verdictsFrom};
 ghost use Rattle.line_verdicts.specs.Cursor.{moved, stepOf, nothingAt, judgedAt, firesCount, handCursor, listLeft, Serves, Begins, InList, Here, InLine, Ready};
 use actions::Spot;
+use lines::LineShape;
 use parts::Direction;
 use parts::Verdict;
 use table_parts::Lookup;
@@ -206,18 +207,18 @@ fn begin(
 pub fn next_verdict<'a>(
     table: &'a [u8],
     count: u32,
-    direction: Direction,
-    size: u32,
+    shape: LineShape,
     glyphs: &'a [u16],
     classes: &'a [u8],
     before: &'a [i32],
     after: &'a [i32],
     cursor: Cursor,
 ) -> Step
-    requires { ⌜ Ready (now table) count (moved size (now classes) (now before) (now after)) (now glyphs) × Serves (now table) (length (now glyphs)) cursor ⌝ }
-    ensures { λ r. ⌜ InLine (now (table .entry)) (sideOf direction (meaningOf (now (table .entry)) count)) (moved size (now (classes .entry)) (now (before .entry)) (now (after .entry))) (now (glyphs .entry)) (length (now (glyphs .entry))) cursor r ⌝ }
+    requires { ⌜ Ready (now table) count (moved (shape .size) (now classes) (now before) (now after)) (now glyphs) × Serves (now table) (length (now glyphs)) cursor ⌝ }
+    ensures { λ r. ⌜ InLine (now (table .entry)) (sideOf (shape .direction) (meaningOf (now (table .entry)) count)) (moved (shape .size) (now (classes .entry)) (now (before .entry)) (now (after .entry))) (now (glyphs .entry)) (length (now (glyphs .entry))) cursor r ⌝ }
 {
-    let here = next_here(table, size, classes, before, after, cursor);
+    let direction = shape.direction;
+    let here = next_here(table, shape.size, classes, before, after, cursor);
     if here.found {
         return here;
     }
@@ -225,7 +226,7 @@ pub fn next_verdict<'a>(
     let mut next = cursor.next;
     while next < glyphs.len() {
         let begun = begin(table, count, direction, lists, glyphs[next], next);
-        let step = next_here(table, size, classes, before, after, begun);
+        let step = next_here(table, shape.size, classes, before, after, begun);
         if step.found {
             return step;
         }
@@ -306,16 +307,16 @@ fn count_glyph(
 pub fn count_verdicts<'a>(
     table: &'a [u8],
     count: u32,
-    direction: Direction,
-    size: u32,
+    shape: LineShape,
     glyphs: &'a [u16],
     classes: &'a [u8],
     before: &'a [i32],
     after: &'a [i32],
 ) -> usize
-    requires { ⌜ Ready (now table) count (moved size (now classes) (now before) (now after)) (now glyphs) ⌝ }
-    ensures { λ r. ⌜ r ≡ length (verdictsFrom (sideOf direction (meaningOf (now (table .entry)) count)) size 0 (now (glyphs .entry)) (now (classes .entry)) (now (before .entry)) (now (after .entry))) ⌝ }
+    requires { ⌜ Ready (now table) count (moved (shape .size) (now classes) (now before) (now after)) (now glyphs) ⌝ }
+    ensures { λ r. ⌜ r ≡ length (verdictsFrom (sideOf (shape .direction) (meaningOf (now (table .entry)) count)) (shape .size) 0 (now (glyphs .entry)) (now (classes .entry)) (now (before .entry)) (now (after .entry))) ⌝ }
 {
+    let direction = shape.direction;
     let lists = table_parts::lists_in(table, direction);
     let mut total: usize = 0;
     let mut place: usize = 0;
@@ -329,7 +330,7 @@ pub fn count_verdicts<'a>(
             glyphs[place],
             classes[place],
             growth,
-            size,
+            shape.size,
         );
         place += 1;
     }

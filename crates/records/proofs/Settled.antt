@@ -1,14 +1,13 @@
 -- What a line's call settles, before its verdicts are stored, lets them be stored, and with them gives the call's outcome.
 use Prim.Native.Nat.{ℕ, _≤_}
 use mathlib.Core.Path.{_≡_, refl, ap, _∙_}
-use mathlib.Core.Bool.{Bool, true, false, _&&_}
+use mathlib.Core.Bool.{true}
 use mathlib.Core.List.{List, _++_}
 use native.Mathlib.Omega.{arith}
 use lib.IntN.{ℤ}
 use lib.ListN.{length, drop}
 use lib.Seq.{take-all}
-use lib.Dec.{eqb}
-use borrow.Author.Tests.{leb-true, eqb-true}
+use borrow.Author.Tests.{leb-true}
 use Rattle.fields.specs.declared.Fault.{Fault}
 use Rattle.fields.specs.declared.Fault.the-variants.{Clear, Bad}
 use Rattle.fields.specs.declared.Refusal.the-variants.{UnequalLengths, LongLine, ShortRoom}
@@ -20,22 +19,12 @@ use Rattle.table.specs.Table.{tableFault}
 use Rattle.table.specs.Means.{meaningOf}
 use Rattle.lines.specs.Line.{Line, walkOf, classesOf, beforeOf, afterOf, verdictsFrom, verdictsOf}
 use Rattle.line.specs.declared.Settled.{Settled}
-use Rattle.line.specs.Justified.{Outcome, Lent, equalLengths, lineFault, settled, justified}
+use Rattle.line.specs.Justified.{Outcome, Lent, lengthsOf, equalLengths, workedFault, lineFault, settled, justified}
 use Rattle.line.specs.Settle.{lentBy, Settlement, settlementIs, settlementIn}
+use Rattle.line.proofs.Tests.{lengths-hold}
 use Rattle.line_verdicts.specs.Cursor.{Fits, moved}
 use Rattle.records.specs.Stored.{lineVerdicts, filledWith, Storable}
 use Rattle.records.specs.Outcome.{outcomeIs}
-
-and-first : (a b : Bool) → a && b ≡ true → a ≡ true
-and-first true b e = refl
-and-first false b e = e
-
-and-second : (a b : Bool) → a && b ≡ true → b ≡ true
-and-second true b e = e
-and-second false b e = absurd (never e)
-  where
-    never : _≡_ {A = Bool} false true → ⊥
-    never z = let q : _≡_ {A = ℕ} 0 1 = cc in omega arith
 
 -- all of them are stored
 pub stored-all : (vs ys : List Verdict) → filledWith vs (length vs) ys ≡ vs ++ drop (length vs) ys
@@ -59,35 +48,31 @@ module _ (t : List ℕ) (n : ℕ) (l : Line) (cs : List ℕ) (bs fs : List ℤ) 
   same-verdicts cs′ bs′ fs′ e f g = λ i. verdictsFrom s (l .size) 0 (l .glyphs) (e i) (f i) (g i)
 
   module _ (clear : lineFault t n l b ≡ Clear) where
-    accepted : tableFault t n ≡ Clear
+    worked : workedFault t n l (lengthsOf b) ≡ Clear
     unfolding lineFault
-    accepted = then-first _ _ clear
-
-    rest-equal : equalLengths l b ≡ true
-    unfolding lineFault
-    rest-equal = rule-holds _ UnequalLengths 0 (then-first _ _ (then-second _ _ clear))
+    worked = then-first _ _ clear
 
     has-room : length (verdictsOf s l) ≤ length ys
     unfolding lineFault
-    has-room = leb-true _ _ (rule-holds _ ShortRoom 0
-        (then-second _ _ (then-second _ _ (then-second _ _ (then-second _ _ (then-second _ _ (then-second _ _ (then-second _ _ (then-second _ _ clear)))))))))
+    has-room = leb-true _ _ (rule-holds _ ShortRoom 0 (then-second _ _ clear))
+
+    accepted : tableFault t n ≡ Clear
+    unfolding workedFault
+    accepted = then-first _ _ worked
+
+    rest-equal : equalLengths l (lengthsOf b) ≡ true
+    unfolding workedFault
+    rest-equal = rule-holds _ UnequalLengths 0 (then-first _ _ (then-second _ _ worked))
 
     few : length (l .glyphs) ≤ 1024
-    unfolding lineFault
-    few = leb-true _ _ (rule-holds _ LongLine 0 (then-first _ _ (then-second _ _ (then-second _ _ clear))))
+    unfolding workedFault
+    few = leb-true _ _ (rule-holds _ LongLine 0 (then-first _ _ (then-second _ _ (then-second _ _ worked))))
 
     lengths : (cs′ : List ℕ) (bs′ fs′ : List ℤ) → length cs′ ≡ length cs → length bs′ ≡ length bs → length fs′ ≡ length fs
         → Fits (moved (l .size) cs′ bs′ fs′) (l .glyphs)
     lengths cs′ bs′ fs′ lc lb lf =
-        let u : ℕ = length (l .glyphs) in
-        let w3 = and-first (eqb (length (l .advances)) u && eqb (length cs) u && eqb (length bs) u) (eqb (length fs) u) rest-equal in
-        let w2 = and-first (eqb (length (l .advances)) u && eqb (length cs) u) (eqb (length bs) u) w3 in
-        record {
-          few = few;
-          classes = lc ∙ eqb-true _ _ (and-second (eqb (length (l .advances)) u) (eqb (length cs) u) w2);
-          before = lb ∙ eqb-true _ _ (and-second (eqb (length (l .advances)) u && eqb (length cs) u) (eqb (length bs) u) w3);
-          after = lf ∙ eqb-true _ _ (and-second (eqb (length (l .advances)) u && eqb (length cs) u && eqb (length bs) u) (eqb (length fs) u) rest-equal);
-        }
+        let h = lengths-hold (length (l .glyphs)) _ _ _ _ rest-equal in
+        record { few = few; classes = lc ∙ h .1; before = lb ∙ h .2; after = lf ∙ h .3 }
 
   module _ (r : Settled) (cs′ : List ℕ) (bs′ fs′ : List ℤ) where
     module _ (o : Outcome) (e : settlementIs r cs′ bs′ fs′ ≡ settlementIn o) where

@@ -9,7 +9,7 @@ ghost use Rattle.records.specs.Outcome.{outcomeIs};
 ghost use Rattle.records.specs.Stored.{lineVerdicts, filledWith, Storable};
 use line::LineAnswer;
 use line_verdicts::Cursor;
-use parts::Direction;
+use lines::LineShape;
 use parts::Verdict;
 
 // The one place where a record is stored.
@@ -25,8 +25,7 @@ fn fill<'v, 'a>(
     list: &'v mut [Verdict],
     table: &'a [u8],
     count: u32,
-    direction: Direction,
-    size: u32,
+    shape: LineShape,
     glyphs: &'a [u16],
     classes: &'a [u8],
     before: &'a [i32],
@@ -34,13 +33,13 @@ fn fill<'v, 'a>(
     n: usize,
 )
     requires { ⌜
-        Storable (now table) count direction size (now glyphs) (now classes) (now before) (now after)
+        Storable (now table) count (shape .direction) (shape .size) (now glyphs) (now classes) (now before) (now after)
         n (length (now list))
         ⌝ }
     ensures { λ _. ⌜
         now (list .exit)
         ≡ filledWith
-        (lineVerdicts (now (table .entry)) count direction size (now (glyphs .entry))
+        (lineVerdicts (now (table .entry)) count (shape .direction) (shape .size) (now (glyphs .entry))
         (now (classes .entry)) (now (before .entry)) (now (after .entry)))
         n (now (list .entry))
         ⌝ }
@@ -56,8 +55,7 @@ fn fill<'v, 'a>(
         let step = line_verdicts::next_verdict(
             table,
             count,
-            direction,
-            size,
+            shape,
             glyphs,
             classes,
             before,
@@ -74,13 +72,9 @@ fn fill<'v, 'a>(
 pub fn justify<'a, 'v>(
     table: &'a [u8],
     count: u32,
-    direction: Direction,
-    starts: bool,
-    ends: bool,
-    size: u32,
+    shape: LineShape,
     glyphs: &'a [u16],
     advances: &'a [i32],
-    target: i32,
     classes: &'a mut [u8],
     before: &'a mut [i32],
     after: &'a mut [i32],
@@ -89,7 +83,7 @@ pub fn justify<'a, 'v>(
     ensures { λ r. ⌜
         outcomeIs r (now (classes .exit)) (now (before .exit)) (now (after .exit)) (now (verdicts .exit))
         ≡ justified (now (table .entry)) count
-        (lineBy direction starts ends size (now (glyphs .entry)) (now (advances .entry)) target)
+        (lineBy shape (now (glyphs .entry)) (now (advances .entry)))
         (lentBy (now (classes .entry)) (now (before .entry)) (now (after .entry)) (now (verdicts .entry)))
         ⌝ }
 {
@@ -97,13 +91,9 @@ pub fn justify<'a, 'v>(
     let settled = line::settle(
         table,
         count,
-        direction,
-        starts,
-        ends,
-        size,
+        shape,
         glyphs,
         advances,
-        target,
         room,
         classes,
         before,
@@ -114,8 +104,7 @@ pub fn justify<'a, 'v>(
         verdicts,
         table,
         count,
-        direction,
-        size,
+        shape,
         glyphs,
         classes,
         before,

@@ -43,7 +43,7 @@ unfolding oneEntry u16At meaningOf directionOf emptySide
 empty-line = (
   oneEntry,
   1,
-  lineBy Vertical true true twelve [] [] (pos 4),
+  lineBy (record { direction = Vertical; starts = true; ends = true; size = twelve; target = pos 4 }) [] [],
   lentBy [] [] [] [],
   record { accepted = accepted; lengths = refl; size-low = omega arith; size-high = omega arith; advances = refl; known = refl },
   record { no-glyph = refl; no-machine = refl; has-target = refl },
@@ -55,7 +55,7 @@ unfolding oneEntry u16At meaningOf directionOf sideAt machineOf machineAt inside
 stuck-line = (
   oneEntry,
   1,
-  lineBy Horizontal false true twelve (0 ∷ []) (pos 0 ∷ []) (pos 4),
+  lineBy (record { direction = Horizontal; starts = false; ends = true; size = twelve; target = pos 4 }) (0 ∷ []) (pos 0 ∷ []),
   lentBy (0 ∷ []) (pos 0 ∷ []) (pos 0 ∷ []) [],
   record { accepted = accepted; lengths = refl; size-low = omega arith; size-high = omega arith; advances = refl; known = refl },
   record { glyph = 0; machine = _; one-glyph = refl; not-first = refl; has-machine = refl; entry-stays = refl; leads-back = refl },

@@ -1,14 +1,14 @@
 -- Document 01, "Sample lines and tables": ALL STARRED LINES HOLD. Assumes nothing.
 use Prim.Native.Nat.{ℕ}
 use mathlib.Core.Path.{_≡_, refl, sym, ap, ap₂, _∙_}
-use mathlib.Core.Bool.{Bool, true, false, _&&_, false≢true}
+use mathlib.Core.Bool.{Bool, true, false, _&&_}
 use mathlib.Core.Option.{Option, none}
 use mathlib.Core.List.{List, [], _∷_, map}
 use native.Mathlib.Omega.{arith}
-use lib.Dec.{leb, eqb}
+use lib.Dec.{leb}
 use lib.IntN.{ℤ, pos}
 use lib.ListN.{length}
-use borrow.Author.Tests.{le-leb, eqb-true, eq-eqb}
+use borrow.Author.Tests.{le-leb, eq-eqb}
 use Rattle.fields.specs.declared.Refusal.the-variants.{EndlessWalk, StageTotal, ShortRoom}
 use Rattle.fields.specs.declared.Fault.{Fault}
 use Rattle.fields.specs.declared.Fault.the-variants.{Clear, Bad}
@@ -29,8 +29,9 @@ use Rattle.share.specs.Line.{lineMoves, lineLeft, lineFits}
 use Rattle.verdict.specs.Verdict.{breaks, kindFires, firesOf}
 use Rattle.table.specs.Table.{Accepted}
 use Rattle.lines.specs.Line.{Line, gapOf, walkMachine, kindOf, walkOf, hasStopped, classesOf, entriesOf, partsOf, partsFor, beforeOf, afterOf, remainderOf, verdictsFrom, verdictsOf}
-use Rattle.line.specs.Justified.{Lent, settled, lineFault, justified}
+use Rattle.line.specs.Justified.{Lent, settled, roomTest, workedFault, lineFault, justified}
 use Rattle.line.specs.Settle.{lineBy, lentBy}
+use Rattle.line.proofs.Tests.{lengths-hold}
 use Rattle.line.specs.declared.LineAnswer.the-variants.{Justified, Refused}
 use Rattle.samples.specs.Samples.{Proper, Empty, Stuck, sideFor, cases, Holds}
 use Rattle.samples.proofs.Lines.{empty-line, stuck-line}
@@ -40,30 +41,30 @@ use Rattle.samples.proofs.Lines.{empty-line, stuck-line}
 -- 14 to 16
 abbrev last : Side → Line → Lent → Fault
 last s l b =
-    rule (hasStopped (walkOf (s .machine) l)) EndlessWalk 0
-    then rule (lineFits (partsFor s l)) StageTotal 0
-    then rule (leb (length (verdictsOf s l)) (length (b .verdicts))) ShortRoom 0
+    (rule (hasStopped (walkOf (s .machine) l)) EndlessWalk 0 then rule (lineFits (partsFor s l)) StageTotal 0)
+    then roomTest s l (length (b .verdicts))
 
 module _ (t : List ℕ) (n : ℕ) (l : Line) (b : Lent) (p : Proper t n l b) where
   sized : (leb 1 (l .size) && leb (l .size) 67108864) ≡ true
   sized = ap₂ _&&_ (le-leb 1 (l .size) (p .size-low)) (le-leb (l .size) 67108864 (p .size-high))
 
   left-to-bar : leb (length (l .glyphs)) 1024 ≡ true → lineFault t n l b ≡ last (sideFor t n l) l b
-  unfolding lineFault Accepted
+  unfolding lineFault workedFault Accepted
   left-to-bar short =
-      then-go _ (p .accepted)
+      ap (λ (f : Fault). f then roomTest (sideFor t n l) l (length (b .verdicts)))
+      (then-go _ (p .accepted)
       ∙ then-go _ (rule-clear _ 0 (p .lengths))
       ∙ then-go _ (rule-clear _ 0 short)
       ∙ then-go _ (rule-clear _ 0 sized)
       ∙ then-go _ (rule-clear _ 0 (p .advances))
-      ∙ then-go _ (rule-clear _ 0 (p .known))
+      ∙ then-go _ (rule-clear _ 0 (p .known)))
 
 -- ---- the empty line
 
 -- what is worked out of a line without a glyph, where its direction has no machine
 module _ (direction : Direction) (starts ends : Bool) (size : ℕ) (s : Side) (no-machine : s .machine ≡ none) (verdicts : List Verdict) where
   abbrev bare : Line
-  bare = lineBy direction starts ends size [] [] (pos 4)
+  bare = lineBy (record { direction = direction; starts = starts; ends = ends; size = size; target = pos 4 }) [] []
 
   abbrev room : Lent
   room = lentBy [] [] [] verdicts
@@ -75,8 +76,7 @@ module _ (direction : Direction) (starts ends : Bool) (size : ℕ) (s : Side) (n
   bare-clear : last s bare room ≡ Clear
   unfolding partsOf lineFits stages verdictsOf verdictsFrom
   bare-clear =
-      then-go _ (rule-clear EndlessWalk 0 (ap hasStopped bare-walk))
-      ∙ then-go _ (rule-clear StageTotal 0 refl)
+      then-go _ (then-go _ (rule-clear EndlessWalk 0 (ap hasStopped bare-walk)) ∙ rule-clear StageTotal 0 refl)
       ∙ rule-clear ShortRoom 0 (le-leb 0 (length verdicts) (omega arith))
 
   bare-settled : settled Clear s bare room ≡ record { answer = Justified (pos 4) 0 0; lent = room }
@@ -88,31 +88,29 @@ module _ (direction : Direction) (starts ends : Bool) (size : ℕ) (s : Side) (n
       })
       bare-walk
 
-each-true : (a b c d : Bool) → (a && b && c && d) ≡ true → (a ≡ true) × (b ≡ true) × (c ≡ true) × (d ≡ true)
-each-true true true true d e = (refl, refl, refl, e)
-each-true false b c d e = absurd (false≢true e)
-each-true true false c d e = absurd (false≢true e)
-each-true true true false d e = absurd (false≢true e)
-
 none-long : {A : Type 0} (xs : List A) → length xs ≡ 0 → xs ≡ []
 none-long [] e = refl
 none-long (x ∷ xs) e = absurd (omega arith)
 
 module _ (t : List ℕ) (n : ℕ) (l : Line) (b : Lent) (p : Proper t n l b) (e : Empty (pos 4) t n l) where
   -- a list as long as the line's glyphs
-  none-as-long : {A : Type 0} (xs : List A) → eqb (length xs) (length (l .glyphs)) ≡ true → xs ≡ []
-  none-as-long xs h = none-long xs (eqb-true (length xs) (length (l .glyphs)) h ∙ ap (λ (gs : List ℕ). length gs) (e .no-glyph))
+  none-as-long : {A : Type 0} (xs : List A) → length xs ≡ length (l .glyphs) → xs ≡ []
+  none-as-long xs h = none-long xs (h ∙ ap (λ (gs : List ℕ). length gs) (e .no-glyph))
 
-  long : (eqb (length (l .advances)) (length (l .glyphs)) ≡ true)
-      × (eqb (length (b .classes)) (length (l .glyphs)) ≡ true)
-      × (eqb (length (b .before)) (length (l .glyphs)) ≡ true)
-      × (eqb (length (b .after)) (length (l .glyphs)) ≡ true)
-  long = each-true _ _ _ _ (p .lengths)
+  long : (length (l .advances) ≡ length (l .glyphs))
+      × (length (b .classes) ≡ length (l .glyphs))
+      × (length (b .before) ≡ length (l .glyphs))
+      × (length (b .after) ≡ length (l .glyphs))
+  long = lengths-hold (length (l .glyphs)) _ _ _ _ (p .lengths)
+
+  -- the line with other glyphs, advances and target
+  abbrev with : List ℕ → List ℤ → ℤ → Line
+  with gs xs z = lineBy (record { direction = l .direction; starts = l .starts; ends = l .ends; size = l .size; target = z }) gs xs
 
   line-is : l ≡ bare (l .direction) (l .starts) (l .ends) (l .size) (sideFor t n l) (e .no-machine) (b .verdicts)
   line-is =
-      ap₂ (λ (gs : List ℕ) (xs : List ℤ). lineBy (l .direction) (l .starts) (l .ends) (l .size) gs xs (l .target)) (e .no-glyph) (none-as-long (l .advances) (long .0))
-      ∙ ap (λ (z : ℤ). lineBy (l .direction) (l .starts) (l .ends) (l .size) [] [] z) (e .has-target)
+      ap₂ (λ (gs : List ℕ) (xs : List ℤ). with gs xs (l .target)) (e .no-glyph) (none-as-long (l .advances) (long .0))
+      ∙ ap (with [] []) (e .has-target)
 
   lent-is : b ≡ lentBy [] [] [] (b .verdicts)
   lent-is =
@@ -155,7 +153,7 @@ module _ (t : List ℕ) (n : ℕ) (l : Line) (b : Lent) (p : Proper t n l b) (e 
   stuck-holds =
       let short : leb (length (l .glyphs)) 1024 ≡ true = ap (λ (gs : List ℕ). leb (length gs) 1024) (e .one-glyph) in
       let barred : rule (hasStopped (walkOf (sideFor t n l .machine) l)) EndlessWalk 0 ≡ Bad EndlessWalk 0 = rule-fails EndlessWalk 0 not-walked in
-      let fault : lineFault t n l b ≡ Bad EndlessWalk 0 = left-to-bar t n l b p short ∙ then-stop _ barred ∙ barred in
+      let fault : lineFault t n l b ≡ Bad EndlessWalk 0 = left-to-bar t n l b p short ∙ then-stop _ (then-stop _ barred ∙ barred) ∙ then-stop _ barred ∙ barred in
       ap (λ (f : Fault). settled f (sideFor t n l) l b) fault
 
 -- ---- a ligature

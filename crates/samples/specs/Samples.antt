@@ -22,7 +22,7 @@ use Rattle.table.specs.Means.{meaningOf}
 use Rattle.lines.specs.Line.{Line, walkMachine, kindOf, unitsOf}
 use Rattle.line.specs.declared.LineAnswer.{LineAnswer}
 use Rattle.line.specs.declared.LineAnswer.the-variants.{Justified, Refused}
-use Rattle.line.specs.Justified.{Lent, equalLengths, goodAdvances, allKnown, justified}
+use Rattle.line.specs.Justified.{Lent, lengthsOf, equalLengths, goodAdvances, allKnown, justified}
 
 -- ---- a case and what is expected of it
 
@@ -148,7 +148,7 @@ Shaped stuck = Stuck
 -- what else a line of at most 1,024 glyphs needs to be walked: refusals 1 to 13 do not bar it
 pub record Proper (t : List ℕ) (n : ℕ) (l : Line) (b : Lent) : Type 0 where
   pub accepted : Accepted t n
-  pub lengths : equalLengths l b ≡ true
+  pub lengths : equalLengths l (lengthsOf b) ≡ true
   pub size-low : 1 ≤ l .size
   pub size-high : l .size ≤ 67108864
   pub advances : goodAdvances l ≡ true

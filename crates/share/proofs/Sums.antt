@@ -1,27 +1,18 @@
 -- The totals of the stages: what the loop over the glyphs keeps of each, and what the totals that it finds say of a line.
 use mathlib.Core.Path.{_≡_, refl, sym, ap, _∙_, subst}
-use mathlib.Core.List.{List, [], _∷_}
+use mathlib.Core.List.{List}
 use mathlib.Core.Bool.{Bool, true, false}
 use Prim.Native.Nat.{ℕ, zero, suc, _+_, _*_, _≤_, _<_}
 use native.Mathlib.Omega.{arith}
 use native.Mathlib.Decide.{ℕ-discrete, decLt}
-use lib.Dec.{leb}
-use lib.ListN.{length, drop, getD, set, length-set}
+use lib.ListN.{length, drop, replicate, getD, set, length-set}
 use lib.Seq.{getD-set-same, getD-set-other}
-use borrow.Author.Tests.{le-leb, lt-leb}
 use Rattle.share.specs.Share.{total, most, stages, within}
 use Rattle.share.specs.Carry.{widest}
 use Rattle.share.specs.Inner.{weave, factorsAt, stageCount, totalAt, TotalsOf, Fit}
 use Rattle.share.specs.declared.Totals.{Totals}
 use Rattle.share.proofs.Sides.{rest, rest-hit, rest-miss, rest-end}
-use Rattle.share.proofs.Lines.{within-on, within-over, within-end, fit-low}
-
--- a stage past the first three is the last one
-pub total-three : (ts : Totals) (s : ℕ) → s < stageCount → (s ≡ 0 → ⊥) → (s ≡ 1 → ⊥) → (s ≡ 2 → ⊥) → ts .three ≡ totalAt ts s
-total-three ts zero h a b d = absurd (a refl)
-total-three ts (suc zero) h a b d = absurd (b refl)
-total-three ts (suc (suc zero)) h a b d = absurd (d refl)
-total-three ts (suc (suc (suc s))) h a b d = refl
+use Rattle.share.proofs.Lines.{within-on, within-over, fit-low}
 
 -- ---- the loop
 
@@ -55,15 +46,13 @@ pub record Sums (ks bs cs : List ℕ) (i : ℕ) (xs : List ℕ) : Type 0 where
   pub at : (s : ℕ) → s < stageCount → Summing s ks bs cs i (getD xs s 0)
 
 module _ (ks bs cs : List ℕ) where
-  pub sums-start : Sums ks bs cs 0 (0 ∷ 0 ∷ 0 ∷ 0 ∷ [])
-  sums-start = record { each = refl; at = go }
+  pub sums-start : Sums ks bs cs 0 (replicate {A = ℕ} stageCount 0)
+  sums-start = record { each = refl; at = λ s h. subst (Summing s ks bs cs 0) (sym (none-at stageCount s)) (summing-start s ks bs cs) }
     where
-      go : (s : ℕ) → s < stageCount → Summing s ks bs cs 0 (getD (0 ∷ 0 ∷ 0 ∷ 0 ∷ []) s 0)
-      go zero h = summing-start 0 ks bs cs
-      go (suc zero) h = summing-start 1 ks bs cs
-      go (suc (suc zero)) h = summing-start 2 ks bs cs
-      go (suc (suc (suc zero))) h = summing-start 3 ks bs cs
-      go (suc (suc (suc (suc s)))) h = absurd (omega arith)
+      none-at : (n s : ℕ) → getD (replicate {A = ℕ} n 0) s 0 ≡ 0
+      none-at zero s = refl
+      none-at (suc n) zero = refl
+      none-at (suc n) (suc s) = none-at n s
 
   module _ {i : ℕ} {xs : List ℕ} (g : Sums ks bs cs i xs) (hk : i < length ks) (hb : i < length bs) (hc : i < length cs) where
     pub sums-on : getD ks i 0 < stageCount → getD bs i 0 ≤ widest → getD cs i 0 ≤ widest
@@ -89,21 +78,13 @@ module _ (ks bs cs : List ℕ) where
     pub sums-past : stageCount ≤ getD ks i 0 → Sums ks bs cs (i + 1) xs
     sums-past hm = record { each = g .each; at = λ s h. summing-miss s ks bs cs (g .at s h) hk hb hc (λ e. omega arith) }
 
-  pub sums-end : {i : ℕ} {xs : List ℕ} → Sums ks bs cs i xs → length ks ≤ i
-      → TotalsOf (record { zero = getD xs 0 0; one = getD xs 1 0; two = getD xs 2 0; three = getD xs 3 0 }) ks bs cs
-  sums-end {i} {xs} g l = record { at = go }
-    where
-      go : (s : ℕ) → s < stageCount → totalAt (record { zero = getD xs 0 0; one = getD xs 1 0; two = getD xs 2 0; three = getD xs 3 0 }) s ≡ total (factorsAt s ks bs cs)
-      go zero h = summing-end 0 ks bs cs (g .at 0 h) l
-      go (suc zero) h = summing-end 1 ks bs cs (g .at 1 h) l
-      go (suc (suc zero)) h = summing-end 2 ks bs cs (g .at 2 h) l
-      go (suc (suc (suc zero))) h = summing-end 3 ks bs cs (g .at 3 h) l
-      go (suc (suc (suc (suc s)))) h = absurd (omega arith)
+  pub sums-end : {i : ℕ} {xs : List ℕ} → Sums ks bs cs i xs → length ks ≤ i → TotalsOf (record { sums = xs }) ks bs cs
+  sums-end {i} {xs} g l = record { at = λ s h. summing-end s ks bs cs (g .at s h) l }
 
 -- ---- what they say
 
 module _ {ts : Totals} {ks bs cs : List ℕ} (w : TotalsOf ts ks bs cs) where
-  -- refusal 15's test goes on to the next stage, or ends
+  -- refusal 15's test goes on to the next stage, or fails
   pub fits-on : (s : ℕ) {b : Bool} → s < stageCount → totalAt ts s ≤ most → b ≡ within (weave ks ks) (weave bs cs) (drop s stages)
       → b ≡ within (weave ks ks) (weave bs cs) (drop (s + 1) stages)
   fits-on s h l e = within-on ks bs cs {s = s} h (omega (arith, w .at s h)) e
@@ -113,15 +94,3 @@ module _ {ts : Totals} {ks bs cs : List ℕ} (w : TotalsOf ts ks bs cs) where
 
   pub fit : within (weave ks ks) (weave bs cs) stages ≡ true → Fit ts ks bs cs
   fit e = record { totals = w; low = λ s h. omega (arith, w .at s h, fit-low ks bs cs e s h) }
-
-  pub fits-last : {b : Bool} → b ≡ within (weave ks ks) (weave bs cs) (drop 3 stages) → leb (ts .three) most ≡ b
-  fits-last {b} e = go (decLt most (ts .three))
-    where
-      last : 3 < stageCount
-      last = omega arith
-
-      go : Dec (most < ts .three) → leb (ts .three) most ≡ b
-      go (yes h) = lt-leb (ts .three) most h ∙ fits-over 3 last h e
-      go (no h) =
-          let l : ts .three ≤ most = omega arith in
-          le-leb (ts .three) most l ∙ within-end ks bs cs {s = 4} refl (fits-on 3 last l e)

@@ -1,9 +1,9 @@
 -- Names for the contracts of the functions inside the crate: the sides of glyphs whose parts stand in lists, the running state of step 1's formula, and
 -- what is added to the movements.
-use Prim.Native.Nat.{ℕ, zero, suc, _+_, _≤_, _<_, _^_}
+use Prim.Native.Nat.{ℕ, _+_, _≤_, _<_, _^_}
 use mathlib.Core.Path.{_≡_}
 use mathlib.Core.List.{List, [], _∷_}
-use lib.ListN.{length}
+use lib.ListN.{length, getD}
 use Rattle.share.specs.Share.{total, still, plus, ofStage, shareAt, most}
 use Rattle.share.specs.Carry.{Carries, Carriable}
 use Rattle.share.specs.Line.{evens, odds}
@@ -67,10 +67,7 @@ abbrev pub stageCount : ℕ
 stageCount = 4
 
 abbrev pub totalAt : Totals → ℕ → ℕ
-totalAt ts zero = ts .zero
-totalAt ts (suc zero) = ts .one
-totalAt ts (suc (suc zero)) = ts .two
-totalAt ts (suc (suc (suc s))) = ts .three
+totalAt ts s = getD (ts .sums) s 0
 
 pub record TotalsOf (ts : Totals) (ks bs cs : List ℕ) : Type 0 where
   pub at : (s : ℕ) → s < stageCount → totalAt ts s ≡ total (factorsAt s ks bs cs)

@@ -104,12 +104,9 @@ fn next_share(run: Running, weight: u64) -> Step
     }
 }
 
-// The totals of a line's stages 0 to 3.
+// The totals of a line's stages.
 pub struct Totals {
-    pub zero: u64,
-    pub one: u64,
-    pub two: u64,
-    pub three: u64,
+    pub sums: [u64; STAGES as usize],
 }
 
 // A stage's total.
@@ -117,16 +114,7 @@ fn total_of(totals: Totals, stage: u8) -> u64
     requires { ⌜ stage < stageCount ⌝ }
     ensures { λ r. ⌜ r ≡ totalAt totals stage ⌝ }
 {
-    if stage == 0 {
-        return totals.zero;
-    }
-    if stage == 1 {
-        return totals.one;
-    }
-    if stage == 2 {
-        return totals.two;
-    }
-    totals.three
+    totals.sums[stage as usize]
 }
 
 // The totals of a line's stages. Two factors a glyph, none above 1,073,741,824, and 1,024 glyphs: no sum passes 2 to the power 41.
@@ -134,7 +122,7 @@ pub fn line_totals(marks: &[u8], first: &[u64], second: &[u64]) -> Totals
     requires { ⌜ Parts (length (now marks)) (now marks) (now first) (now second) × (length (now marks) ≤ 1024) ⌝ }
     ensures { λ r. ⌜ TotalsOf r (now (marks .entry)) (now (first .entry)) (now (second .entry)) ⌝ }
 {
-    let mut sums = [0u64; 4];
+    let mut sums = [0u64; STAGES as usize];
     let mut i = 0;
     while i < marks.len() {
         let stage = marks[i];
@@ -145,28 +133,21 @@ pub fn line_totals(marks: &[u8], first: &[u64], second: &[u64]) -> Totals
             i += 1;
         }
     }
-    Totals {
-        zero: sums[0],
-        one: sums[1],
-        two: sums[2],
-        three: sums[3],
-    }
+    Totals { sums }
 }
 
 // Refusal 15's test: whether no stage's total is above the most that it may be.
 pub fn totals_fit(totals: Totals) -> bool
     ensures { λ r. ⌜ ((ks us bs cs : List ℕ) → Lent (length ks) ks us bs cs → TotalsOf totals ks bs cs → r ≡ lineFits (glyphsOf ks us bs cs)) ⌝ }
 {
-    if MOST < totals.zero {
-        return false;
+    let mut stage: u8 = 0;
+    while stage < STAGES {
+        if MOST < total_of(totals, stage) {
+            return false;
+        }
+        stage += 1;
     }
-    if MOST < totals.one {
-        return false;
-    }
-    if MOST < totals.two {
-        return false;
-    }
-    totals.three <= MOST
+    true
 }
 
 // Adds to the sides of a stage their factors; answers how much extra weight its glyphs have: the number of unlimited ones.

@@ -1,5 +1,6 @@
 -- `line::equal_lengths` meets its contract.
 use borrow.Author.Tests.{eq-eqb, ne-eqb}
+use Rattle.line.proofs.Tests.{and-true}
 use Rattle.line.proofs.equal_lengths.Statement.{statement}
 use Rattle.line.proofs.equal_lengths.Tie as tie
 
@@ -13,7 +14,7 @@ returns-3 : tie.Need-returns-3
 returns-3 c = simp (eq-eqb _ _ (c .before .before .if1 .left), eq-eqb _ _ (c .before .if2 .left), ne-eqb _ _ (c .if3 .taken))
 
 returns-4 : tie.Need-returns-4
-returns-4 c = simp (eq-eqb _ _ (c .before .before .if1 .left), eq-eqb _ _ (c .before .if2 .left), eq-eqb _ _ (c .if3 .left))
+returns-4 c = simp (eq-eqb _ _ (c .before .before .if1 .left), eq-eqb _ _ (c .before .if2 .left), eq-eqb _ _ (c .if3 .left)) (and-true _)
 
 pub equal-lengths-spec : {M : Type 1} → statement M
 equal-lengths-spec = tie.close (tie.spec returns returns-2 returns-3 returns-4)

@@ -26,11 +26,11 @@ copy-moves-requires c κs = search needs
 copy-moves-requires-2 : tie.Need-copy-moves-requires-2
 copy-moves-requires-2 c κs = search needs
 
-cast-t26 : tie.Need-cast-t26
-cast-t26 c =
+cast-t25 : tie.Need-cast-t25
+cast-t25 c =
     let a = c .before .before .before .before .before .before .before .before .before .before .before .before .before .before .before .before .args in
     let p = c .before .before .before .before .before .before .before .before .before .before .before .before .before .before .before .before .pre in
-    record { fits = omega (arith, c .before .before .before .before .before .before .before .before .before .before .before .count-verdicts .ensures, p .0 .1, verdicts-few (sideOf (a .direction) (meaningOf (a .table .now) (a .count))) (a .size) 0 (a .glyphs .now) (a .held .now) (a .befores .now) (a .afters .now) (lists-few (a .table .now) (a .count) (a .direction) (p .0 .0))) }
+    record { fits = omega (arith, c .before .before .before .before .before .before .before .before .before .before .before .count-verdicts .ensures, p .0 .1, verdicts-few (sideOf (a .shape .direction) (meaningOf (a .table .now) (a .count))) (a .shape .size) 0 (a .glyphs .now) (a .held .now) (a .befores .now) (a .afters .now) (lists-few (a .table .now) (a .count) (a .shape .direction) (p .0 .0))) }
 
 same-length : tie.Need-same-length
 same-length c = search needs
@@ -55,7 +55,7 @@ finish-spec =
     copy-classes-requires
     copy-moves-requires
     copy-moves-requires-2
-    cast-t26
+    cast-t25
     same-length
     same-length-2
     same-length-3

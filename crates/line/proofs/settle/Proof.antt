@@ -1,12 +1,9 @@
 -- `line::settle` meets its contract.
 use lib.ListN.{length}
-use lib.IntN.{ℤ, pos}
+use lib.IntN.{pos}
 use mathlib.Core.Path.{sym}
-use Rattle.table.specs.Means.{meaningOf}
-use Rattle.meaning.specs.Ask.{sideOf}
 use Rattle.line.specs.Settle.{lineBy}
-use Rattle.line.proofs.Gaps.{as-read}
-use Rattle.line.proofs.Outcomes.{input-clear, whole-bad, whole-clear, same-target, prefix-length}
+use Rattle.line.proofs.Outcomes.{input-clear, whole-bad, whole-clear, prefix-length}
 use borrow.Author.Needs.{needs}
 use Rattle.line.proofs.settle.Statement.{statement}
 use Rattle.line.proofs.settle.Tie as tie
@@ -20,7 +17,7 @@ enum-known-fault c = search needs
 returns : tie.Need-returns
 returns c =
     let a = c .before .before .before .before .before .before .before .args in
-    λ verdicts h. whole-bad (a .table .now) (a .count) (lineBy (a .direction) (a .starts) (a .ends) (a .size) (a .glyphs .now) (a .advances .now) (a .target)) (a .classes .now) (a .before .now) (a .after .now) (c .before .fault .given .0 .0) (c .before .fault .given .0 .1 .0) (c .before .before .before .input-fault .ensures) (c .before .fault .given .1) verdicts
+    λ verdicts h. whole-bad (a .table .now) (a .count) (lineBy (a .shape) (a .glyphs .now) (a .advances .now)) (a .classes .now) (a .before .now) (a .after .now) (c .before .fault .given .0 .0) (c .before .fault .given .0 .1 .0) (c .before .before .before .input-fault .ensures) (c .before .fault .given .1) verdicts
 
 enum-told : tie.Need-enum-told
 enum-told c = search needs
@@ -28,38 +25,38 @@ enum-told c = search needs
 array-borrow-prefix-held : tie.Need-array-borrow-prefix-held
 array-borrow-prefix-held c =
     let a = c .before .before .before .before .before .before .args in
-    input-clear (a .table .now) (a .count) (lineBy (a .direction) (a .starts) (a .ends) (a .size) (a .glyphs .now) (a .advances .now) (a .target)) (a .classes .now) (a .before .now) (a .after .now) (c .before .before .input-fault .ensures) (c .enum-told .given .1) .short
+    input-clear (a .table .now) (a .count) (lineBy (a .shape) (a .glyphs .now) (a .advances .now)) (a .classes .now) (a .before .now) (a .after .now) (c .before .before .input-fault .ensures) (c .enum-told .given .1) .short
 
 slice-aggregate-settle-in : tie.Need-slice-aggregate-settle-in
 slice-aggregate-settle-in c =
     let a = c .before .before .before .before .before .before .before .args in
-    prefix-length 0 1024 (length (a .glyphs .now)) (input-clear (a .table .now) (a .count) (lineBy (a .direction) (a .starts) (a .ends) (a .size) (a .glyphs .now) (a .advances .now) (a .target)) (a .classes .now) (a .before .now) (a .after .now) (c .before .before .before .input-fault .ensures) (c .before .enum-told .given .1) .short)
+    prefix-length 0 1024 (length (a .glyphs .now)) (input-clear (a .table .now) (a .count) (lineBy (a .shape) (a .glyphs .now) (a .advances .now)) (a .classes .now) (a .before .now) (a .after .now) (c .before .before .before .input-fault .ensures) (c .before .enum-told .given .1) .short)
 
 array-borrow-prefix-befores : tie.Need-array-borrow-prefix-befores
 array-borrow-prefix-befores c =
     let a = c .before .before .before .before .before .before .before .args in
-    input-clear (a .table .now) (a .count) (lineBy (a .direction) (a .starts) (a .ends) (a .size) (a .glyphs .now) (a .advances .now) (a .target)) (a .classes .now) (a .before .now) (a .after .now) (c .before .before .before .input-fault .ensures) (c .before .enum-told .given .1) .short
+    input-clear (a .table .now) (a .count) (lineBy (a .shape) (a .glyphs .now) (a .advances .now)) (a .classes .now) (a .before .now) (a .after .now) (c .before .before .before .input-fault .ensures) (c .before .enum-told .given .1) .short
 
 slice-aggregate-settle-in-2 : tie.Need-slice-aggregate-settle-in-2
 slice-aggregate-settle-in-2 c =
     let a = c .before .before .before .before .before .before .before .before .args in
-    prefix-length (pos 0) 1024 (length (a .glyphs .now)) (input-clear (a .table .now) (a .count) (lineBy (a .direction) (a .starts) (a .ends) (a .size) (a .glyphs .now) (a .advances .now) (a .target)) (a .classes .now) (a .before .now) (a .after .now) (c .before .before .before .before .input-fault .ensures) (c .before .before .enum-told .given .1) .short)
+    prefix-length (pos 0) 1024 (length (a .glyphs .now)) (input-clear (a .table .now) (a .count) (lineBy (a .shape) (a .glyphs .now) (a .advances .now)) (a .classes .now) (a .before .now) (a .after .now) (c .before .before .before .before .input-fault .ensures) (c .before .before .enum-told .given .1) .short)
 
 array-borrow-prefix-afters : tie.Need-array-borrow-prefix-afters
 array-borrow-prefix-afters c =
     let a = c .before .before .before .before .before .before .before .before .args in
-    input-clear (a .table .now) (a .count) (lineBy (a .direction) (a .starts) (a .ends) (a .size) (a .glyphs .now) (a .advances .now) (a .target)) (a .classes .now) (a .before .now) (a .after .now) (c .before .before .before .before .input-fault .ensures) (c .before .before .enum-told .given .1) .short
+    input-clear (a .table .now) (a .count) (lineBy (a .shape) (a .glyphs .now) (a .advances .now)) (a .classes .now) (a .before .now) (a .after .now) (c .before .before .before .before .input-fault .ensures) (c .before .before .enum-told .given .1) .short
 
 slice-aggregate-settle-in-3 : tie.Need-slice-aggregate-settle-in-3
 slice-aggregate-settle-in-3 c =
     let a = c .before .before .before .before .before .before .before .before .before .args in
-    prefix-length (pos 0) 1024 (length (a .glyphs .now)) (input-clear (a .table .now) (a .count) (lineBy (a .direction) (a .starts) (a .ends) (a .size) (a .glyphs .now) (a .advances .now) (a .target)) (a .classes .now) (a .before .now) (a .after .now) (c .before .before .before .before .before .input-fault .ensures) (c .before .before .before .enum-told .given .1) .short)
+    prefix-length (pos 0) 1024 (length (a .glyphs .now)) (input-clear (a .table .now) (a .count) (lineBy (a .shape) (a .glyphs .now) (a .advances .now)) (a .classes .now) (a .before .now) (a .after .now) (c .before .before .before .before .before .input-fault .ensures) (c .before .before .before .enum-told .given .1) .short)
 
 settle-in-requires : tie.Need-settle-in-requires
 settle-in-requires c κs =
     let a = c .before .before .before .before .before .before .before .before .before .before .before .before .args in
     let n = length (a .glyphs .now) in
-    let i = input-clear (a .table .now) (a .count) (lineBy (a .direction) (a .starts) (a .ends) (a .size) (a .glyphs .now) (a .advances .now) (a .target)) (a .classes .now) (a .before .now) (a .after .now) (c .before .before .before .before .before .before .before .before .input-fault .ensures) (c .before .before .before .before .before .before .enum-told .given .1) in
+    let i = input-clear (a .table .now) (a .count) (lineBy (a .shape) (a .glyphs .now) (a .advances .now)) (a .classes .now) (a .before .now) (a .after .now) (c .before .before .before .before .before .before .before .before .input-fault .ensures) (c .before .before .before .before .before .before .enum-told .given .1) in
     ((i .accepted, i .short), (record { classes = sym (prefix-length 0 1024 n (i .short)); before = sym (prefix-length (pos 0) 1024 n (i .short)); after = sym (prefix-length (pos 0) 1024 n (i .short)) }, record { classes = i .classes; before = i .before; after = i .after }, i .small))
 
 same-length : tie.Need-same-length
@@ -74,8 +71,7 @@ same-length-3 c = search needs
 returns-2 : tie.Need-returns-2
 returns-2 c =
     let a = c .before .before .before .before .before .before .before .before .before .before .before .before .before .before .before .before .before .before .before .before .args in
-    let s = sideOf (a .direction) (meaningOf (a .table .now) (a .count)) in
-    whole-clear (a .table .now) (a .count) (lineBy (a .direction) (a .starts) (a .ends) (a .size) (a .glyphs .now) (a .advances .now) (a .target)) (a .classes .now) (a .before .now) (a .after .now) (c .before .before .before .before .before .before .before .before .before .before .before .before .before .before .before .before .input-fault .ensures) (c .before .before .before .before .before .before .before .before .before .before .before .before .before .before .enum-told .given .1) (same-target s (a .count) (λ (z : ℤ). lineBy (a .direction) (a .starts) (a .ends) (a .size) (a .glyphs .now) (a .advances .now) z) (a .room) (a .classes .now) (a .before .now) (a .after .now) (c .before .before .before .before .before .before .before .settle-in .result) (c .before .before .before .before .before .before .before .settle-in .last .1 .1 .1 .1 .1 .1 .1 .1 .1 .1 .1 .1 .1 .0) (c .before .before .before .before .before .before .before .settle-in .last .1 .1 .1 .1 .1 .1 .1 .1 .1 .1 .1 .1 .1 .1 .0) (c .before .before .before .before .before .before .before .settle-in .last .1 .1 .1 .1 .1 .1 .1 .1 .1 .1 .1 .1 .1 .1 .1 .0) (as-read (a .target) (c .before .before .before .before .before .before .before .before .before .before .before .before .before .before .before .before .before .before .before .before .fits .target .sfits)) (c .before .before .before .before .before .before .before .settle-in .ensures))
+    whole-clear (a .table .now) (a .count) (lineBy (a .shape) (a .glyphs .now) (a .advances .now)) (a .classes .now) (a .before .now) (a .after .now) (c .before .before .before .before .before .before .before .before .before .before .before .before .before .before .before .before .input-fault .ensures) (c .before .before .before .before .before .before .before .before .before .before .before .before .before .before .enum-told .given .1) (c .before .before .before .before .before .before .before .settle-in .ensures)
 
 pub settle-spec : {M : Type 1} → statement M
 settle-spec =

@@ -1,14 +1,11 @@
 -- `line::settle_in` meets its contract.
-use Rattle.line.specs.declared.LineAnswer.the-variants.{Refused}
-use Rattle.line.proofs.Outcomes.{settled-bad, settled-done, same-target}
+use Rattle.line.proofs.Outcomes.{settled-bad, settled-done}
 use mir.Syntax.{w32}
 use mir.ValLaws.{toZ-ofZ}
-use lib.IntN.{ℤ}
 use mathlib.Core.Path.{_∙_}
 use Rattle.table.specs.Means.{meaningOf}
 use Rattle.meaning.specs.Ask.{sideOf}
 use Rattle.line.specs.Settle.{lineBy}
-use Rattle.line.proofs.Gaps.{as-read}
 use borrow.Author.Needs.{needs}
 use Rattle.line.proofs.settle_in.Statement.{statement}
 use Rattle.line.proofs.settle_in.Tie as tie
@@ -26,7 +23,7 @@ finish-requires : tie.Need-finish-requires
 finish-requires c κs =
     let p = c .before .before .before .before .before .before .before .before .before .before .before .before .before .before .before .before .before .before .before .before .before .pre in
     let k = c .before .before .before .before .before .before .before .before .before .before .before .before .before .work-out .kept in
-    (p .0, (record { classes = k .1 .1 .1 .1 .1 .1 .1 .1 .1 .0 ∙ p .1 .0 .classes; before = k .1 .1 .1 .1 .1 .1 .1 .1 .1 .1 .0 ∙ p .1 .0 .before; after = k .1 .1 .1 .1 .1 .1 .1 .1 .1 .1 .1 .0 ∙ p .1 .0 .after }, p .1 .1))
+    (p .0, (record { classes = k .1 .1 .1 .1 .1 .0 ∙ p .1 .0 .classes; before = k .1 .1 .1 .1 .1 .1 .0 ∙ p .1 .0 .before; after = k .1 .1 .1 .1 .1 .1 .1 .0 ∙ p .1 .0 .after }, p .1 .1))
 
 same-length : tie.Need-same-length
 same-length c = search needs
@@ -40,8 +37,8 @@ same-length-3 c = search needs
 returns : tie.Need-returns
 returns c =
     let a = c .before .before .before .before .before .before .before .before .before .before .before .before .before .before .before .args in
-    let s = sideOf (a .direction) (meaningOf (a .table .now) (a .count)) in
-    same-target s (a .count) (λ (z : ℤ). lineBy (a .direction) (a .starts) (a .ends) (a .size) (a .glyphs .now) (a .advances .now) z) (a .room) (a .classes .now) (a .before .now) (a .after .now) (record { answer = Refused (c .before .worked .given .0 .0); stored = 0 }) (a .classes .now) (a .before .now) (a .after .now) (as-read (a .target) (c .before .before .before .before .before .before .before .before .before .before .before .before .before .before .before .fits .target .sfits)) (settled-bad s (a .count) _ (a .room) (a .classes .now) (a .before .now) (a .after .now) (c .before .worked .given .0 .0) (c .before .worked .given .1) (c .before .before .before .before .before .before .before .work-out .ensures .says))
+    let s = sideOf (a .shape .direction) (meaningOf (a .table .now) (a .count)) in
+    settled-bad s (a .count) (lineBy (a .shape) (a .glyphs .now) (a .advances .now)) (a .room) (a .classes .now) (a .before .now) (a .after .now) (c .before .worked .given .0 .0) (c .before .worked .given .1) (c .before .before .before .before .before .before .before .work-out .ensures .says)
 
 same-length-4 : tie.Need-same-length-4
 same-length-4 c = search needs
@@ -64,8 +61,8 @@ same-length-9 c = search needs
 returns-2 : tie.Need-returns-2
 returns-2 c =
     let a = c .before .before .before .before .before .before .before .before .before .before .before .before .before .before .before .before .before .before .before .before .before .before .before .before .before .before .args in
-    let s = sideOf (a .direction) (meaningOf (a .table .now) (a .count)) in
-    same-target s (a .count) (λ (z : ℤ). lineBy (a .direction) (a .starts) (a .ends) (a .size) (a .glyphs .now) (a .advances .now) z) (a .room) (a .classes .now) (a .before .now) (a .after .now) (c .before .before .before .before .finish .result) (c .before .before .before .before .finish .last .1 .1 .1 .1 .1 .1 .1 .1 .1 .1 .1 .0) (c .before .before .before .before .finish .last .1 .1 .1 .1 .1 .1 .1 .1 .1 .1 .1 .1 .0) (c .before .before .before .before .finish .last .1 .1 .1 .1 .1 .1 .1 .1 .1 .1 .1 .1 .1 .0) (as-read (a .target) (c .before .before .before .before .before .before .before .before .before .before .before .before .before .before .before .before .before .before .before .before .before .before .before .before .before .before .fits .target .sfits)) (settled-done s (a .count) _ (a .room) (a .classes .now) (a .before .now) (a .after .now) (c .before .before .before .before .before .before .before .before .before .before .before .before .before .before .before .before .before .before .work-out .ensures) (c .before .before .before .before .before .before .before .before .before .before .before .before .worked2 .given .0 .0) (c .before .before .before .before .before .before .before .before .before .before .before .before .worked2 .given .0 .1 .0) (c .before .before .before .before .before .before .before .before .before .before .before .before .worked2 .given .1) (toZ-ofZ w32 (c .before .before .before .before .before .before .before .before .before .before .before .before .worked2 .given .0 .0) (search needs)) (c .before .before .before .before .finish .ensures))
+    let s = sideOf (a .shape .direction) (meaningOf (a .table .now) (a .count)) in
+    settled-done s (a .count) (lineBy (a .shape) (a .glyphs .now) (a .advances .now)) (a .room) (a .classes .now) (a .before .now) (a .after .now) (c .before .before .before .before .before .before .before .before .before .before .before .before .before .before .before .before .before .before .work-out .ensures) (c .before .before .before .before .before .before .before .before .before .before .before .before .worked2 .given .0 .0) (c .before .before .before .before .before .before .before .before .before .before .before .before .worked2 .given .0 .1 .0) (c .before .before .before .before .before .before .before .before .before .before .before .before .worked2 .given .1) (toZ-ofZ w32 (c .before .before .before .before .before .before .before .before .before .before .before .before .worked2 .given .0 .0) (search needs)) (c .before .before .before .before .finish .ensures)
 
 pub settle-in-spec : {M : Type 1} → statement M
 settle-in-spec =

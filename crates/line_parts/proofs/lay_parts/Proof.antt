@@ -15,10 +15,10 @@ use Rattle.line_parts.proofs.lay_parts.Statement.{statement}
 use Rattle.line_parts.proofs.lay_parts.Tie as tie
 
 abbrev Inv-loop : tie.InvT-loop
-Inv-loop table count direction shrink size glyphs classes marks₀ extras₀ first₀ second₀ clusters i₀ marks extras first second i = (i ≤ length glyphs) × Filling (partsOf (sideOf direction (meaningOf table count)) shrink size glyphs classes) i marks extras first second
+Inv-loop table count shape shrink glyphs classes marks₀ extras₀ first₀ second₀ direction clusters i₀ marks extras first second i = (i ≤ length glyphs) × Filling (partsOf (sideOf (shape .direction) (meaningOf table count)) shrink (shape .size) glyphs classes) i marks extras first second
 
 abbrev μ-loop : tie.MeasureT-loop
-μ-loop table count direction shrink size glyphs classes marks₀ extras₀ first₀ second₀ clusters i₀ marks extras first second i = length glyphs - i
+μ-loop table count shape shrink glyphs classes marks₀ extras₀ first₀ second₀ direction clusters i₀ marks extras first second i = length glyphs - i
 
 index-small : (i : tie.In-loop Inv-loop μ-loop) → i .before .loop .i * 8 < 2 ^ 64
 index-small i = omega arith
@@ -32,8 +32,8 @@ clusters-in-requires c κs = search needs
 loop-holds : tie.Need-loop-holds Inv-loop μ-loop
 loop-holds c =
     let a = c .before .before .before .before .before .before .before .before .args in
-    let s = sideOf (a .direction) (meaningOf (a .table .now) (a .count)) in
-    (omega arith, filling-start _ _ _ _ _ (subst (λ (n : ℕ). Room n (a .marks .now) (a .extras .now) (a .first .now) (a .second .now)) (sym (parts-length s (a .shrink) (a .size) (a .glyphs .now) (a .classes .now) (c .before .before .before .before .before .before .before .before .pre .0 .1))) (c .before .before .before .before .before .before .before .before .pre .1)))
+    let s = sideOf (a .shape .direction) (meaningOf (a .table .now) (a .count)) in
+    (omega arith, filling-start _ _ _ _ _ (subst (λ (n : ℕ). Room n (a .marks .now) (a .extras .now) (a .first .now) (a .second .now)) (sym (parts-length s (a .shrink) (a .shape .size) (a .glyphs .now) (a .classes .now) (c .before .before .before .before .before .before .before .before .pre .0 .1))) (c .before .before .before .before .before .before .before .before .pre .1)))
 
 mul-record-for : tie.Need-mul-record-for Inv-loop μ-loop
 mul-record-for c = omega arith
@@ -53,14 +53,14 @@ part-of-requires c κs = c .record-for .ensures .1
 slice-write-marks : tie.Need-slice-write-marks Inv-loop μ-loop
 slice-write-marks c =
     let a = c .before .before .before .before .before .before .before .before .before .before .before .before .before .before .args in
-    let q = parts-length (sideOf (a .direction) (meaningOf (a .table .now) (a .count))) (a .shrink) (a .size) (a .glyphs .now) (a .classes .now) (c .before .before .before .before .before .before .before .before .before .before .before .before .before .before .pre .0 .1) in
+    let q = parts-length (sideOf (a .shape .direction) (meaningOf (a .table .now) (a .count))) (a .shrink) (a .shape .size) (a .glyphs .now) (a .classes .now) (c .before .before .before .before .before .before .before .before .before .before .before .before .before .before .pre .0 .1) in
     let w = c .before .before .before .before .before .loop .inv .1 .room .marks in
     omega arith
 
 slice-write-extras : tie.Need-slice-write-extras Inv-loop μ-loop
 slice-write-extras c =
     let a = c .before .before .before .before .before .before .before .before .before .before .before .before .before .before .args in
-    let q = parts-length (sideOf (a .direction) (meaningOf (a .table .now) (a .count))) (a .shrink) (a .size) (a .glyphs .now) (a .classes .now) (c .before .before .before .before .before .before .before .before .before .before .before .before .before .before .pre .0 .1) in
+    let q = parts-length (sideOf (a .shape .direction) (meaningOf (a .table .now) (a .count))) (a .shrink) (a .shape .size) (a .glyphs .now) (a .classes .now) (c .before .before .before .before .before .before .before .before .before .before .before .before .before .before .pre .0 .1) in
     let w = c .before .before .before .before .before .loop .inv .1 .room .extras in
     omega arith
 
@@ -73,7 +73,7 @@ mul-first c = record { fits = index-small (c .before .before .before .before .be
 slice-write-first : tie.Need-slice-write-first Inv-loop μ-loop
 slice-write-first c =
     let a = c .before .before .before .before .before .before .before .before .before .before .before .before .before .before .before .args in
-    let q = parts-length (sideOf (a .direction) (meaningOf (a .table .now) (a .count))) (a .shrink) (a .size) (a .glyphs .now) (a .classes .now) (c .before .before .before .before .before .before .before .before .before .before .before .before .before .before .before .pre .0 .1) in
+    let q = parts-length (sideOf (a .shape .direction) (meaningOf (a .table .now) (a .count))) (a .shrink) (a .shape .size) (a .glyphs .now) (a .classes .now) (c .before .before .before .before .before .before .before .before .before .before .before .before .before .before .before .pre .0 .1) in
     let w = c .before .before .before .before .before .before .loop .inv .1 .room .first in
     omega arith
 
@@ -86,7 +86,7 @@ mul-second c = record { fits = index-small (c .before .before .before .before .b
 slice-write-second : tie.Need-slice-write-second Inv-loop μ-loop
 slice-write-second c =
     let a = c .before .before .before .before .before .before .before .before .before .before .before .before .before .before .before .before .args in
-    let q = parts-length (sideOf (a .direction) (meaningOf (a .table .now) (a .count))) (a .shrink) (a .size) (a .glyphs .now) (a .classes .now) (c .before .before .before .before .before .before .before .before .before .before .before .before .before .before .before .before .pre .0 .1) in
+    let q = parts-length (sideOf (a .shape .direction) (meaningOf (a .table .now) (a .count))) (a .shrink) (a .shape .size) (a .glyphs .now) (a .classes .now) (c .before .before .before .before .before .before .before .before .before .before .before .before .before .before .before .before .pre .0 .1) in
     let w = c .before .before .before .before .before .before .before .loop .inv .1 .room .second in
     omega arith
 
@@ -101,15 +101,15 @@ loop-again c =
     let a = c .before .before .before .before .before .before .before .before .before .before .before .before .before .before .before .before .args in
     let p = c .before .before .before .before .before .before .before .before .before .before .before .before .before .before .before .before .pre in
     let l = c .before .before .before .before .before .before .before .loop in
-    let s = sideOf (a .direction) (meaningOf (a .table .now) (a .count)) in
-    let q = parts-length s (a .shrink) (a .size) (a .glyphs .now) (a .classes .now) (p .0 .1) in
-    let w = subst (λ (o : Option Pair). PartOf (c .before .before .part-of .result) (partOf (a .shrink) (a .size) o)) (c .before .before .before .record-for .ensures .0) (c .before .before .part-of .ensures) in
-    (omega arith, filling-part w (c .before .plain .ensures) (c .plain2 .ensures) (l .inv .1) (omega arith) (parts-next s (a .shrink) (a .size) (a .glyphs .now) (a .classes .now) (l .i) (p .0 .1) (omega arith)))
+    let s = sideOf (a .shape .direction) (meaningOf (a .table .now) (a .count)) in
+    let q = parts-length s (a .shrink) (a .shape .size) (a .glyphs .now) (a .classes .now) (p .0 .1) in
+    let w = subst (λ (o : Option Pair). PartOf (c .before .before .part-of .result) (partOf (a .shrink) (a .shape .size) o)) (c .before .before .before .record-for .ensures .0) (c .before .before .part-of .ensures) in
+    (omega arith, filling-part w (c .before .plain .ensures) (c .plain2 .ensures) (l .inv .1) (omega arith) (parts-next s (a .shrink) (a .shape .size) (a .glyphs .now) (a .classes .now) (l .i) (p .0 .1) (omega arith)))
 
 same-length : tie.Need-same-length Inv-loop μ-loop
 same-length c =
     let a = c .before .before .before .before .before .before .before .before .before .before .args in
-    let q = parts-length (sideOf (a .direction) (meaningOf (a .table .now) (a .count))) (a .shrink) (a .size) (a .glyphs .now) (a .classes .now) (c .before .before .before .before .before .before .before .before .before .before .pre .0 .1) in
+    let q = parts-length (sideOf (a .shape .direction) (meaningOf (a .table .now) (a .count))) (a .shrink) (a .shape .size) (a .glyphs .now) (a .classes .now) (c .before .before .before .before .before .before .before .before .before .before .pre .0 .1) in
     let w = c .before .loop .inv .1 .room .marks in
     let v = c .before .before .before .before .before .before .before .before .before .before .pre .1 .marks in
     omega arith
@@ -117,7 +117,7 @@ same-length c =
 same-length-2 : tie.Need-same-length-2 Inv-loop μ-loop
 same-length-2 c =
     let a = c .before .before .before .before .before .before .before .before .before .before .args in
-    let q = parts-length (sideOf (a .direction) (meaningOf (a .table .now) (a .count))) (a .shrink) (a .size) (a .glyphs .now) (a .classes .now) (c .before .before .before .before .before .before .before .before .before .before .pre .0 .1) in
+    let q = parts-length (sideOf (a .shape .direction) (meaningOf (a .table .now) (a .count))) (a .shrink) (a .shape .size) (a .glyphs .now) (a .classes .now) (c .before .before .before .before .before .before .before .before .before .before .pre .0 .1) in
     let w = c .before .loop .inv .1 .room .extras in
     let v = c .before .before .before .before .before .before .before .before .before .before .pre .1 .extras in
     omega arith
@@ -125,7 +125,7 @@ same-length-2 c =
 same-length-3 : tie.Need-same-length-3 Inv-loop μ-loop
 same-length-3 c =
     let a = c .before .before .before .before .before .before .before .before .before .before .args in
-    let q = parts-length (sideOf (a .direction) (meaningOf (a .table .now) (a .count))) (a .shrink) (a .size) (a .glyphs .now) (a .classes .now) (c .before .before .before .before .before .before .before .before .before .before .pre .0 .1) in
+    let q = parts-length (sideOf (a .shape .direction) (meaningOf (a .table .now) (a .count))) (a .shrink) (a .shape .size) (a .glyphs .now) (a .classes .now) (c .before .before .before .before .before .before .before .before .before .before .pre .0 .1) in
     let w = c .before .loop .inv .1 .room .first in
     let v = c .before .before .before .before .before .before .before .before .before .before .pre .1 .first in
     omega arith
@@ -133,7 +133,7 @@ same-length-3 c =
 same-length-4 : tie.Need-same-length-4 Inv-loop μ-loop
 same-length-4 c =
     let a = c .before .before .before .before .before .before .before .before .before .before .args in
-    let q = parts-length (sideOf (a .direction) (meaningOf (a .table .now) (a .count))) (a .shrink) (a .size) (a .glyphs .now) (a .classes .now) (c .before .before .before .before .before .before .before .before .before .before .pre .0 .1) in
+    let q = parts-length (sideOf (a .shape .direction) (meaningOf (a .table .now) (a .count))) (a .shrink) (a .shape .size) (a .glyphs .now) (a .classes .now) (c .before .before .before .before .before .before .before .before .before .before .pre .0 .1) in
     let w = c .before .loop .inv .1 .room .second in
     let v = c .before .before .before .before .before .before .before .before .before .before .pre .1 .second in
     omega arith
@@ -141,7 +141,7 @@ same-length-4 c =
 returns : tie.Need-returns Inv-loop μ-loop
 returns c =
     let a = c .before .before .before .before .before .before .before .before .before .before .args in
-    let q = parts-length (sideOf (a .direction) (meaningOf (a .table .now) (a .count))) (a .shrink) (a .size) (a .glyphs .now) (a .classes .now) (c .before .before .before .before .before .before .before .before .before .before .pre .0 .1) in
+    let q = parts-length (sideOf (a .shape .direction) (meaningOf (a .table .now) (a .count))) (a .shrink) (a .shape .size) (a .glyphs .now) (a .classes .now) (c .before .before .before .before .before .before .before .before .before .before .pre .0 .1) in
     filling-end (c .before .loop .inv .1) (omega arith)
 
 pub lay-parts-spec : {M : Type 1} → statement M

@@ -18,7 +18,7 @@ machine-in-requires c κs = search needs
 returns : tie.Need-returns
 returns c =
     let a = c .before .before .before .before .args in
-    handed-none (lineOf (a .glyphs .now) (a .starts) (a .ends)) 1024 refl (c .before .before .before .before .pre .0 .1) ∙ ap handedOut (sym (no-walk (a .table .now) (a .count) (a .direction) (c .before .machine-in .result) (c .before .machine-in .ensures .0) (c .if1 .taken) (a .glyphs .now) (a .starts) (a .ends)))
+    handed-none (lineOf (a .glyphs .now) (a .shape .starts) (a .shape .ends)) 1024 refl (c .before .before .before .before .pre .0 .1) ∙ ap handedOut (sym (no-walk (a .table .now) (a .count) (a .shape .direction) (c .before .machine-in .result) (c .before .machine-in .ensures .0) (c .if1 .taken) (a .glyphs .now) (a .shape .starts) (a .shape .ends)))
 
 add-here : tie.Need-add-here
 add-here c = search needs
@@ -41,7 +41,7 @@ walk-line-requires c κs =
     let p = c .before .before .before .before .before .before .pre in
     let m = c .before .before .before .machine-in in
     let o = m .result in
-    let clear = machine-clear (a .table .now) (a .count) (a .direction) o (m .ensures .0) (p .0 .0) (c .before .before .if1 .left) in
+    let clear = machine-clear (a .table .now) (a .count) (a .shape .direction) o (m .ensures .0) (p .0 .0) (c .before .before .if1 .left) in
     let near : o + 8 < 2 ^ 32 = omega (arith, m .ensures .1) in (
       sound (a .table .now) (a .count) (o + 8) near clear,
       subst (Kinds (a .table .now) (o + 8)) (sym (kinds-padded (a .table .now) (o + 8) (a .glyphs .now) (c .before .line-kinds .ensures))) (kinds (a .table .now) (a .count) (o + 8) near clear (a .glyphs .now) (p .0 .1) (p .1)),
@@ -54,8 +54,8 @@ returns-2 c =
     let m = c .before .before .before .before .machine-in in
     let o = m .result in
     c .walk-line .ensures
-    ∙ ap handedOut (ap (λ (ks : List ℕ). walked (machineAt (a .table .now) (o + 8)) (lineOf ks (a .starts) (a .ends))) (kinds-padded (a .table .now) (o + 8) (a .glyphs .now) (c .before .before .line-kinds .ensures))
-    ∙ a-walk (a .table .now) (a .count) (a .direction) o (m .ensures .0) (c .before .before .before .if1 .left) (omega (arith, m .ensures .1)) (p .0 .0) (a .glyphs .now) (p .0 .1) (p .1) (a .starts) (a .ends))
+    ∙ ap handedOut (ap (λ (ks : List ℕ). walked (machineAt (a .table .now) (o + 8)) (lineOf ks (a .shape .starts) (a .shape .ends))) (kinds-padded (a .table .now) (o + 8) (a .glyphs .now) (c .before .before .line-kinds .ensures))
+    ∙ a-walk (a .table .now) (a .count) (a .shape .direction) o (m .ensures .0) (c .before .before .before .if1 .left) (omega (arith, m .ensures .1)) (p .0 .0) (a .glyphs .now) (p .0 .1) (p .1) (a .shape .starts) (a .shape .ends))
 
 pub line-walk-spec : {M : Type 1} → statement M
 line-walk-spec =

@@ -12,11 +12,11 @@ use Rattle.line_verdicts.proofs.count_verdicts.Statement.{statement}
 use Rattle.line_verdicts.proofs.count_verdicts.Tie as tie
 
 abbrev Inv-loop : tie.InvT-loop
-Inv-loop table count direction size glyphs classes before after lists total₀ place₀ total place =
-    (length (verdictsFrom (sideOf direction (meaningOf table count)) size 0 glyphs classes before after) ≡ total + length (verdictsAt (sideOf direction (meaningOf table count)) (moved size classes before after) glyphs place)) × (place ≤ length glyphs)
+Inv-loop table count shape glyphs classes before after direction lists total₀ place₀ total place =
+    (length (verdictsFrom (sideOf (shape .direction) (meaningOf table count)) (shape .size) 0 glyphs classes before after) ≡ total + length (verdictsAt (sideOf (shape .direction) (meaningOf table count)) (moved (shape .size) classes before after) glyphs place)) × (place ≤ length glyphs)
 
 abbrev μ-loop : tie.MeasureT-loop
-μ-loop table count direction size glyphs classes before after lists total₀ place₀ total place = length glyphs - place
+μ-loop table count shape glyphs classes before after direction lists total₀ place₀ total place = length glyphs - place
 
 lists-in-requires : tie.Need-lists-in-requires Inv-loop μ-loop
 lists-in-requires c κs = search needs
@@ -24,7 +24,7 @@ lists-in-requires c κs = search needs
 loop-holds : tie.Need-loop-holds Inv-loop μ-loop
 loop-holds c =
     let a = c .before .before .before .before .args in
-    (omega (arith, count-all (sideOf (a .direction) (meaningOf (a .table .now) (a .count))) (moved (a .size) (a .classes .now) (a .before .now) (a .after .now)) (a .glyphs .now)), omega arith)
+    (omega (arith, count-all (sideOf (a .shape .direction) (meaningOf (a .table .now) (a .count))) (moved (a .shape .size) (a .classes .now) (a .before .now) (a .after .now)) (a .glyphs .now)), omega arith)
 
 growth-at-requires : tie.Need-growth-at-requires Inv-loop μ-loop
 growth-at-requires c κs = let f = c .before .before .before .before .before .before .pre .fits in (omega (arith, f .before), omega (arith, f .after))
@@ -45,7 +45,7 @@ add-total : tie.Need-add-total Inv-loop μ-loop
 add-total c =
     let a = c .before .before .before .before .before .before .before .before .before .before .args in
     let p = c .before .before .before .before .before .before .before .before .before .before .pre in
-    let few = verdicts-few (sideOf (a .direction) (meaningOf (a .table .now) (a .count))) (a .size) 0 (a .glyphs .now) (a .classes .now) (a .before .now) (a .after .now) (lists-few (a .table .now) (a .count) (a .direction) (p .accepted)) in
+    let few = verdicts-few (sideOf (a .shape .direction) (meaningOf (a .table .now) (a .count))) (a .shape .size) 0 (a .glyphs .now) (a .classes .now) (a .before .now) (a .after .now) (lists-few (a .table .now) (a .count) (a .shape .direction) (p .accepted)) in
     record { fits = omega (arith, c .before .before .before .before .before .loop .inv .0, few, p .fits .few, c .count-glyph .ensures .1) }
 
 add-place : tie.Need-add-place Inv-loop μ-loop
@@ -60,7 +60,7 @@ loop-again c =
     let l = c .before .before .before .before .before .loop in
     let g = c .before .before .before .growth-at in
     let e =
-    count-next (sideOf (a .direction) (meaningOf (a .table .now) (a .count))) (moved (a .size) (a .classes .now) (a .before .now) (a .after .now)) (a .glyphs .now) (c .before .before .before .before .before .before .before .before .before .before .pre .fits) (a .table .now) (l .place) (c .count-glyph .result) (c .before .before .before .before .loop-test .taken) (g .result .0) (g .ensures) (c .count-glyph .ensures .0)
+    count-next (sideOf (a .shape .direction) (meaningOf (a .table .now) (a .count))) (moved (a .shape .size) (a .classes .now) (a .before .now) (a .after .now)) (a .glyphs .now) (c .before .before .before .before .before .before .before .before .before .before .pre .fits) (a .table .now) (l .place) (c .count-glyph .result) (c .before .before .before .before .loop-test .taken) (g .result .0) (g .ensures) (c .count-glyph .ensures .0)
     in
     (omega (arith, l .inv .0, e), omega arith)
 
@@ -68,7 +68,7 @@ returns : tie.Need-returns Inv-loop μ-loop
 returns c =
     let a = c .before .before .before .before .before .before .args in
     let l = c .before .loop in
-    omega (arith, l .inv .0, count-past (sideOf (a .direction) (meaningOf (a .table .now) (a .count))) (moved (a .size) (a .classes .now) (a .before .now) (a .after .now)) (a .glyphs .now) (a .table .now) (l .place) (omega arith))
+    omega (arith, l .inv .0, count-past (sideOf (a .shape .direction) (meaningOf (a .table .now) (a .count))) (moved (a .shape .size) (a .classes .now) (a .before .now) (a .after .now)) (a .glyphs .now) (a .table .now) (l .place) (omega arith))
 
 pub count-verdicts-spec : {M : Type 1} → statement M
 count-verdicts-spec =

@@ -4,15 +4,16 @@ use mathlib.Core.Path.{refl, ap, _∙_}
 use borrow.Author.Needs.{needs}
 use native.Mathlib.Omega.{arith}
 use Rattle.share.specs.Share.{total}
+use Rattle.share.specs.Inner.{stageCount}
 use Rattle.share.proofs.Stages.{Backing, backing-start, backing-on, backing-found, backing-end, back-none}
 use Rattle.share.proofs.go_back.Statement.{statement}
 use Rattle.share.proofs.go_back.Tie as tie
 
 abbrev Inv-loop : tie.InvT-loop
-Inv-loop left totals marks first second before₀ after₀ stage₀ before after stage = (stage ≤ 4) × Backing marks first second left before₀ after₀ stage before after
+Inv-loop left totals marks first second before₀ after₀ stage₀ before after stage = (stage ≤ stageCount) × Backing marks first second left before₀ after₀ stage before after
 
 abbrev μ-loop : tie.MeasureT-loop
-μ-loop left totals marks first second before₀ after₀ stage₀ before after stage = 4 - stage
+μ-loop left totals marks first second before₀ after₀ stage₀ before after stage = stageCount - stage
 
 returns : tie.Need-returns Inv-loop μ-loop
 returns c = let a = c .before .before .before .before .before .before .args in

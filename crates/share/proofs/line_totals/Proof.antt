@@ -75,18 +75,6 @@ loop-again-2 c = let a = c .before .before .before .before .args in
     let l = c .before .before .before .loop in
     (omega arith, sums-past (a .marks .now) (a .first .now) (a .second .now) (l .inv .1) (omega arith) (omega arith) (omega arith) (omega (arith, c .if1 .left)))
 
-array-read-t26 : tie.Need-array-read-t26 Inv-loop μ-loop
-array-read-t26 c = omega (arith, c .before .loop .inv .1 .each)
-
-array-read-t29 : tie.Need-array-read-t29 Inv-loop μ-loop
-array-read-t29 c = omega (arith, c .before .loop .inv .1 .each)
-
-array-read-t32 : tie.Need-array-read-t32 Inv-loop μ-loop
-array-read-t32 c = omega (arith, c .before .loop .inv .1 .each)
-
-array-read-t35 : tie.Need-array-read-t35 Inv-loop μ-loop
-array-read-t35 c = omega (arith, c .before .loop .inv .1 .each)
-
 returns : tie.Need-returns Inv-loop μ-loop
 returns c = let a = c .before .before .args in
     sums-end (a .marks .now) (a .first .now) (a .second .now) (c .before .loop .inv .1) (omega arith)
@@ -115,8 +103,4 @@ line-totals-spec =
     add-i-2
     loop-less-2
     loop-again-2
-    array-read-t26
-    array-read-t29
-    array-read-t32
-    array-read-t35
     returns)

@@ -2,15 +2,16 @@ use lib.ListN.{length}
 use Prim.Native.Nat.{_-_, _≤_}
 use mathlib.Core.Path.{refl, _∙_}
 use native.Mathlib.Omega.{arith}
+use Rattle.share.specs.Inner.{stageCount}
 use Rattle.share.proofs.Stages.{Staging, staging-start, staging-on, staging-end}
 use Rattle.share.proofs.share_stages.Statement.{statement}
 use Rattle.share.proofs.share_stages.Tie as tie
 
 abbrev Inv-loop : tie.InvT-loop
-Inv-loop gap totals marks extras first second before₀ after₀ left₀ stage₀ before after left stage = (stage ≤ 4) × Staging (length marks) marks extras first second gap before₀ after₀ stage left before after
+Inv-loop gap totals marks extras first second before₀ after₀ left₀ stage₀ before after left stage = (stage ≤ stageCount) × Staging (length marks) marks extras first second gap before₀ after₀ stage left before after
 
 abbrev μ-loop : tie.MeasureT-loop
-μ-loop gap totals marks extras first second before₀ after₀ left₀ stage₀ before after left stage = 4 - stage
+μ-loop gap totals marks extras first second before₀ after₀ left₀ stage₀ before after left stage = stageCount - stage
 
 loop-holds : tie.Need-loop-holds Inv-loop μ-loop
 loop-holds c = let a = c .before .before .before .before .before .before .args in

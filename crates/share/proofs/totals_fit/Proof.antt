@@ -1,22 +1,65 @@
-use mathlib.Core.Path.{_∙_}
+use Prim.Native.Nat.{ℕ, _-_, _≤_}
+use mathlib.Core.Path.{_≡_}
+use mathlib.Core.List.{List}
 use native.Mathlib.Omega.{arith}
+use lib.ListN.{length, drop}
+use Rattle.share.specs.Share.{stages, within}
+use Rattle.share.specs.Line.{Lent, glyphsOf, lineFits}
+use Rattle.share.specs.Inner.{weave, stageCount, TotalsOf}
 use Rattle.share.proofs.Steps.{lent-parts}
-use Rattle.share.proofs.Lines.{fits-is}
-use Rattle.share.proofs.Sums.{fits-on, fits-over, fits-last}
+use Rattle.share.proofs.Lines.{fits-is, within-end}
+use Rattle.share.proofs.Sums.{fits-on, fits-over}
 use Rattle.share.proofs.totals_fit.Statement.{statement}
 use Rattle.share.proofs.totals_fit.Tie as tie
 
-returns : tie.Need-returns
-returns c = λ ks us bs cs l w. fits-over w 0 (omega arith) (c .if1 .taken) (fits-is (lent-parts l) us (l .extras))
+-- what the whole test answers is what it answers from this stage on
+abbrev Inv-loop : tie.InvT-loop
+Inv-loop totals stage₀ stage =
+    (stage ≤ stageCount)
+    × ((ks us bs cs : List ℕ) → Lent (length ks) ks us bs cs → TotalsOf totals ks bs cs → lineFits (glyphsOf ks us bs cs) ≡ within (weave ks ks) (weave bs cs) (drop stage stages))
 
-returns-2 : tie.Need-returns-2
-returns-2 c = λ ks us bs cs l w. fits-over w 1 (omega arith) (c .if2 .taken) (fits-on w 0 (omega arith) (omega (arith, c .before .before .if1 .left)) (fits-is (lent-parts l) us (l .extras)))
+abbrev μ-loop : tie.MeasureT-loop
+μ-loop totals stage₀ stage = stageCount - stage
 
-returns-3 : tie.Need-returns-3
-returns-3 c = λ ks us bs cs l w. fits-over w 2 (omega arith) (c .if3 .taken) (fits-on w 1 (omega arith) (omega (arith, c .before .before .if2 .left)) (fits-on w 0 (omega arith) (omega (arith, c .before .before .before .before .if1 .left)) (fits-is (lent-parts l) us (l .extras))))
+loop-holds : tie.Need-loop-holds Inv-loop μ-loop
+loop-holds c = (omega arith, λ ks us bs cs l w. fits-is (lent-parts l) us (l .extras))
 
-returns-4 : tie.Need-returns-4
-returns-4 c = λ ks us bs cs l w. fits-last w (fits-on w 2 (omega arith) (omega (arith, c .before .if3 .left)) (fits-on w 1 (omega arith) (omega (arith, c .before .before .before .if2 .left)) (fits-on w 0 (omega arith) (omega (arith, c .before .before .before .before .before .if1 .left)) (fits-is (lent-parts l) us (l .extras)))))
+total-of-requires : tie.Need-total-of-requires Inv-loop μ-loop
+total-of-requires c κs = omega arith
+
+returns : tie.Need-returns Inv-loop μ-loop
+returns c =
+    let l = c .before .before .before .loop in
+    λ ks us bs cs e w. fits-over w (l .stage) (omega (arith, c .before .before .loop-test .taken)) (omega (arith, c .before .total-of .ensures, c .if1 .taken)) (l .inv .1 ks us bs cs e w)
+
+add-stage : tie.Need-add-stage Inv-loop μ-loop
+add-stage c = omega arith
+
+loop-less : tie.Need-loop-less Inv-loop μ-loop
+loop-less c = omega arith
+
+loop-again : tie.Need-loop-again Inv-loop μ-loop
+loop-again c =
+    let l = c .before .before .before .loop in (
+      omega arith,
+      λ ks us bs cs e w. fits-on w (l .stage) (omega (arith, c .before .before .loop-test .taken)) (omega (arith, c .before .total-of .ensures, c .if1 .left)) (l .inv .1 ks us bs cs e w),
+    )
+
+returns-2 : tie.Need-returns-2 Inv-loop μ-loop
+returns-2 c =
+    let l = c .before .loop in
+    λ ks us bs cs e w. within-end ks bs cs {s = l .stage} (omega (arith, l .inv .0)) (l .inv .1 ks us bs cs e w)
 
 pub totals-fit-spec : {M : Type 1} → statement M
-totals-fit-spec = tie.close (tie.spec returns returns-2 returns-3 returns-4)
+totals-fit-spec =
+    tie.close
+    (tie.spec
+    Inv-loop
+    μ-loop
+    loop-holds
+    total-of-requires
+    returns
+    add-stage
+    loop-less
+    loop-again
+    returns-2)
