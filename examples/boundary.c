@@ -110,11 +110,11 @@ int main(void) {
     for (size_t cut = 0; cut <= length; cut++) {
         uint8_t *table = memcpy(lend(cut), whole, cut);
         ask_table(table, cut);
-        just_write_sheet(table, cut, GLYPHS, lend(sheet_length), sheet_length);
+        just_table_write_sheet(table, cut, GLYPHS, lend(sheet_length), sheet_length);
     }
     uint8_t *sheet = lend(sheet_length);
     for (uint32_t room = 0; room <= sheet_length; room++)
-        just_write_sheet(whole, length, GLYPHS, sheet + sheet_length - room, room);
+        just_table_write_sheet(whole, length, GLYPHS, sheet + sheet_length - room, room);
     for (uint32_t cut = 0; cut <= sheet_length; cut++)
         ask_sheet(memcpy(lend(cut), sheet, cut), cut);
     for (size_t places = 0; places <= PLACES; places++)

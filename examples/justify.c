@@ -52,7 +52,7 @@ int main(void) {
     printf("refusal %u, cut short %u\n", just_check_table(table, sizeof table, 2), just_check_table(table, 9, 2));
     struct just_length_answer length = just_table_sheet_length(table, sizeof table, 2);
     uint8_t sheet[256];
-    struct just_length_answer written = just_write_sheet(table, sizeof table, 2, sheet, sizeof sheet);
+    struct just_length_answer written = just_table_write_sheet(table, sizeof table, 2, sheet, sizeof sheet);
     printf("a sheet of %u bytes, %u written, refusal %u\n", length.length, written.length,
            just_check_sheet(sheet, written.length));
     print_line(justify(GLYPHS));

@@ -11,8 +11,8 @@
  * struct that a call fills may hold anything, so compare verdicts member by member.
  *
  * Any bytes and any numbers may be handed in. A bool is false or true. A direction is 0 for horizontal and any other
- * number for vertical, a lookup 0 for the width lookup and any other number for the action lookup. `glyphs` or
- * `glyph_count` is the glyph count N that a table is read with. One unit is 1/65,536 point.
+ * number for vertical, a lookup 0 for the width lookup and any other number for the action lookup. `glyph_count`
+ * is the glyph count N that a table is read with. One unit is 1/65,536 point.
  *
  * No call has state, so calls may run at the same time on lent bytes that none of them writes. Calls for sheets, the
  * writer among them, need up to 1 MiB of stack, all others less than 128 KiB.
@@ -25,6 +25,9 @@
 #include <stddef.h>
 #include <stdint.h>
 
+/* Rises when a call or a struct changes, or a refusal is added. */
+#define JUST_VERSION 2
+
 #ifdef __cplusplus
 extern "C" {
 #endif
@@ -33,7 +36,7 @@ enum just_refusal {
     JUST_NONE = 0,
     JUST_TABLE_LENGTH = 1,    /* the table's length is outside 10 to 32,768 bytes */
     JUST_GLYPH_COUNT = 2,     /* the glyph count is outside 1 to 65,535 */
-    JUST_VERSION = 3,         /* version or format */
+    JUST_BAD_VERSION = 3,     /* version or format */
     JUST_OUTSIDE = 4,         /* a field to be read is not wholly in the table */
     JUST_BAD_LOOKUP = 5,      /* a lookup breaks its rule */
     JUST_BAD_CLUSTER = 6,     /* a cluster breaks its rule */
@@ -172,40 +175,40 @@ struct just_stretch {
 };
 
 /* Whether a table is accepted: 0, or the number of its first fault. */
-uint32_t just_check_table(const uint8_t *table, size_t length, uint32_t glyphs);
+uint32_t just_check_table(const uint8_t *table, size_t length, uint32_t glyph_count);
 
 /* The parts of a table's meaning, one at a time; the table is judged first each time. */
-struct just_count_answer just_table_count(const uint8_t *table, size_t length, uint32_t glyphs);
-struct just_sizes_answer just_table_sizes(const uint8_t *table, size_t length, uint32_t glyphs, uint32_t direction);
-struct just_class_answer just_table_class(const uint8_t *table, size_t length, uint32_t glyphs, uint32_t direction,
+struct just_count_answer just_table_count(const uint8_t *table, size_t length, uint32_t glyph_count);
+struct just_sizes_answer just_table_sizes(const uint8_t *table, size_t length, uint32_t glyph_count, uint32_t direction);
+struct just_class_answer just_table_class(const uint8_t *table, size_t length, uint32_t glyph_count, uint32_t direction,
                                           uint16_t glyph);
-struct just_cell_answer just_table_cell(const uint8_t *table, size_t length, uint32_t glyphs, uint32_t direction,
+struct just_cell_answer just_table_cell(const uint8_t *table, size_t length, uint32_t glyph_count, uint32_t direction,
                                         uint16_t row, uint16_t just_class);
-struct just_record_answer just_table_record(const uint8_t *table, size_t length, uint32_t glyphs, uint32_t direction,
+struct just_record_answer just_table_record(const uint8_t *table, size_t length, uint32_t glyph_count, uint32_t direction,
                                             uint16_t glyph, uint8_t just_class);
-struct just_action_answer just_table_action(const uint8_t *table, size_t length, uint32_t glyphs, uint32_t direction,
+struct just_action_answer just_table_action(const uint8_t *table, size_t length, uint32_t glyph_count, uint32_t direction,
                                             uint16_t glyph, uint16_t number);
 
 /* The value of a glyph in a lookup, as the table has it: an offset; in the action lookup 0 names no list. A find looks
  * at the middle of the units left, the lower of two, stops if it covers the glyph, and else keeps the half on the
  * glyph's side. It looks at no unit for 0xFFFF and in formats 0 and 8; a glyph of N or more is looked for and has no
  * value. An absent lookup has no values and no units. The table is judged first each time: looks counts the find alone. */
-struct just_value_answer just_table_value(const uint8_t *table, size_t length, uint32_t glyphs, uint32_t direction,
+struct just_value_answer just_table_value(const uint8_t *table, size_t length, uint32_t glyph_count, uint32_t direction,
                                           uint32_t lookup, uint16_t glyph);
-struct just_units_answer just_table_units(const uint8_t *table, size_t length, uint32_t glyphs, uint32_t direction,
+struct just_units_answer just_table_units(const uint8_t *table, size_t length, uint32_t glyph_count, uint32_t direction,
                                           uint32_t lookup);
 
 /* Where the component list of a type 0 action stands in the table; length 0 where there is none. Never refuses. */
-struct just_stretch just_table_components(const uint8_t *table, size_t length, uint32_t glyphs, uint32_t direction,
+struct just_stretch just_table_components(const uint8_t *table, size_t length, uint32_t glyph_count, uint32_t direction,
                                           uint16_t glyph, uint16_t number);
 
 /* The length of a table's sheet, without writing it. Refuses with 1 to 8. */
-struct just_length_answer just_table_sheet_length(const uint8_t *table, size_t length, uint32_t glyphs);
+struct just_length_answer just_table_sheet_length(const uint8_t *table, size_t length, uint32_t glyph_count);
 
 /* Writes a table's sheet into the first bytes of the room, whatever stood there, and answers their count; the rest
  * of the room stays as it was. Refuses with 1 to 8, or with 16 exactly when the sheet is longer than the room. */
-struct just_length_answer just_write_sheet(const uint8_t *table, size_t length, uint32_t glyphs, uint8_t *room,
-                                           size_t room_length);
+struct just_length_answer just_table_write_sheet(const uint8_t *table, size_t length, uint32_t glyph_count, uint8_t *room,
+                                                 size_t room_length);
 
 /* Justifies one line.
  *

@@ -3,15 +3,7 @@
 use crate::refusal::Refusal;
 use just_raw::{self as raw, Asked};
 
-pub use raw::{Limits, Sizes};
-
-/// The two directions of a table.
-#[derive(Clone, Copy, Debug, PartialEq, Eq, Hash)]
-#[repr(u32)]
-pub enum Direction {
-    Horizontal = 0,
-    Vertical = 1,
-}
+pub use raw::{Direction, Limits, Sizes};
 
 /// What a cell of the class machine holds: the number of the new row, and flags.
 #[derive(Clone, Copy, Debug, PartialEq, Eq, Hash)]

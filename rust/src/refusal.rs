@@ -4,30 +4,31 @@ use just_raw as raw;
 use std::error::Error;
 use std::fmt;
 
-/// Why a call was refused. The numbers are document 01's.
+/// Why a call was refused.
 #[derive(Clone, Copy, Debug, PartialEq, Eq, Hash, PartialOrd, Ord)]
-#[repr(u32)]
 pub enum Refusal {
-    TableLength = 1,
-    GlyphCount = 2,
-    Version = 3,
-    Outside = 4,
-    BadLookup = 5,
-    BadCluster = 6,
-    BadMachine = 7,
-    BadActions = 8,
-    UnequalLengths = 9,
-    LongLine = 10,
-    PointSize = 11,
-    Advances = 12,
-    UnknownGlyph = 13,
-    EndlessWalk = 14,
-    StageTotal = 15,
-    ShortRoom = 16,
-    NotSheet = 17,
+    TableLength,
+    GlyphCount,
+    Version,
+    Outside,
+    BadLookup,
+    BadCluster,
+    BadMachine,
+    BadActions,
+    UnequalLengths,
+    LongLine,
+    PointSize,
+    Advances,
+    UnknownGlyph,
+    EndlessWalk,
+    StageTotal,
+    ShortRoom,
+    NotSheet,
+    /// A number that a later library gives and this layer does not know.
+    Unknown(u32),
 }
 
-/// Each refusal with what it means, by number.
+/// Each refusal with what it means, in the order of document 01's numbers, from 1.
 const MEANINGS: [(Refusal, &str); 17] = [
     (Refusal::TableLength, "the table's length is outside 10 to 32,768 bytes"),
     (Refusal::GlyphCount, "the glyph count is outside 1 to 65,535"),
@@ -55,19 +56,27 @@ impl Refusal {
     /// assert_eq!(just::Refusal::EndlessWalk.number(), 14);
     /// ```
     pub fn number(self) -> u32 {
-        self as u32
+        match (self, self.place()) {
+            (Refusal::Unknown(number), _) => number,
+            (_, place) => place as u32 + 1,
+        }
+    }
+
+    /// Its place among the known ones; past them for one that is not known.
+    fn place(self) -> usize {
+        MEANINGS.iter().position(|(refusal, _)| *refusal == self).unwrap_or(MEANINGS.len())
     }
 
     /// What it means, in words.
     pub fn meaning(self) -> &'static str {
-        MEANINGS[self as usize - 1].1
+        MEANINGS.get(self.place()).map_or("a refusal that is not known here", |(_, meaning)| meaning)
     }
 
     /// What a call's number says: 0 is no refusal.
     pub(crate) fn of(number: u32) -> Result<(), Refusal> {
-        match number {
-            0 => Ok(()),
-            _ => Err(MEANINGS[number as usize - 1].0),
+        match number.checked_sub(1) {
+            None => Ok(()),
+            Some(place) => Err(MEANINGS.get(place as usize).map_or(Refusal::Unknown(number), |(refusal, _)| *refusal)),
         }
     }
 
@@ -96,6 +105,14 @@ mod tests {
             assert_eq!(refusal.number() as usize, place + 1);
             assert_eq!(Refusal::of(refusal.number()), Err(refusal));
             assert_eq!(refusal.to_string(), format!("refused {}: {meaning}", place + 1));
+        }
+    }
+
+    #[test]
+    fn a_number_that_is_not_known_is_no_panic() {
+        for number in [18, u32::MAX] {
+            assert_eq!(Refusal::of(number), Err(Refusal::Unknown(number)));
+            assert_eq!(Refusal::Unknown(number).number(), number);
         }
     }
 }

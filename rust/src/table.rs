@@ -4,15 +4,7 @@ use crate::parts::{Accepted, Direction};
 use crate::refusal::Refusal;
 use just_raw::{self as raw, Asked};
 
-pub use raw::Units;
-
-/// A direction's two lookups: from glyphs to width records, and from glyphs to actions.
-#[derive(Clone, Copy, Debug, PartialEq, Eq, Hash)]
-#[repr(u32)]
-pub enum Lookup {
-    Width = 0,
-    Action = 1,
-}
+pub use raw::{Lookup, Units};
 
 /// What a find in a lookup gives: the glyph's value, if it has one, and how many of the lookup's units were looked at.
 #[derive(Clone, Copy, Debug, PartialEq, Eq, Hash)]

@@ -414,7 +414,7 @@ pub extern "C" fn just_table_sheet_length(table: &[u8], glyphs: u32) -> JustLeng
 
 // Writes the sheet of a table into the first bytes of the room; a refusal changes nothing.
 #[no_mangle]
-pub extern "C" fn just_write_sheet(table: &[u8], glyphs: u32, room: &mut [u8]) -> JustLength
+pub extern "C" fn just_table_write_sheet(table: &[u8], glyphs: u32, room: &mut [u8]) -> JustLength
     ensures { λ r. ⌜ record { answer = r; room = now (room .exit) } ≡ outcomeIn (written (now (table .entry)) glyphs (now (room .entry))) ⌝ }
 {
     written_out(sheet_write::write_sheet(table, glyphs, room))

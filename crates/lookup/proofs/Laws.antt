@@ -121,14 +121,10 @@ module _ (t : List ℕ) (glyphs at f : ℕ) (i : inside t at 2 ≡ Clear) (r : f
 
 -- ---- the unit that covers a glyph, `f` and `l` being its first and last glyph as they were read
 
-module _ (t : List ℕ) (format glyph p f : ℕ) (r : f ≡ firstOf t format p) where
-  pub covers-low : glyph < f → covers t format glyph p ≡ false
-  unfolding covers
-  covers-low h = simp (← r, lt-leb f glyph h)
-
-  pub covers-high : (l : ℕ) → l ≡ lastOf t p → f ≤ glyph → covers t format glyph p ≡ leb glyph l
-  unfolding covers
-  covers-high l s h = simp (← r, ← s, le-leb f glyph h)
+pub covers-high : (t : List ℕ) (format glyph p f : ℕ) → f ≡ firstOf t format p → (l : ℕ) → l ≡ lastOf t p → f ≤ glyph
+    → covers t format glyph p ≡ leb glyph l
+unfolding covers
+covers-high t format glyph p f r l s h = simp (← r, ← s, le-leb f glyph h)
 
 module _ (t : List ℕ) (format at glyph : ℕ) where
   pub units-here : (n p : ℕ) → 0 < n → covers t format glyph p ≡ true

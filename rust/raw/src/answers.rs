@@ -1,6 +1,23 @@
 //! What the calls answer. The header's structs for answers all begin with a refusal, and those for parts go on with
 //! `found`; here both are said once, for whatever follows.
 
+/// The two directions of a table. A call takes the number: 0 is horizontal, any other vertical.
+#[derive(Clone, Copy, Debug, PartialEq, Eq, Hash)]
+#[repr(u32)]
+pub enum Direction {
+    Horizontal = 0,
+    Vertical = 1,
+}
+
+/// A direction's two lookups: from glyphs to width records, and from glyphs to actions. A call takes the number: 0 is the
+/// width lookup, any other the action lookup.
+#[derive(Clone, Copy, Debug, PartialEq, Eq, Hash)]
+#[repr(u32)]
+pub enum Lookup {
+    Width = 0,
+    Action = 1,
+}
+
 /// The number of a refusal and zeros, or 0 and what is said.
 #[derive(Clone, Copy, Debug, PartialEq, Eq)]
 #[repr(C)]

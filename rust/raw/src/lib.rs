@@ -12,10 +12,15 @@ mod line;
 mod sheet;
 mod table;
 
-pub use answers::{Action, Answer, Entry, Flags, Found, Limits, Pair, Part, Sizes, Stretch, Units, Value};
+pub use answers::{
+    Action, Answer, Direction, Entry, Flags, Found, Limits, Lookup, Pair, Part, Sizes, Stretch, Units, Value,
+};
 pub use line::{Lent, Line, Said, Verdict};
 pub use sheet::Sheet;
 pub use table::Table;
+
+/// The version of the C header that these functions follow.
+pub const VERSION: u32 = 2;
 
 /// What is asked for the parts of its meaning: a table or a sheet. It is judged first each time.
 ///

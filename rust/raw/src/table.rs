@@ -15,7 +15,13 @@ extern "C" {
     fn just_table_units(table: *const u8, length: usize, n: u32, way: u32, lookup: u32) -> Answer<Units>;
     fn just_table_components(table: *const u8, length: usize, n: u32, way: u32, glyph: u16, number: u16) -> Stretch;
     fn just_table_sheet_length(table: *const u8, length: usize, n: u32) -> Answer<u32>;
-    fn just_write_sheet(table: *const u8, length: usize, n: u32, room: *mut u8, room_length: usize) -> Answer<u32>;
+    fn just_table_write_sheet(
+        table: *const u8,
+        length: usize,
+        n: u32,
+        room: *mut u8,
+        room_length: usize,
+    ) -> Answer<u32>;
 }
 
 /// A table, and the glyph count that it is read with.
@@ -61,7 +67,7 @@ impl Table<'_> {
     /// Writes the table's sheet into the first bytes of the room and answers their count.
     pub fn write_sheet(self, room: &mut [u8]) -> Answer<u32> {
         let (table, length, n) = self.lent();
-        unsafe { just_write_sheet(table, length, n, room.as_mut_ptr(), room.len()) }
+        unsafe { just_table_write_sheet(table, length, n, room.as_mut_ptr(), room.len()) }
     }
 
     /// Pointer, length and glyph count, as every call takes a table.

@@ -1,7 +1,7 @@
 use Rattle.just_c.proofs.Laws.{outcome-given}
 use borrow.Author.Needs.{needs}
-use Rattle.just_c.proofs.just_write_sheet.Statement.{statement}
-use Rattle.just_c.proofs.just_write_sheet.Tie as tie
+use Rattle.just_c.proofs.just_table_write_sheet.Statement.{statement}
+use Rattle.just_c.proofs.just_table_write_sheet.Tie as tie
 
 write-sheet-requires : tie.Need-write-sheet-requires
 write-sheet-requires c κs = search needs
@@ -15,6 +15,6 @@ same-length c = search needs
 returns : tie.Need-returns
 returns c = outcome-given _ _ _ _ (c .written-out .ensures) (c .before .before .before .write-sheet .ensures)
 
-pub just-write-sheet-spec : {M : Type 1} → statement M
-just-write-sheet-spec =
+pub just-table-write-sheet-spec : {M : Type 1} → statement M
+just-table-write-sheet-spec =
     tie.close (tie.spec write-sheet-requires written-out-requires same-length returns)
