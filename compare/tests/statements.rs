@@ -1,5 +1,5 @@
-//! docs/STATEMENTS.md names files and what stands in them: each file exists, and each name that stands before "in FILE"
-//! stands in that file.
+//! docs/STATEMENTS.md and docs/WRONG-PROGRAMS.md name files and what stands in them: each file exists, and each name that
+//! stands before "in FILE" stands in that file. Every must-fail edit is named on the second page.
 
 use std::path::Path;
 
@@ -16,9 +16,32 @@ fn names(text: &str) -> Vec<&str> {
     text.split('`').skip(1).step_by(2).collect()
 }
 
+fn page(path: &str) -> String {
+    std::fs::read_to_string(Path::new(ROOT).join(path)).expect("the page")
+}
+
+/// The must-fail edits of all crates, as paths from the top.
+fn edits() -> Vec<String> {
+    let names = |folder: &str| {
+        let entries = std::fs::read_dir(Path::new(ROOT).join(folder)).into_iter().flatten().flatten();
+        entries.map(|entry| entry.file_name().into_string().expect("a name")).collect::<Vec<_>>()
+    };
+    let folders = names("crates").into_iter().map(|name| format!("crates/{name}/must-fail"));
+    folders.flat_map(|folder| names(&folder).into_iter().map(move |edit| format!("{folder}/{edit}"))).collect()
+}
+
+#[test]
+fn every_edit_is_named() {
+    let page = page("docs/STATEMENTS.md") + &page("docs/WRONG-PROGRAMS.md");
+    let edits = edits();
+    assert!(edits.len() > 50, "there are {} edits", edits.len());
+    let missing: Vec<&String> = edits.iter().filter(|edit| !page.contains(*edit)).collect();
+    assert!(missing.is_empty(), "{missing:?}");
+}
+
 #[test]
 fn files_and_names_are_there() {
-    let page = std::fs::read_to_string(Path::new(ROOT).join("docs/STATEMENTS.md")).expect("the page");
+    let page = page("docs/STATEMENTS.md") + &page("docs/WRONG-PROGRAMS.md");
     let mut wrong = Vec::new();
     let mut seen = 0;
     for cell in page.lines().flat_map(|line| line.split(['|', ';'])) {
