@@ -1,3 +1,4 @@
+-- `actions::action_at` meets its contract.
 use denote.Ref.{now}
 use lib.ListN.{length, take}
 use mathlib.Core.Path.{_∙_, ap}

@@ -1,3 +1,4 @@
+-- `actions::action_fault` meets its contract.
 use mathlib.Core.Path.{sym}
 use Rattle.fields.specs.Laws.{then-of}
 use Rattle.actions.proofs.Steps.{action-past}

@@ -1,3 +1,4 @@
+-- `actions::actions_are_clear` meets its contract.
 use Rattle.actions.proofs.Marks.{both-passing, fewer-clear}
 use mathlib.Core.Bool.{true≢false}
 use mathlib.Core.Path.{sym}

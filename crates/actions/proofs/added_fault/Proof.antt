@@ -1,3 +1,4 @@
+-- `actions::added_fault` meets its contract.
 use mathlib.Core.Path.{sym, _∙_}
 use Rattle.fields.specs.Laws.{then-of}
 use Rattle.actions.proofs.Steps.{added-none, added-some}

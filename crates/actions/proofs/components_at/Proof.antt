@@ -1,3 +1,4 @@
+-- `actions::components_at` meets its contract.
 use mathlib.Core.Path.{sym}
 use Rattle.actions.proofs.Steps.{components-none, components-some}
 use borrow.Author.Needs.{needs}

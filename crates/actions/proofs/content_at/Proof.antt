@@ -1,3 +1,4 @@
+-- `actions::content_at` meets its contract.
 use Rattle.actions.proofs.Copies.{content-plain, content-five}
 use borrow.Author.Needs.{needs}
 use Rattle.actions.proofs.content_at.Statement.{statement}

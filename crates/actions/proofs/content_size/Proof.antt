@@ -1,3 +1,4 @@
+-- `actions::content_size` meets its contract.
 use native.Mathlib.Omega.{arith}
 use Rattle.actions.proofs.Copies.{size-other, size-long, size-some}
 use borrow.Author.Needs.{needs}

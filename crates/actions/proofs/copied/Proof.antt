@@ -1,3 +1,4 @@
+-- `actions::copied` meets its contract.
 use Rattle.lists.specs.Upto.{from}
 use borrow.Author.Needs.{needs}
 use mathlib.Core.Path.{_≡_, refl, _∙_}

@@ -1,3 +1,4 @@
+-- `actions::count_fault` meets its contract.
 use Rattle.fields.specs.Laws.{then-of}
 use Rattle.actions.specs.Faults.{countFault}
 use borrow.Author.Needs.{needs}

@@ -1,3 +1,4 @@
+-- `actions::data_fault` meets its contract.
 use mathlib.Core.Path.{sym, _∙_}
 use Rattle.actions.proofs.Steps.{data-0, data-1, data-2, data-3, data-4, data-5}
 use borrow.Author.Needs.{needs}

@@ -1,3 +1,4 @@
+-- `actions::data_is_clear` meets its contract.
 use mathlib.Core.Path.{sym, _∙_}
 use native.Mathlib.Omega.{arith}
 use mathlib.Core.Bool.{true≢false}

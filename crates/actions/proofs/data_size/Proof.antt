@@ -1,3 +1,4 @@
+-- `actions::data_size` meets its contract.
 use borrow.Author.Needs.{needs}
 use borrow.Author.Tests.{ne-eqb}
 use Rattle.actions.proofs.data_size.Statement.{statement}

@@ -1,3 +1,4 @@
+-- `actions::glyph_fault` meets its contract.
 use Rattle.actions.specs.Faults.{glyphFault}
 use borrow.Author.Needs.{needs}
 use Rattle.actions.proofs.glyph_fault.Statement.{statement}

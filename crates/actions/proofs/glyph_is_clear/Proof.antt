@@ -1,3 +1,4 @@
+-- `actions::glyph_is_clear` meets its contract.
 use mathlib.Core.Path.{sym}
 use mathlib.Core.Bool.{true≢false}
 use borrow.Author.Tests.{ltb-true}

@@ -1,3 +1,4 @@
+-- `actions::length_fault` meets its contract.
 use Rattle.fields.specs.Laws.{then-of}
 use Rattle.actions.specs.Faults.{lengthFault}
 use borrow.Author.Needs.{needs}

@@ -1,3 +1,4 @@
+-- `actions::list_fault` meets its contract.
 use mathlib.Core.Path.{sym, _∙_}
 use native.Mathlib.Omega.{arith}
 use Rattle.fields.specs.Laws.{then-stop, inside-holds}

@@ -1,3 +1,4 @@
+-- `actions::mark_ahead` meets its contract.
 use Rattle.actions.proofs.Marks.{none-passing, both-passing, ahead-passing, first-clear, rest-clear}
 use Rattle.actions.proofs.Steps.{action-begins}
 use Rattle.actions.specs.Marks.{Passing}

@@ -1,3 +1,4 @@
+-- `actions::place_of` meets its contract.
 use mathlib.Core.Path.{sym, _∙_, ap}
 use Rattle.actions.specs.declared.Spot.the-variants.{At}
 use Rattle.actions.proofs.Steps.{place-nowhere, place-there}

@@ -1,3 +1,4 @@
+-- `actions::step_through` meets its contract.
 use Rattle.actions.proofs.Marks.{none-passing, both-passing, one-passing, known-clear, known-all, none-yet, passed-all, passed-next}
 use Rattle.actions.proofs.Steps.{action-begins}
 use Rattle.actions.specs.Marks.{Passing}

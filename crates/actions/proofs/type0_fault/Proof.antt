@@ -1,3 +1,4 @@
+-- `actions::type0_fault` meets its contract.
 use Rattle.fields.specs.Laws.{then-of}
 use Rattle.actions.specs.Faults.{type0Fault}
 use borrow.Author.Needs.{needs}

@@ -1,3 +1,4 @@
+-- `actions::type0_is_clear` meets its contract.
 use mathlib.Core.Path.{sym}
 use native.Mathlib.Omega.{arith}
 use mathlib.Core.Bool.{true≢false}

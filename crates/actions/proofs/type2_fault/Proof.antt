@@ -1,3 +1,4 @@
+-- `actions::type2_fault` meets its contract.
 use Rattle.actions.specs.Faults.{type2Fault}
 use borrow.Author.Needs.{needs}
 use Rattle.actions.proofs.type2_fault.Statement.{statement}

@@ -1,3 +1,4 @@
+-- `actions::type4_fault` meets its contract.
 use Rattle.actions.specs.Faults.{type4Fault}
 use borrow.Author.Needs.{needs}
 use Rattle.actions.proofs.type4_fault.Statement.{statement}

@@ -1,3 +1,4 @@
+-- `actions::type5_fault` meets its contract.
 use Rattle.actions.specs.Faults.{type5Fault}
 use borrow.Author.Needs.{needs}
 use Rattle.actions.proofs.type5_fault.Statement.{statement}

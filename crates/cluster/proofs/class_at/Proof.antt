@@ -1,3 +1,4 @@
+-- `cluster::class_at` meets its contract.
 use Rattle.cluster.specs.Faults.{classAt}
 use Prim.Native.Nat.{ℕ, _%_}
 use mathlib.Core.Path.{ap}

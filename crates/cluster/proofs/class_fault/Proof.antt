@@ -1,3 +1,4 @@
+-- `cluster::class_fault` meets its contract.
 use Rattle.cluster.specs.Faults.{classFault}
 use borrow.Author.Needs.{needs}
 use Rattle.cluster.proofs.class_fault.Statement.{statement}

@@ -1,3 +1,4 @@
+-- `cluster::clear_least` meets its contract.
 use borrow.Author.Tests.{not-false}
 use mathlib.Core.Path.{ap}
 use Prim.Native.Nat.{ℕ, _+_}

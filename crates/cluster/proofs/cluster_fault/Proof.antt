@@ -1,3 +1,4 @@
+-- `cluster::cluster_fault` meets its contract.
 use Rattle.cluster.proofs.Steps.{cluster-low, cluster-high, cluster-pairs}
 use Rattle.cluster.specs.Faults.{clusterFault}
 use Rattle.fields.specs.Laws.{then-stop, inside-holds}

@@ -1,3 +1,4 @@
+-- `cluster::flags_are_clear` meets its contract.
 use mathlib.Core.Path.{sym, ap, _∙_}
 use native.Mathlib.Omega.{arith}
 use mathlib.Core.Bool.{true≢false}

@@ -1,3 +1,4 @@
+-- `cluster::flags_fault` meets its contract.
 use Rattle.cluster.specs.Faults.{flagsFault}
 use borrow.Author.Needs.{needs}
 use Rattle.cluster.proofs.flags_fault.Statement.{statement}

@@ -1,3 +1,4 @@
+-- `cluster::grow_fault` meets its contract.
 use Rattle.cluster.specs.Faults.{growFault}
 use borrow.Author.Needs.{needs}
 use Rattle.cluster.proofs.grow_fault.Statement.{statement}

@@ -1,3 +1,4 @@
+-- `cluster::kept_at` meets its contract.
 use borrow.Author.Needs.{needs}
 use Rattle.cluster.proofs.kept_at.Statement.{statement}
 use Rattle.cluster.proofs.kept_at.Tie as tie

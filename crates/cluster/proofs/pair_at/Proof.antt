@@ -1,3 +1,4 @@
+-- `cluster::pair_at` meets its contract.
 use Rattle.cluster.specs.Pairs.{pairAt}
 use borrow.Author.Needs.{needs}
 use Rattle.cluster.proofs.pair_at.Statement.{statement}

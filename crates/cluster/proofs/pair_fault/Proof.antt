@@ -1,3 +1,4 @@
+-- `cluster::pair_fault` meets its contract.
 use mathlib.Core.Path.{sym}
 use denote.Ref.{now}
 use Rattle.cluster.specs.Faults.{pairFault}

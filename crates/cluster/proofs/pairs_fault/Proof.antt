@@ -1,3 +1,4 @@
+-- `cluster::pairs_fault` meets its contract.
 use Prim.Native.Nat.{ℕ, _+_}
 use borrow.Author.Needs.{needs}
 use mathlib.Core.Path.{_≡_, refl, sym, _∙_, ap}

@@ -1,3 +1,4 @@
+-- `cluster::record_from` meets its contract.
 use borrow.Author.Needs.{needs}
 use mathlib.Core.Option.{some}
 use mathlib.Core.Path.{_≡_, refl, sym, _∙_, ap}

@@ -1,3 +1,4 @@
+-- `cluster::record_of` meets its contract.
 use denote.Ref.{now}
 use mathlib.Core.Path.{_∙_, ap}
 use Prim.Native.Nat.{ℕ, _+_}

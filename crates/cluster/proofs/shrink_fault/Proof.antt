@@ -1,3 +1,4 @@
+-- `cluster::shrink_fault` meets its contract.
 use Rattle.cluster.specs.Faults.{shrinkFault}
 use borrow.Author.Needs.{needs}
 use Rattle.cluster.proofs.shrink_fault.Statement.{statement}

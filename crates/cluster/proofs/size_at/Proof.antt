@@ -1,3 +1,4 @@
+-- `cluster::size_at` meets its contract.
 use borrow.Author.Needs.{needs}
 use Rattle.cluster.proofs.size_at.Statement.{statement}
 use Rattle.cluster.proofs.size_at.Tie as tie

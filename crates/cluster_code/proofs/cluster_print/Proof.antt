@@ -1,3 +1,4 @@
+-- `cluster_code::cluster_print` meets its contract.
 use borrow.Author.Needs.{needs}
 use Rattle.cluster_code.proofs.Laws.{print-more, print-none, print-all}
 use Rattle.cluster_code.specs.Print.{pairsPrint, clusterPrint}

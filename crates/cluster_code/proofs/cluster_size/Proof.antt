@@ -1,3 +1,4 @@
+-- `cluster_code::cluster_size` meets its contract.
 use Rattle.cluster_code.proofs.Laws.{cluster-bytes}
 use native.Mathlib.Omega.{arith}
 use borrow.Author.Needs.{needs}

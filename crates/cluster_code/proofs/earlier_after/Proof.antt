@@ -1,3 +1,4 @@
+-- `cluster_code::earlier_after` meets its contract.
 use Prim.Native.Nat.{_+_}
 use mathlib.Core.Path.{_≡_, sym, subst}
 use mathlib.Core.Bool.{Bool}

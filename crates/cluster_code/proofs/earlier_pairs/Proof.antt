@@ -1,3 +1,4 @@
+-- `cluster_code::earlier_pairs` meets its contract.
 use native.Mathlib.Omega.{arith}
 use Rattle.lists.proofs.DictionaryLaws.{none-before}
 use Rattle.cluster_code.specs.Words.{pairWords}

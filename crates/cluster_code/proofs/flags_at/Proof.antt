@@ -1,3 +1,4 @@
+-- `cluster_code::flags_at` meets its contract.
 use borrow.Author.Needs.{needs}
 use Rattle.cluster_code.proofs.flags_at.Statement.{statement}
 use Rattle.cluster_code.proofs.flags_at.Tie as tie

@@ -1,3 +1,4 @@
+-- `cluster_code::pair_print` meets its contract.
 use mathlib.Core.Path.{ap, _∙_}
 use native.Mathlib.Omega.{arith}
 use Rattle.cluster_code.proofs.Laws.{pair-parts}

@@ -1,3 +1,4 @@
+-- `cluster_code::put_cluster` meets its contract.
 use Rattle.cluster_code.proofs.Laws.{cluster-code}
 use Rattle.cluster.specs.Pairs.{pairsAt}
 use Rattle.meaning.specs.Sheet.{pairCode}

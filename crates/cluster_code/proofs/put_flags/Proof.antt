@@ -1,3 +1,4 @@
+-- `cluster_code::put_flags` meets its contract.
 use Rattle.fields.specs.Stores.{put-two}
 use Rattle.fields.specs.Field.{be16}
 use mathlib.Core.Path.{refl}

@@ -1,3 +1,4 @@
+-- `cluster_code::put_limits` meets its contract.
 use Rattle.fields.specs.Stores.{put-two}
 use Rattle.fields.specs.Field.{be32}
 use mathlib.Core.Path.{refl}

@@ -1,3 +1,4 @@
+-- `cluster_code::put_pairs` meets its contract.
 use borrow.Author.Needs.{needs}
 use Prim.Native.Nat.{_+_, _-_, _*_, _<_}
 use mathlib.Core.Path.{_≡_, ap, sym, _∙_, refl}

@@ -1,3 +1,4 @@
+-- `cluster_code::same_cluster` meets its contract.
 use Rattle.cluster.specs.Pairs.{pairsAt, clusterAt}
 use Rattle.lists.specs.Tests.{Says}
 use Rattle.fields.specs.Field.{u32At}

@@ -1,3 +1,4 @@
+-- `cluster_code::same_limits` meets its contract.
 use Rattle.parts.specs.declared.Limits.{Limits}
 use mathlib.Core.Path.{ap}
 use Rattle.cluster_code.proofs.same_limits.Statement.{statement}

@@ -1,3 +1,4 @@
+-- `cluster_code::same_pair` meets its contract.
 use mathlib.Core.Path.{sym, _∙_}
 use Rattle.cluster_code.proofs.Laws.{fields-of-same, same-of-fields}
 use borrow.Author.Needs.{needs}

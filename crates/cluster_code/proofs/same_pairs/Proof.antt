@@ -1,3 +1,4 @@
+-- `cluster_code::same_pairs` meets its contract.
 use native.Mathlib.Omega.{arith}
 use borrow.Author.Needs.{needs}
 use Rattle.cluster_code.proofs.same_pairs.Statement.{statement}

@@ -1,3 +1,4 @@
+-- `entry_code::index_of` meets its contract.
 use borrow.Author.Needs.{needs}
 use Rattle.number.proofs.Laws.{index-hit, index-miss, index-out}
 use Rattle.machine.specs.Cells.{entryAt}

@@ -1,3 +1,4 @@
+-- `entry_code::number_entries` meets its contract.
 use Rattle.entry_code.proofs.Laws.{Turn, turn-old, turn-new, space, stored-length, stored-is}
 use borrow.Author.Needs.{needs}
 use Rattle.entry_code.specs.Entries.{storedAt, distinctOf}

@@ -1,3 +1,4 @@
+-- `entry_code::number_of` meets its contract.
 use native.Mathlib.Omega.{arith}
 use borrow.Author.Needs.{needs}
 use Rattle.entry_code.proofs.number_of.Statement.{statement}

@@ -1,3 +1,4 @@
+-- `entry_code::put_cells` meets its contract.
 use Rattle.entry_code.proofs.Laws.{stored-length, stored-is, cells-next, cells-none}
 use borrow.Author.Needs.{needs}
 use Rattle.entry_code.specs.Entries.{storedAt, cellBytes}

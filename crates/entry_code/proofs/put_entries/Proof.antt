@@ -1,3 +1,4 @@
+-- `entry_code::put_entries` meets its contract.
 use Rattle.entry_code.proofs.Laws.{entries-next, entries-none}
 use borrow.Author.Needs.{needs}
 use Rattle.entry_code.specs.Entries.{entriesOf}

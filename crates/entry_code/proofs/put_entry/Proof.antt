@@ -1,3 +1,4 @@
+-- `entry_code::put_entry` meets its contract.
 use Rattle.fields.specs.Stores.{put-two}
 use Rattle.fields.specs.Field.{be16}
 use lib.Seq.{sets}

@@ -1,3 +1,4 @@
+-- `entry_code::put_numbered` meets its contract.
 use Rattle.entry_code.proofs.Laws.{entries-bytes, covers, numbered-parts, numbered-length}
 use Rattle.entry_code.specs.Entries.{storedAt, entriesOf, cellBytes}
 use Rattle.meaning.specs.Sheet.{entryCode}

@@ -1,3 +1,4 @@
+-- `entry_code::put_with` meets its contract.
 use Rattle.entry_code.proofs.Laws.{numbered-cut}
 use lib.Seq.{length-take-le}
 use native.Mathlib.Omega.{arith}

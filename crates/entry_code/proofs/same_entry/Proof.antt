@@ -1,3 +1,4 @@
+-- `entry_code::same_entry` meets its contract.
 use Rattle.parts.specs.declared.Entry.{Entry}
 use mathlib.Core.Path.{ap}
 use Rattle.entry_code.proofs.same_entry.Statement.{statement}

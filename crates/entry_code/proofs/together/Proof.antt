@@ -1,3 +1,4 @@
+-- `entry_code::together` meets its contract.
 use Rattle.units.specs.Flags.{entryFlags}
 use Rattle.units.proofs.FlagLaws.{entry-together}
 use native.Mathlib.Omega.{arith}

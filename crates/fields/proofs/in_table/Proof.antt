@@ -1,3 +1,4 @@
+-- `fields::in_table` meets its contract.
 use Rattle.fields.specs.declared.Refusal.the-variants.{Outside}
 use Rattle.fields.specs.Laws.{leb-left, bad-inside}
 use Rattle.fields.specs.Faults.{rule, inside}

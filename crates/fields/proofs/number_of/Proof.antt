@@ -1,3 +1,4 @@
+-- `fields::number_of` meets its contract.
 use mathlib.Core.Path.{sym, ap}
 use Rattle.fields.specs.Refusals.{numberOf}
 use borrow.Author.Needs.{needs}

@@ -1,3 +1,4 @@
+-- `fields::put_u32` meets its contract.
 use mathlib.Core.Path.{_≡_, refl}
 use Prim.Native.Nat.{ℕ, _+_, _/_, _%_}
 use Rattle.fields.specs.Stores.{put-two}

@@ -1,3 +1,4 @@
+-- `fields::put_u32_near_end` meets its contract.
 use Rattle.fields.specs.Field.{be16, be32}
 use Rattle.fields.specs.Stores.{sets-out, put-two}
 use native.Mathlib.Numerals.{add-one}

@@ -1,3 +1,4 @@
+-- `fields::put_u8` meets its contract.
 use mathlib.Core.Path.{sym}
 use lib.Seq.{set-out}
 use borrow.Author.Needs.{needs}

@@ -1,3 +1,4 @@
+-- `fields::ruled` meets its contract.
 use mathlib.Core.Path.{sym}
 use Rattle.fields.specs.Laws.{rule-clear, rule-fails}
 use borrow.Author.Needs.{needs}

@@ -1,3 +1,4 @@
+-- `fields::then` meets its contract.
 use Rattle.fields.specs.Laws.{then-go, then-stop}
 use mathlib.Core.Path.{sym, _∙_}
 use borrow.Author.Needs.{needs}

@@ -1,3 +1,4 @@
+-- `fields::u16_at` meets its contract.
 use Rattle.fields.specs.Laws.{last-byte}
 use denote.Ref.{now}
 use native.Mathlib.Omega.{arith}

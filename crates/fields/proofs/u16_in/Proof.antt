@@ -1,3 +1,4 @@
+-- `fields::u16_in` meets its contract.
 use Rattle.fields.specs.Field.{u16At}
 use Prim.Native.Nat.{_+_}
 use native.Mathlib.Omega.{arith}

@@ -1,3 +1,4 @@
+-- `fields::u32_at` meets its contract.
 use borrow.Author.Needs.{needs}
 use Rattle.fields.proofs.u32_at.Statement.{statement}
 use Rattle.fields.proofs.u32_at.Tie as tie

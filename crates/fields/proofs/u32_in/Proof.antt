@@ -1,3 +1,4 @@
+-- `fields::u32_in` meets its contract.
 use Rattle.fields.specs.Field.{u32At}
 use native.Mathlib.Omega.{arith}
 use borrow.Author.Needs.{needs}

@@ -1,3 +1,4 @@
+-- `fields::u32_near_end` meets its contract.
 use Rattle.fields.specs.Laws.{u32At-past}
 use Rattle.fields.specs.Field.{u32At}
 use denote.Ref.{now}

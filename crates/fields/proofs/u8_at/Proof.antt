@@ -1,3 +1,4 @@
+-- `fields::u8_at` meets its contract.
 use denote.Ref.{now}
 use lib.ListN.{List·getD-eq-default}
 use native.Mathlib.Omega.{arith}

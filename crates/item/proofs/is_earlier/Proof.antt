@@ -1,3 +1,4 @@
+-- `item::is_earlier` meets its contract.
 use Rattle.item.specs.Items.{itemAt, itemWords, Earlier}
 use Rattle.values.specs.declared.Kind.{Kind}
 use Rattle.lists.specs.Tests.{Says}

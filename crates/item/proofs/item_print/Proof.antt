@@ -1,3 +1,4 @@
+-- `item::item_print` meets its contract.
 use mathlib.Core.Path.{ap, sym, _∙_}
 use Rattle.values.specs.declared.Kind.{Kind}
 use Rattle.item.specs.Items.{itemAt, itemPrint}

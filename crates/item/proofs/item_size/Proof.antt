@@ -1,3 +1,4 @@
+-- `item::item_size` meets its contract.
 use Rattle.item.specs.Items.{itemAt, itemCode}
 use Rattle.values.specs.declared.Kind.{Kind}
 use lib.ListN.{length}

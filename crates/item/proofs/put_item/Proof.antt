@@ -1,3 +1,4 @@
+-- `item::put_item` meets its contract.
 use mathlib.Core.Path.{ap, sym, _∙_}
 use lib.Seq.{sets}
 use Rattle.fields.specs.Stores.{sets-out}

@@ -1,3 +1,4 @@
+-- `item::same_item` meets its contract.
 use Rattle.item.specs.Items.{itemAt}
 use Rattle.values.specs.declared.Kind.{Kind}
 use Rattle.lists.specs.Tests.{Says}

@@ -1,3 +1,4 @@
+-- `just_c::action_out` meets its contract.
 use mathlib.Core.Bool.{false}
 use Prim.Native.Nat.{ℕ}
 use Rattle.answers.specs.declared.Sought.{Sought}

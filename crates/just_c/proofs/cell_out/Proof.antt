@@ -1,3 +1,4 @@
+-- `just_c::cell_out` meets its contract.
 use Prim.Native.Nat.{ℕ}
 use Rattle.answers.specs.declared.CellAnswer.{CellAnswer}
 use Rattle.answers.specs.Says.{refused, saysCell}

@@ -1,3 +1,4 @@
+-- `just_c::class_out` meets its contract.
 use Prim.Native.Nat.{ℕ}
 use Rattle.answers.specs.declared.ClassAnswer.{ClassAnswer}
 use Rattle.answers.specs.Says.{refused, saysClass}

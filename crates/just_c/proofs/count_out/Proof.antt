@@ -1,3 +1,4 @@
+-- `just_c::count_out` meets its contract.
 use Prim.Native.Nat.{ℕ}
 use Rattle.answers.specs.declared.CountAnswer.{CountAnswer}
 use Rattle.answers.specs.Says.{refused, saysCount}

@@ -1,3 +1,4 @@
+-- `just_c::just_check_sheet` meets its contract.
 use denote.Ref.{now}
 use Rattle.answers.specs.declared.Checked.the-variants.{Accepted, Refused}
 use Rattle.sheet_read.specs.Check.{SheetChecked}

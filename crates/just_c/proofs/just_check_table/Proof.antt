@@ -1,3 +1,4 @@
+-- `just_c::just_check_table` meets its contract.
 use Rattle.just_c.specs.InC.{checkedNumber}
 use mathlib.Core.Path.{_≡_, refl, sym, ap, _∙_}
 use borrow.Author.Needs.{needs}

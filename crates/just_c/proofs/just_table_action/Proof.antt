@@ -1,3 +1,4 @@
+-- `just_c::just_table_action` meets its contract.
 use denote.Ref.{now}
 use Rattle.meaning.specs.Ask.{ask, along, action}
 use Rattle.table.specs.Means.{meaningOf}

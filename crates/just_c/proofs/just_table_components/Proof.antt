@@ -1,3 +1,4 @@
+-- `just_c::just_table_components` meets its contract.
 use denote.Ref.{now}
 use Rattle.table_parts.specs.Components.{componentsOf}
 use Rattle.parts.specs.declared.Direction.{Direction}

@@ -1,3 +1,4 @@
+-- `just_c::just_table_sheet_length` meets its contract.
 use Rattle.just_c.specs.WriterInC.{lengthIn}
 use mathlib.Core.Path.{_≡_, ap, _∙_}
 use borrow.Author.Needs.{needs}

@@ -1,3 +1,4 @@
+-- `just_c::just_table_sizes` meets its contract.
 use denote.Ref.{now}
 use Rattle.meaning.specs.Ask.{ask, along, sizes, class, cell, width}
 use Rattle.table.specs.Means.{meaningOf}

@@ -1,3 +1,4 @@
+-- `just_c::just_table_write_sheet` meets its contract.
 use Rattle.just_c.proofs.Laws.{outcome-given}
 use borrow.Author.Needs.{needs}
 use Rattle.just_c.proofs.just_table_write_sheet.Statement.{statement}

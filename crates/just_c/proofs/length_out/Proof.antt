@@ -1,3 +1,4 @@
+-- `just_c::length_out` meets its contract.
 use Rattle.sheet_write.specs.Written.{saysLength}
 use Rattle.just_c.proofs.Laws.{length-given, length-refused}
 use mathlib.Core.Path.{ap}

@@ -1,3 +1,4 @@
+-- `just_c::record_out` meets its contract.
 use mathlib.Core.Bool.{false}
 use Rattle.parts.specs.declared.Pair.{Pair}
 use Prim.Native.Nat.{ℕ}

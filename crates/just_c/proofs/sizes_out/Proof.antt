@@ -1,3 +1,4 @@
+-- `just_c::sizes_out` meets its contract.
 use Prim.Native.Nat.{ℕ}
 use Rattle.answers.specs.declared.SizesAnswer.{SizesAnswer}
 use Rattle.answers.specs.Says.{refused, saysSizes}

@@ -1,3 +1,4 @@
+-- `just_c::written_out` meets its contract.
 use Rattle.sheet_write.specs.Written.{saysWritten}
 use Rattle.just_c.proofs.Laws.{length-given, length-refused}
 use mathlib.Core.Path.{ap}

@@ -1,3 +1,4 @@
+-- `just_line::line_out` meets its contract.
 use mathlib.Core.Path.{sym, ap, _∙_}
 use lib.IntN.{ℤ}
 use mir.Syntax.{w32}

@@ -1,3 +1,4 @@
+-- `line_verdicts::begin` meets its contract.
 use Rattle.table_parts.proofs.Steps.{list-found, lists-sound}
 use Rattle.line_verdicts.proofs.Laws.{begins-there, begins-none, spot-below}
 use native.Mathlib.Omega.{arith}

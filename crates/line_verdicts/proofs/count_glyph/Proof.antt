@@ -1,3 +1,4 @@
+-- `line_verdicts::count_glyph` meets its contract.
 use Prim.Native.Nat.{_+_}
 use mathlib.Core.Path.{sym, _∙_}
 use mathlib.Core.List.{[]}

@@ -1,3 +1,4 @@
+-- `line_verdicts::count_verdicts` meets its contract.
 use Prim.Native.Nat.{_+_, _-_, _≤_}
 use mathlib.Core.Path.{_≡_}
 use native.Mathlib.Omega.{arith}

@@ -1,3 +1,4 @@
+-- `line_verdicts::fires_here` meets its contract.
 use Prim.Native.Nat.{_+_}
 use mathlib.Core.Path.{sym, _∙_}
 use Rattle.line_verdicts.proofs.Laws.{other-class, own-class, rest-whole}

@@ -1,3 +1,4 @@
+-- `line_verdicts::fires_once` meets its contract.
 use mathlib.Core.Path.{sym, ap, _∙_}
 use native.Mathlib.Omega.{arith}
 use Rattle.line_verdicts.specs.Cursor.{firesCount}

@@ -1,3 +1,4 @@
+-- `line_verdicts::growth_at` meets its contract.
 use lib.ListN.{getD}
 use lib.IntN.{pos}
 use Rattle.line_verdicts.proofs.Growth.{cast-fits, added-fits, added}

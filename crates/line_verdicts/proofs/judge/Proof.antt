@@ -1,3 +1,4 @@
+-- `line_verdicts::judge` meets its contract.
 use Rattle.line_verdicts.proofs.Laws.{hand-inside, hand-begun}
 use Rattle.line_verdicts.specs.Cursor.{stepOf, judgedAt}
 use Rattle.verdict.specs.declared.Fires.{Fires}

@@ -1,3 +1,4 @@
+-- `line_verdicts::next_here` meets its contract.
 use Rattle.line_verdicts.proofs.Laws.{hand-begun, places, in-places, list-end}
 use native.Mathlib.Omega.{arith}
 use mathlib.Core.Path.{refl}

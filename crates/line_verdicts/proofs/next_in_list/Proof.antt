@@ -1,3 +1,4 @@
+-- `line_verdicts::next_in_list` meets its contract.
 use Rattle.line_verdicts.proofs.Laws.{judged-next, serves-past, list-found, list-pass, list-end}
 use Rattle.line_verdicts.specs.Cursor.{listLeft, Serves}
 use Rattle.line_verdicts.specs.declared.Cursor.{Cursor}

@@ -1,3 +1,4 @@
+-- `line_verdicts::next_verdict` meets its contract.
 use Rattle.line_verdicts.proofs.Laws.{table-short, places, line-found, line-pass, line-begun, line-end}
 use Rattle.line_verdicts.specs.Cursor.{moved, verdictsAt}
 use Rattle.table.specs.Means.{meaningOf}

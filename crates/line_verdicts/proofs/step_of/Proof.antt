@@ -1,3 +1,4 @@
+-- `line_verdicts::step_of` meets its contract.
 use Rattle.line_verdicts.specs.Cursor.{stepOf}
 use Rattle.verdict.specs.declared.Fires.{Fires}
 use mathlib.Core.Path.{sym, ap}

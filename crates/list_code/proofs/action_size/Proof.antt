@@ -1,3 +1,4 @@
+-- `list_code::action_size` meets its contract.
 use Rattle.list_code.proofs.Laws.{action-bytes}
 use native.Mathlib.Omega.{arith}
 use borrow.Author.Needs.{needs}

@@ -1,3 +1,4 @@
+-- `list_code::apart_from` meets its contract.
 use borrow.Author.Needs.{needs}
 use Rattle.list_code.proofs.Laws.{near, same-next, next-same, first-same, actions-cons, actions-read, actions-none}
 use Rattle.list_code.proofs.WordLaws.{action-free}

@@ -1,3 +1,4 @@
+-- `list_code::content_size` meets its contract.
 use Rattle.list_code.proofs.Laws.{size-0, size-other}
 use native.Mathlib.Omega.{arith}
 use borrow.Author.Needs.{needs}

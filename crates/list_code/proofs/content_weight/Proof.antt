@@ -1,3 +1,4 @@
+-- `list_code::content_weight` meets its contract.
 use mathlib.Core.Path.{_∙_}
 use Rattle.list_code.proofs.Laws.{weight-5, weight-plain}
 use borrow.Author.Needs.{needs}

@@ -1,3 +1,4 @@
+-- `list_code::earlier_action` meets its contract.
 use Rattle.list_code.proofs.WordLaws.{class-tells, kind-tells, content-tells}
 use borrow.Author.Needs.{needs}
 use Rattle.list_code.proofs.earlier_action.Statement.{statement}

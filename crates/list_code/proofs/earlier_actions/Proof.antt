@@ -1,3 +1,4 @@
+-- `list_code::earlier_actions` meets its contract.
 use native.Mathlib.Omega.{arith}
 use Rattle.lists.proofs.DictionaryLaws.{none-before}
 use Rattle.list_code.specs.Words.{actionWords}

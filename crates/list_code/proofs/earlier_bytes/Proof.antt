@@ -1,3 +1,4 @@
+-- `list_code::earlier_bytes` meets its contract.
 use borrow.Author.Needs.{needs}
 use Prim.Native.Nat.{_+_, _<_, _^_}
 use mathlib.Core.Path.{sym, _∙_}

@@ -1,3 +1,4 @@
+-- `list_code::earlier_content` meets its contract.
 use Rattle.lists.specs.Codes.{many}
 use Rattle.lists.specs.Sections.{byte}
 use Rattle.lists.proofs.DictionaryLaws.{number-tells}

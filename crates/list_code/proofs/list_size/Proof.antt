@@ -1,3 +1,4 @@
+-- `list_code::list_size` meets its contract.
 use borrow.Author.Needs.{needs}
 use Rattle.list_code.proofs.Laws.{near, size-cons, size-none, list-bytes}
 use Rattle.actions.specs.Actions.{actionsAt, listAt}

@@ -1,3 +1,4 @@
+-- `list_code::put_action` meets its contract.
 use Rattle.list_code.proofs.Laws.{action-code}
 use Rattle.actions.specs.Actions.{contentAt}
 use Rattle.fields.specs.Stores.{put-two}

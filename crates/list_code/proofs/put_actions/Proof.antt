@@ -1,3 +1,4 @@
+-- `list_code::put_actions` meets its contract.
 use borrow.Author.Needs.{needs}
 use Rattle.list_code.proofs.Laws.{near, actions-none, many-cons}
 use Rattle.actions.specs.Actions.{actionAt, actionsAt}

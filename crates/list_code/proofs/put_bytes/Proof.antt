@@ -1,3 +1,4 @@
+-- `list_code::put_bytes` meets its contract.
 use borrow.Author.Needs.{needs}
 use Rattle.list_code.proofs.Laws.{bytes-cons, bytes-none}
 use Rattle.actions.specs.Actions.{bytesAt}

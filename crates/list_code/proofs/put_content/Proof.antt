@@ -1,3 +1,4 @@
+-- `list_code::put_content` meets its contract.
 use Rattle.list_code.proofs.Laws.{content-5, content-plain}
 use Rattle.actions.specs.Actions.{bytesAt}
 use Rattle.fields.specs.Stores.{put-two}

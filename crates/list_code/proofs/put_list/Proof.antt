@@ -1,3 +1,4 @@
+-- `list_code::put_list` meets its contract.
 use Rattle.list_code.proofs.Laws.{list-code}
 use Rattle.actions.specs.Actions.{actionsAt}
 use Rattle.meaning.specs.Sheet.{actionCode}

@@ -1,3 +1,4 @@
+-- `list_code::same_action` meets its contract.
 use mathlib.Core.Bool.{true}
 use mathlib.Core.Path.{refl, sym, _∙_}
 use Rattle.list_code.proofs.Laws.{heads-apart, heads-same, no-data}

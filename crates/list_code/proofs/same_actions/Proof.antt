@@ -1,3 +1,4 @@
+-- `list_code::same_actions` meets its contract.
 use native.Mathlib.Omega.{arith}
 use borrow.Author.Needs.{needs}
 use Rattle.list_code.proofs.same_actions.Statement.{statement}

@@ -1,3 +1,4 @@
+-- `list_code::same_bytes` meets its contract.
 use borrow.Author.Needs.{needs}
 use Prim.Native.Nat.{_+_, _<_, _^_}
 use mathlib.Core.Path.{_≡_, sym, _∙_}

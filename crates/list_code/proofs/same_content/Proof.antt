@@ -1,3 +1,4 @@
+-- `list_code::same_content` meets its contract.
 use Rattle.list_code.proofs.Laws.{same-5, same-plain}
 use lib.ListN.{length}
 use mathlib.Core.Path.{ap, sym, _∙_}

@@ -1,3 +1,4 @@
+-- `list_code::same_each` meets its contract.
 use borrow.Author.Needs.{needs}
 use Rattle.list_code.proofs.Laws.{bytes-none, same-byte, byte-same}
 use Rattle.actions.specs.Actions.{bytesAt}

@@ -1,3 +1,4 @@
+-- `list_code::same_list` meets its contract.
 use Rattle.actions.proofs.Laws.{list-length}
 use Rattle.actions.specs.Actions.{actionsAt, listAt}
 use Rattle.lists.specs.Tests.{Says}

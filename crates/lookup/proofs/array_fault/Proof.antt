@@ -1,3 +1,4 @@
+-- `lookup::array_fault` meets its contract.
 use mathlib.Core.Path.{sym, _∙_}
 use Rattle.lookup.proofs.Laws.{array-room}
 use borrow.Author.Needs.{needs}

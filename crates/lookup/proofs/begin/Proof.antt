@@ -1,3 +1,4 @@
+-- `lookup::begin` meets its contract.
 use native.Mathlib.Omega.{arith}
 use mathlib.Core.Path.{refl}
 use Rattle.lookup.proofs.Pass.{serves-begin}

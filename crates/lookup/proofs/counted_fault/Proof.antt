@@ -1,3 +1,4 @@
+-- `lookup::counted_fault` meets its contract.
 use borrow.Author.Needs.{needs}
 use Rattle.lookup.specs.Lookup.{countedFault}
 use Rattle.fields.specs.Laws.{then-of}

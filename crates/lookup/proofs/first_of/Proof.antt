@@ -1,3 +1,4 @@
+-- `lookup::first_of` meets its contract.
 use mathlib.Core.Path.{sym, _∙_}
 use native.Mathlib.Omega.{arith}
 use Rattle.lookup.proofs.Laws.{size-single, size-range, first-single, first-range}

@@ -1,3 +1,4 @@
+-- `lookup::has_units` meets its contract.
 use mathlib.Core.Path.{sym}
 use Rattle.lookup.proofs.Laws.{units-in-2, units-in-4, units-in-6}
 use Rattle.lookup.proofs.has_units.Statement.{statement}

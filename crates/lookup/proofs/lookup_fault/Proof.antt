@@ -1,3 +1,4 @@
+-- `lookup::lookup_fault` meets its contract.
 use borrow.Author.Needs.{needs}
 use mathlib.Core.Path.{sym, _∙_}
 use Rattle.fields.specs.Laws.{then-stop}

@@ -1,3 +1,4 @@
+-- `lookup::range_fault` meets its contract.
 use Rattle.lookup.specs.Units.{rangeFault}
 use Rattle.fields.specs.Laws.{then-of}
 use mathlib.Core.Path.{_≡_, refl, sym, ap, _∙_}

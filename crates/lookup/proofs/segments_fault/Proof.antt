@@ -1,3 +1,4 @@
+-- `lookup::segments_fault` meets its contract.
 use mathlib.Core.Path.{sym, _∙_}
 use Rattle.fields.specs.Laws.{then-stop, then-go}
 use Rattle.lookup.specs.Lookup.{segmentsFault}

@@ -1,3 +1,4 @@
+-- `lookup::single_fault` meets its contract.
 use mathlib.Core.Path.{sym}
 use Rattle.lookup.specs.Units.{singleFault}
 use borrow.Author.Needs.{needs}

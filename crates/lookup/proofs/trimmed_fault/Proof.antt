@@ -1,3 +1,4 @@
+-- `lookup::trimmed_fault` meets its contract.
 use Rattle.lookup.specs.Lookup.{trimmedFault}
 use borrow.Author.Needs.{needs}
 use Rattle.lookup.proofs.trimmed_fault.Statement.{statement}

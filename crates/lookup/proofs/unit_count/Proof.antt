@@ -1,3 +1,4 @@
+-- `lookup::unit_count` meets its contract.
 use Rattle.lookup.proofs.Laws.{count-some, count-none}
 use mathlib.Core.Path.{sym, _∙_}
 use borrow.Author.Needs.{needs}

@@ -1,3 +1,4 @@
+-- `lookup::unit_fault` meets its contract.
 use mathlib.Core.Path.{sym, _∙_}
 use Rattle.lookup.proofs.Laws.{unit-single, unit-range}
 use borrow.Author.Needs.{needs}

@@ -1,3 +1,4 @@
+-- `lookup::unit_size` meets its contract.
 use borrow.Author.Needs.{needs}
 use mathlib.Core.Path.{sym}
 use Rattle.lookup.proofs.Laws.{size-single, size-range}

@@ -1,3 +1,4 @@
+-- `lookup::values_fault` meets its contract.
 use Rattle.lookup.specs.Units.{valuesFault}
 use borrow.Author.Needs.{needs}
 use Rattle.lookup.proofs.values_fault.Statement.{statement}

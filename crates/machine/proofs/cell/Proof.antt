@@ -1,3 +1,4 @@
+-- `machine::cell` meets its contract.
 use Rattle.machine.specs.Cells.{cellAt}
 use borrow.Author.Needs.{needs}
 use Rattle.machine.proofs.cell.Statement.{statement}

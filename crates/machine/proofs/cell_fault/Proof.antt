@@ -1,3 +1,4 @@
+-- `machine::cell_fault` meets its contract.
 use Rattle.machine.specs.Rows.{cellFault}
 use Rattle.fields.specs.Laws.{then-of}
 use borrow.Author.Needs.{needs}

@@ -1,3 +1,4 @@
+-- `machine::cell_place` meets its contract.
 use native.Mathlib.Omega.{arith}
 use Rattle.machine.proofs.Steps.{place-fits}
 use borrow.Author.Needs.{needs}

@@ -1,3 +1,4 @@
+-- `machine::class_by` meets its contract.
 use mathlib.Core.Path.{sym, ap₂, _∙_}
 use Prim.Native.Nat.{ℕ, _+_, _-_}
 use native.Mathlib.Omega.{arith}

@@ -1,3 +1,4 @@
+-- `machine::class_of` meets its contract.
 use borrow.Author.Needs.{needs}
 use Rattle.machine.proofs.class_of.Statement.{statement}
 use Rattle.machine.proofs.class_of.Tie as tie

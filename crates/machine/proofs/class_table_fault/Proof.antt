@@ -1,3 +1,4 @@
+-- `machine::class_table_fault` meets its contract.
 use Rattle.machine.specs.Machine.{classTableFault}
 use Rattle.fields.specs.Laws.{then-of}
 use borrow.Author.Needs.{needs}

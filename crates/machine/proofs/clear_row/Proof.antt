@@ -1,3 +1,4 @@
+-- `machine::clear_row` meets its contract.
 use mathlib.Core.Path.{_∙_, ap, ap₂}
 use Prim.Native.Nat.{ℕ, _+_, _*_}
 use native.Mathlib.Omega.{arith}

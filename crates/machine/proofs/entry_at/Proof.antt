@@ -1,3 +1,4 @@
+-- `machine::entry_at` meets its contract.
 use Rattle.machine.specs.Cells.{entryAt}
 use native.Mathlib.Nat.{div-le-self}
 use native.Mathlib.Omega.{arith}

@@ -1,3 +1,4 @@
+-- `machine::entry_fault` meets its contract.
 use Rattle.machine.specs.Rows.{entryFault}
 use Rattle.fields.specs.Laws.{then-of}
 use borrow.Author.Needs.{needs}

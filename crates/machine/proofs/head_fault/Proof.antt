@@ -1,3 +1,4 @@
+-- `machine::head_fault` meets its contract.
 use Rattle.machine.specs.Machine.{headFault}
 use Rattle.fields.specs.Laws.{then-of}
 use borrow.Author.Needs.{needs}

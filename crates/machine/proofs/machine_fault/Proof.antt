@@ -1,3 +1,4 @@
+-- `machine::machine_fault` meets its contract.
 use mathlib.Core.Path.{sym, _∙_, ap}
 use Rattle.machine.proofs.Steps.{unless-fault}
 use Rattle.machine.specs.Machine.{machineFault}

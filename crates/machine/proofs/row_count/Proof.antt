@@ -1,3 +1,4 @@
+-- `machine::row_count` meets its contract.
 use mathlib.Core.Path.{_∙_, ap}
 use Rattle.machine.specs.Rows.{countOf, rowCount}
 use borrow.Author.Needs.{needs}

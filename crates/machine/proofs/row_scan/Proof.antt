@@ -1,3 +1,4 @@
+-- `machine::row_scan` meets its contract.
 use borrow.Author.Needs.{needs}
 use Rattle.machine.proofs.row_scan.Statement.{statement}
 use Rattle.machine.proofs.row_scan.Tie as tie

@@ -1,3 +1,4 @@
+-- `machine_code::class_end` meets its contract.
 use Prim.Native.Nat.{ℕ, _+_}
 use mathlib.Core.Path.{ap, sym, subst}
 use native.Mathlib.Omega.{arith}

@@ -1,3 +1,4 @@
+-- `machine_code::put_at` meets its contract.
 use Prim.Native.Nat.{ℕ, _+_, _*_}
 use mathlib.Core.Path.{_≡_, ap, ap₂, _∙_, refl}
 use mathlib.Core.List.{_++_}

@@ -1,3 +1,4 @@
+-- `machine_code::put_class_runs` meets its contract.
 use Rattle.run_code.proofs.Laws.{run-bytes, section-stored}
 use Rattle.machine.specs.Cells.{classAt}
 use Rattle.lists.specs.Upto.{upto}

@@ -1,3 +1,4 @@
+-- `machine_code::put_each` meets its contract.
 use Rattle.machine_code.proofs.Laws.{class-all, class-skipped, class-taken, class-done}
 use Rattle.run_code.specs.RunCode.{lessCode}
 use Rattle.machine.specs.Cells.{classAt}

@@ -1,3 +1,4 @@
+-- `machine_code::put_none` meets its contract.
 use Rattle.fields.specs.Stores.{put-two}
 use Rattle.fields.specs.Field.{be32}
 use native.Mathlib.Omega.{arith}

@@ -1,3 +1,4 @@
+-- `machine_code::put_sizes` meets its contract.
 use Prim.Native.Nat.{_+_}
 use mathlib.Core.Path.{refl}
 use mathlib.Core.List.{_++_}

@@ -1,3 +1,4 @@
+-- `number::earlier_count` meets its contract.
 use borrow.Author.Needs.{needs}
 use Prim.Native.Nat.{ℕ, _+_, _-_, _/_}
 use mathlib.Core.Path.{subst}

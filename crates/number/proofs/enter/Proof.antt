@@ -1,3 +1,4 @@
+-- `number::enter` meets its contract.
 use Prim.Native.Nat.{_+_, _-_, _<_}
 use mathlib.Core.Path.{_≡_, subst}
 use mathlib.Core.Bool.{Bool}

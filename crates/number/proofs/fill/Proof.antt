@@ -1,3 +1,4 @@
+-- `number::fill` meets its contract.
 use borrow.Author.Needs.{needs}
 use Rattle.number.proofs.Laws.{fill-step, fill-end}
 use lib.ListN.{length, take, replicate, length-set}

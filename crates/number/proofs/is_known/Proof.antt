@@ -1,3 +1,4 @@
+-- `number::is_known` meets its contract.
 use borrow.Author.Tests.{eqb-true}
 use mathlib.Core.Bool.{true≢false}
 use mathlib.Core.Path.{sym, _∙_}

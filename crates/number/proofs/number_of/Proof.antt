@@ -1,3 +1,4 @@
+-- `number::number_of` meets its contract.
 use Rattle.number.proofs.Seen.{number-marked, number-most, seen-still, seen-more}
 use Rattle.number.proofs.Kept.{entered-old}
 use Rattle.number.proofs.NoneLaws.{number-none}

@@ -1,3 +1,4 @@
+-- `number::slot_of` meets its contract.
 use Prim.Native.Nat.{ℕ, _%_}
 use mathlib.Core.Path.{ap}
 use native.Mathlib.Nat.{mod-lt}

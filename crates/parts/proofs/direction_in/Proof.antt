@@ -1,3 +1,4 @@
+-- `parts::direction_in` meets its contract.
 use borrow.Author.Tests.{eq-eqb, ne-eqb}
 use mathlib.Core.Path.{sym}
 use Rattle.parts.proofs.direction_in.Statement.{statement}

@@ -1,3 +1,4 @@
+-- `places::known_values` meets its contract.
 use borrow.Author.Needs.{needs}
 use Rattle.places.proofs.Laws.{lead-more, lead-alike}
 use Rattle.places.specs.Places.{Lead}

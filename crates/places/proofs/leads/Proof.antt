@@ -1,3 +1,4 @@
+-- `places::leads` meets its contract.
 use Rattle.places.proofs.Laws.{carries-here}
 use borrow.Author.Needs.{needs}
 use Rattle.places.proofs.leads.Statement.{statement}

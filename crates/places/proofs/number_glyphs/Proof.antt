@@ -1,3 +1,4 @@
+-- `places::number_glyphs` meets its contract.
 use Rattle.places.proofs.Stands.{stands-none, passed}
 use Rattle.places.specs.Places.{glyphItem, OneItem, Stands}
 use Rattle.places.proofs.Laws.{alike-none}

@@ -1,3 +1,4 @@
+-- `places::number_run` meets its contract.
 use Rattle.places.proofs.Stands.{stands-few, seen-agree, stands-next}
 use Rattle.places.proofs.Laws.{run-item, went-on}
 use Rattle.number.specs.Numbered.{Entered}

@@ -1,3 +1,4 @@
+-- `places::run_place` meets its contract.
 use Rattle.places.proofs.Laws.{place-before, place-array, place-one}
 use mathlib.Core.Path.{sym, refl, _∙_}
 use borrow.Author.Needs.{needs}

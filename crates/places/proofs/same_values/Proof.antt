@@ -1,3 +1,4 @@
+-- `places::same_values` meets its contract.
 use Rattle.places.proofs.Laws.{lead-same, noted-alike}
 use borrow.Author.Needs.{needs}
 use Rattle.places.proofs.same_values.Statement.{statement}

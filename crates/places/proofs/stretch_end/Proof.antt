@@ -1,3 +1,4 @@
+-- `places::stretch_end` meets its contract.
 use Rattle.places.proofs.Laws.{alike-before, alike-one, alike-array}
 use borrow.Author.Tests.{not-true, not-false}
 use mathlib.Core.Path.{refl}

@@ -1,3 +1,4 @@
+-- `places::value_place` meets its contract.
 use Prim.Native.Nat.{min}
 use mathlib.Core.Path.{_≡_, ap, sym, _∙_}
 use native.Mathlib.Omega.{arith}

@@ -1,3 +1,4 @@
+-- `pool_code::put_by_format` meets its contract.
 use Rattle.number.proofs.Laws.{getD-zeros}
 use borrow.Author.Needs.{needs}
 use Rattle.pool_code.proofs.put_by_format.Statement.{statement}

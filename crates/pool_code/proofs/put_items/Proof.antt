@@ -1,3 +1,4 @@
+-- `pool_code::put_items` meets its contract.
 use borrow.Author.Needs.{needs}
 use Rattle.pool_code.proofs.Laws.{items-next, items-none, items-length, items-end, item-short}
 use Rattle.number.specs.Numbered.{placed}

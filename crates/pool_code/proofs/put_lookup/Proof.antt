@@ -1,3 +1,4 @@
+-- `pool_code::put_lookup` meets its contract.
 use Rattle.places.specs.declared.Source.the-variants.{Lookup}
 use Rattle.pool_code.proofs.Laws.{tried-again}
 use borrow.Author.Needs.{needs}

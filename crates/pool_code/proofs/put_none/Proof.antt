@@ -1,3 +1,4 @@
+-- `pool_code::put_none` meets its contract.
 use Prim.Native.Nat.{_+_}
 use mathlib.Core.Path.{refl}
 use Rattle.fields.specs.Field.{be32}

@@ -1,3 +1,4 @@
+-- `pool_code::put_pool` meets its contract.
 use mathlib.Core.Path.{sym, subst}
 use Rattle.places.specs.declared.Source.{Source}
 use Rattle.pool_code.specs.Pool.{Ready, Placed}

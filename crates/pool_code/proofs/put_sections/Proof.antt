@@ -1,3 +1,4 @@
+-- `pool_code::put_sections` meets its contract.
 use Prim.Native.Nat.{_+_}
 use mathlib.Core.Path.{ap, sym, _∙_, refl}
 use mathlib.Core.List.{_++_}

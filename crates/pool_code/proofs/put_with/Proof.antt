@@ -1,3 +1,4 @@
+-- `pool_code::put_with` meets its contract.
 use Rattle.pool_code.proofs.Laws.{pass-few, pass-stretches, pass-sections, pass-short, tried-full, tried-done}
 use Rattle.places.specs.declared.Source.the-variants.{Lookup}
 use lib.Seq.{length-take-le}

@@ -1,3 +1,4 @@
+-- `printed::digit` meets its contract.
 use Rattle.printed.specs.Printed.{digitOf}
 use borrow.Author.Tests.{lt-ltb, le-ltb}
 use borrow.Author.Needs.{needs}

@@ -1,3 +1,4 @@
+-- `printed::print_refusal` meets its contract.
 use Rattle.printed.specs.Laws.{decimal-length}
 use Rattle.printed.proofs.Laws.{stored-refusal, number-most}
 use Rattle.printed.specs.Stored.{Printed}

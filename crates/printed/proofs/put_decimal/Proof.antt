@@ -1,3 +1,4 @@
+-- `printed::put_decimal` meets its contract.
 use Rattle.printed.proofs.Laws.{stored-two, decimal-one, decimal-two}
 use lib.Seq.{sets}
 use lib.ListN.{length, set, length-set}

@@ -1,3 +1,4 @@
+-- `printed::put_hex` meets its contract.
 use Rattle.printed.proofs.Laws.{stored-two}
 use lib.ListN.{length-set}
 use native.Mathlib.Omega.{arith}

@@ -1,3 +1,4 @@
+-- `run_code::extend` meets its contract.
 use Rattle.run_code.proofs.Stretch.{extended-new, extended-same}
 use Rattle.lists.specs.Tests.{Says}
 use lib.ListN.{getD}

@@ -1,3 +1,4 @@
+-- `run_code::goes_on` meets its contract.
 use Rattle.run_code.proofs.Stretch.{goes-on}
 use native.Mathlib.Omega.{arith}
 use borrow.Author.Needs.{needs}

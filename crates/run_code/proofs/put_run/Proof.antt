@@ -1,3 +1,4 @@
+-- `run_code::put_run` meets its contract.
 use Rattle.fields.specs.Stores.{put-two}
 use Rattle.fields.specs.Field.{be16}
 use lib.Seq.{sets}

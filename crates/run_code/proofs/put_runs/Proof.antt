@@ -1,3 +1,4 @@
+-- `run_code::put_runs` meets its contract.
 use native.Mathlib.Omega.{arith}
 use Rattle.run_code.specs.Spread.{spread}
 use Rattle.run_code.proofs.Laws.{run-bytes, section-stored}

@@ -1,3 +1,4 @@
+-- `run_code::run_end` meets its contract.
 use borrow.Author.Needs.{needs}
 use Rattle.run_code.proofs.Laws.{stretch-one, stretch-more}
 use lib.ListN.{length, drop, replicate}

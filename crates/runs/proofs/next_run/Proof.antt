@@ -1,3 +1,4 @@
+-- `runs::next_run` meets its contract.
 use mathlib.Core.Path.{sym, _∙_}
 use Rattle.lookup.proofs.Pass.{serves-inside}
 use Rattle.runs.proofs.Laws.{every-follows}

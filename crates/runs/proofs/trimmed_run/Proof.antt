@@ -1,3 +1,4 @@
+-- `runs::trimmed_run` meets its contract.
 use native.Mathlib.Omega.{arith}
 use mathlib.Core.Path.{sym, subst}
 use denote.Ref.{now}

@@ -1,3 +1,4 @@
+-- `runs::unit_place` meets its contract.
 use mathlib.Core.Path.{sym}
 use native.Mathlib.Omega.{arith}
 use Rattle.runs.proofs.Laws.{place-2, place-4, place-6, is-4}

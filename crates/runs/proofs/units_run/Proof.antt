@@ -1,3 +1,4 @@
+-- `runs::units_run` meets its contract.
 use mathlib.Core.Path.{sym, subst, ap}
 use Prim.Native.Nat.{ℕ, _+_}
 use native.Mathlib.Omega.{arith}

@@ -1,3 +1,4 @@
+-- `share::copy_signed` meets its contract.
 use lib.ListN.{length, drop, take, length-set}
 use mir.ValLaws.{toZ-ofZ}
 use mir.Syntax.{w32}

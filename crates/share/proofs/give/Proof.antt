@@ -1,3 +1,4 @@
+-- `share::give` meets its contract.
 use Prim.Native.Nat.{_-_, _≤_}
 use mathlib.Core.Path.{_∙_}
 use lib.ListN.{length}

@@ -1,3 +1,4 @@
+-- `share::give_all` meets its contract.
 use lib.ListN.{length}
 use Prim.Native.Nat.{_+_, _-_, _*_, _≤_}
 use mathlib.Core.Path.{_≡_, ap}

@@ -1,3 +1,4 @@
+-- `share::give_extra` meets its contract.
 use lib.ListN.{length}
 use Prim.Native.Nat.{ℕ, _-_, _≤_}
 use mathlib.Core.List.{List}

@@ -1,3 +1,4 @@
+-- `share::go_back` meets its contract.
 use lib.ListN.{length}
 use Prim.Native.Nat.{_-_, _≤_}
 use mathlib.Core.Path.{refl, ap, _∙_}

@@ -1,3 +1,4 @@
+-- `share::share_extra` meets its contract.
 use lib.ListN.{length}
 use native.Mathlib.Omega.{arith}
 use Rattle.share.specs.Inner.{extrasAt}

@@ -1,3 +1,4 @@
+-- `share::share_in` meets its contract.
 use lib.ListN.{length, length-replicate}
 use mathlib.Core.List.{map}
 use mathlib.Core.Path.{ap, _∙_}

@@ -1,3 +1,4 @@
+-- `share::share_line` meets its contract.
 use lib.ListN.{length}
 use mathlib.Core.List.{List, map}
 use mathlib.Core.Path.{sym, ap, _∙_}

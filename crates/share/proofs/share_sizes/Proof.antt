@@ -1,3 +1,4 @@
+-- `share::share_sizes` meets its contract.
 use native.Mathlib.Omega.{arith}
 use borrow.Author.Needs.{needs}
 use Rattle.share.proofs.Stages.{whole, staged-holds}

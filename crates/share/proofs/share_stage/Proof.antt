@@ -1,3 +1,4 @@
+-- `share::share_stage` meets its contract.
 use native.Mathlib.Omega.{arith}
 use Rattle.share.proofs.Steps.{stage-none, stage-past, stage-within, lent-parts}
 use Rattle.share.proofs.Halves.{moved-total}

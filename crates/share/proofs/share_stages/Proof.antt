@@ -1,3 +1,4 @@
+-- `share::share_stages` meets its contract.
 use lib.ListN.{length}
 use Prim.Native.Nat.{_-_, _≤_}
 use mathlib.Core.Path.{refl, _∙_}

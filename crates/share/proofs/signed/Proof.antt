@@ -1,3 +1,4 @@
+-- `share::signed` meets its contract.
 use borrow.Author.Needs.{needs}
 use Rattle.share.proofs.Signs.{negated-fits, negated, kept}
 use Rattle.share.proofs.signed.Statement.{statement}

@@ -1,3 +1,4 @@
+-- `share::start` meets its contract.
 use Rattle.share.proofs.Runs.{started}
 use Rattle.share.proofs.start.Statement.{statement}
 use Rattle.share.proofs.start.Tie as tie

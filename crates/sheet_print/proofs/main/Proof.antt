@@ -1,3 +1,4 @@
+-- `sheet_print::main` meets its contract.
 use mathlib.Core.Path.{sym, subst}
 use lib.ListN.{length}
 use lib.Seq.{length-take-le}

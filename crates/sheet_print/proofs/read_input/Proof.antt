@@ -1,3 +1,4 @@
+-- `sheet_print::read_input` meets its contract.
 use borrow.Author.Needs.{needs}
 use lib.ListN.{length}
 use mathlib.Core.Path.{_≡_}

@@ -1,3 +1,4 @@
+-- `sheet_text::print_input` meets its contract.
 use native.Mathlib.Omega.{arith}
 use mathlib.Core.Path.{sym, subst}
 use Prim.Native.Nat.{ℕ}

@@ -1,3 +1,4 @@
+-- `sheet_text::print_table` meets its contract.
 use native.Mathlib.Omega.{arith}
 use Prim.Native.Nat.{ℕ}
 use mathlib.Core.Path.{subst}

@@ -1,3 +1,4 @@
+-- `sheet_write::put_again` meets its contract.
 use Prim.Native.Nat.{ℕ, _≤_}
 use mathlib.Core.Path.{ap, sym, _∙_}
 use mathlib.Core.List.{List, _++_}

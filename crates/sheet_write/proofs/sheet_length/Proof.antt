@@ -1,3 +1,4 @@
+-- `sheet_write::sheet_length` meets its contract.
 use mathlib.Core.Path.{sym, _∙_}
 use Rattle.sheet_write.proofs.Laws.{length-bad, length-clear}
 use borrow.Author.Needs.{needs}

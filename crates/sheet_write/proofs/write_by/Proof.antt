@@ -1,3 +1,4 @@
+-- `sheet_write::write_by` meets its contract.
 use Rattle.sheet_write.specs.Written.{sheetOf}
 use Rattle.sheet_write.proofs.Laws.{stored-fits, stored-short, drafted}
 use borrow.Author.Needs.{needs}

@@ -1,3 +1,4 @@
+-- `sheet_write::write_sheet` meets its contract.
 use mathlib.Core.Path.{sym, _∙_}
 use Rattle.sheet_write.proofs.Laws.{written-bad, written-clear}
 use borrow.Author.Needs.{needs}

@@ -1,3 +1,4 @@
+-- `side_write::cluster_source` meets its contract.
 use Rattle.side_write.proofs.Laws.{clusters-none, clusters-some}
 use Rattle.places.specs.declared.Source.the-variants.{Lookup}
 use mathlib.Core.Path.{ap, sym, _∙_}

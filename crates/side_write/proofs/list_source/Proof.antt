@@ -1,3 +1,4 @@
+-- `side_write::list_source` meets its contract.
 use Rattle.side_write.proofs.Laws.{lists-none, lists-zero, lists-some}
 use Rattle.places.specs.declared.Source.the-variants.{Lookup}
 use mathlib.Core.Path.{ap, sym, _∙_}

@@ -1,3 +1,4 @@
+-- `side_write::machine_place` meets its contract.
 use Rattle.side_write.proofs.Laws.{place-none, place-some}
 use native.Mathlib.Omega.{arith}
 use mathlib.Core.Path.{sym, _∙_}

@@ -1,3 +1,4 @@
+-- `side_write::put_side` meets its contract.
 use Prim.Native.Nat.{ℕ}
 use mathlib.Core.Path.{ap, ap₂, sym, _∙_}
 use mathlib.Core.List.{List, _++_}

@@ -1,3 +1,4 @@
+-- `table::action_part` meets its contract.
 use mathlib.Core.Path.{sym, _∙_}
 use Rattle.table.proofs.Laws.{present-none, present-some}
 use Rattle.table.specs.Table.{actionPart}

@@ -1,3 +1,4 @@
+-- `table::check_table` meets its contract.
 use Rattle.answers.specs.Says.{checkedBy}
 use mathlib.Core.Path.{_≡_, refl, sym, ap, _∙_}
 use borrow.Author.Needs.{needs}

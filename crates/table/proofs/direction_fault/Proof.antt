@@ -1,3 +1,4 @@
+-- `table::direction_fault` meets its contract.
 use mathlib.Core.Path.{sym, _∙_}
 use Rattle.table.proofs.Laws.{present-none, present-some}
 use Rattle.fields.specs.Laws.{then-stop, then-go}

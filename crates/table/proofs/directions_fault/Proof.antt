@@ -1,3 +1,4 @@
+-- `table::directions_fault` meets its contract.
 use mathlib.Core.Path.{sym, ap, _∙_}
 use Rattle.fields.specs.Laws.{then-stop, then-go}
 use Rattle.table.specs.Table.{directionFault}

@@ -1,3 +1,4 @@
+-- `table::fault_by` meets its contract.
 use Rattle.table.proofs.Laws.{few-glyphs}
 use Rattle.table.specs.Table.{tableFault}
 use Rattle.fields.specs.Laws.{then-stop, then-go}

@@ -1,3 +1,4 @@
+-- `table::header_fault` meets its contract.
 use Rattle.table.specs.Table.{headerFault}
 use Rattle.fields.specs.Laws.{then-of}
 use borrow.Author.Needs.{needs}

@@ -1,3 +1,4 @@
+-- `table::machine_part` meets its contract.
 use Rattle.table.specs.Table.{machinePart}
 use Rattle.table.proofs.Laws.{present-none, present-some}
 use mathlib.Core.Path.{_≡_, refl, sym, ap, _∙_}

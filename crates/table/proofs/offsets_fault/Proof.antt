@@ -1,3 +1,4 @@
+-- `table::offsets_fault` meets its contract.
 use Rattle.table.specs.Table.{offsetsFault}
 use Rattle.fields.specs.Laws.{then-of}
 use borrow.Author.Needs.{needs}

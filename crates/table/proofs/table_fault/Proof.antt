@@ -1,3 +1,4 @@
+-- `table::table_fault` meets its contract.
 use Rattle.values.proofs.Laws.{none-judged}
 use borrow.Author.Needs.{needs}
 use Rattle.table.proofs.table_fault.Statement.{statement}

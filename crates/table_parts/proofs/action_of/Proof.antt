@@ -1,3 +1,4 @@
+-- `table_parts::action_of` meets its contract.
 use Rattle.table_parts.proofs.Asked.{action-here}
 use Rattle.table_parts.proofs.Steps.{below-at}
 use Rattle.answers.proofs.Laws.{held-is}

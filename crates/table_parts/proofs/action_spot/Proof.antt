@@ -1,3 +1,4 @@
+-- `table_parts::action_spot` meets its contract.
 use Rattle.table_parts.proofs.Steps.{below-at}
 use Rattle.table_parts.specs.Places.{numbered, actionSpot}
 use denote.Ref.{now}

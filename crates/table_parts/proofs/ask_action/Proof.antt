@@ -1,3 +1,4 @@
+-- `table_parts::ask_action` meets its contract.
 use Rattle.table_parts.proofs.Laws.{answered}
 use Rattle.table_parts.proofs.Steps.{judged}
 use Rattle.answers.specs.declared.ActionAnswer.{ActionAnswer}

@@ -1,3 +1,4 @@
+-- `table_parts::ask_count` meets its contract.
 use Rattle.meaning.specs.Ask.{ask}
 use Rattle.table.specs.Means.{meaningOf}
 use Rattle.table_parts.proofs.Steps.{judged}

@@ -1,3 +1,4 @@
+-- `table_parts::cell_of` meets its contract.
 use Rattle.table_parts.proofs.Asked.{no-cell, row-past, column-past, cell-is}
 use Rattle.answers.specs.Says.{given}
 use Rattle.meaning.specs.Ask.{entry}

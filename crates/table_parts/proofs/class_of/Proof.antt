@@ -1,3 +1,4 @@
+-- `table_parts::class_of` meets its contract.
 use native.Mathlib.Omega.{arith}
 use Rattle.table_parts.proofs.Asked.{class-past, no-class, class-is}
 use Rattle.answers.specs.Says.{given}

@@ -1,3 +1,4 @@
+-- `table_parts::cluster_spot` meets its contract.
 use Rattle.table_parts.proofs.Steps.{cluster-found, clusters-sound}
 use mathlib.Core.Path.{_∙_}
 use borrow.Author.Needs.{needs}

@@ -1,3 +1,4 @@
+-- `table_parts::clusters_in` meets its contract.
 use Rattle.table_parts.proofs.Steps.{clusters-absent, clusters-there}
 use mathlib.Core.Path.{sym}
 use native.Mathlib.Omega.{arith}

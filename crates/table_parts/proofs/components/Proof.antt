@@ -1,3 +1,4 @@
+-- `table_parts::components` meets its contract.
 use Rattle.table_parts.proofs.Laws.{Within, components-within}
 use Rattle.table_parts.specs.Components.{stretch}
 use native.Mathlib.Omega.{arith}

@@ -1,3 +1,4 @@
+-- `table_parts::components_at` meets its contract.
 use Rattle.table_parts.proofs.Steps.{below-at, unfaulted}
 use Rattle.table_parts.specs.Components.{componentsHere, componentsOf}
 use denote.Ref.{now}

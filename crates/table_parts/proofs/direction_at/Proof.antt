@@ -1,3 +1,4 @@
+-- `table_parts::direction_at` meets its contract.
 use Rattle.table_parts.specs.Places.{directionAt}
 use denote.Ref.{now}
 use mathlib.Core.Path.{sym, ap, _∙_}

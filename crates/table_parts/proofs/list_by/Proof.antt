@@ -1,3 +1,4 @@
+-- `table_parts::list_by` meets its contract.
 use Rattle.table_parts.proofs.Steps.{there-ready, there-base, spot-there}
 use Rattle.values.specs.declared.Kind.the-variants.{Lists}
 use native.Mathlib.Omega.{arith}

@@ -1,3 +1,4 @@
+-- `table_parts::list_spot` meets its contract.
 use Rattle.table_parts.proofs.Steps.{list-found, lists-sound}
 use mathlib.Core.Path.{_∙_}
 use borrow.Author.Needs.{needs}

@@ -1,3 +1,4 @@
+-- `table_parts::lists_in` meets its contract.
 use Rattle.table_parts.proofs.Steps.{lists-absent, lists-none, lists-there}
 use mathlib.Core.Path.{sym}
 use native.Mathlib.Omega.{arith}

@@ -1,3 +1,4 @@
+-- `table_parts::machine_in` meets its contract.
 use Rattle.table_parts.proofs.Steps.{machine-absent, machine-there}
 use mathlib.Core.Path.{sym, _∙_}
 use borrow.Author.Needs.{needs}

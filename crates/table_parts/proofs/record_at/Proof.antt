@@ -1,3 +1,4 @@
+-- `table_parts::record_at` meets its contract.
 use Rattle.cluster.specs.Pairs.{soughtPair}
 use Rattle.answers.specs.Says.{given}
 use Rattle.meaning.specs.Ask.{pair, maybe}

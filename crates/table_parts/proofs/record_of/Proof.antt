@@ -1,3 +1,4 @@
+-- `table_parts::record_of` meets its contract.
 use Rattle.table_parts.proofs.Asked.{record-here}
 use Rattle.table_parts.proofs.Steps.{below-at}
 use Rattle.answers.specs.Says.{given}

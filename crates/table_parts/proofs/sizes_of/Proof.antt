@@ -1,3 +1,4 @@
+-- `table_parts::sizes_of` meets its contract.
 use Rattle.table_parts.proofs.Asked.{no-sizes, sizes-are}
 use Rattle.table_parts.proofs.Rows.{rows-most}
 use Rattle.answers.specs.Says.{given}

@@ -1,3 +1,4 @@
+-- `units::current_class` meets its contract.
 use native.Mathlib.Omega.{arith}
 use lib.Bits.{and-mask}
 use Rattle.units.proofs.current_class.Statement.{statement}

@@ -1,3 +1,4 @@
+-- `units::entry_flags` meets its contract.
 use Rattle.units.proofs.Laws.{entry-put}
 use borrow.Author.Needs.{needs}
 use Rattle.units.proofs.entry_flags.Statement.{statement}

@@ -1,3 +1,4 @@
+-- `units::factor` meets its contract.
 use Rattle.units.proofs.Laws.{factor-below, factor-above, factor-fits, factor-is}
 use Prim.Native.Nat.{ℕ}
 use borrow.Author.Needs.{needs}

@@ -1,3 +1,4 @@
+-- `units::fixed` meets its contract.
 use Rattle.units.proofs.Laws.{fixed-fits, fixed-low, fixed-high}
 use borrow.Author.Needs.{needs}
 use Rattle.units.proofs.fixed.Statement.{statement}

@@ -1,3 +1,4 @@
+-- `units::fixed_size` meets its contract.
 use Rattle.units.proofs.Laws.{size-low, size-high-is}
 use mathlib.Core.Path.{sym}
 use borrow.Author.Needs.{needs}

@@ -1,3 +1,4 @@
+-- `units::is_unlimited` meets its contract.
 use Prim.Native.Nat.{_/_}
 use lib.Bits.{and-mask}
 use Rattle.units.proofs.is_unlimited.Statement.{statement}

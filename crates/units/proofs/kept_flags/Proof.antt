@@ -1,3 +1,4 @@
+-- `units::kept_flags` meets its contract.
 use Rattle.units.specs.Flags.{widthFlags}
 use mathlib.Core.Path.{_∙_, ap₂}
 use borrow.Author.Needs.{needs}

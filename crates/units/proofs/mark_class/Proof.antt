@@ -1,3 +1,4 @@
+-- `units::mark_class` meets its contract.
 use Prim.Native.Nat.{_/_}
 use native.Mathlib.Omega.{arith}
 use lib.Bits.{and-mask}

@@ -1,3 +1,4 @@
+-- `units::priority` meets its contract.
 use native.Mathlib.Omega.{arith}
 use lib.Bits.{and-mask}
 use Rattle.units.proofs.priority.Statement.{statement}

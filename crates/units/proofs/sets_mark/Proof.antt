@@ -1,3 +1,4 @@
+-- `units::sets_mark` meets its contract.
 use Prim.Native.Nat.{_/_}
 use lib.Bits.{and-mask}
 use Rattle.units.proofs.sets_mark.Statement.{statement}

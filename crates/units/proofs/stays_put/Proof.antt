@@ -1,3 +1,4 @@
+-- `units::stays_put` meets its contract.
 use Prim.Native.Nat.{_/_}
 use lib.Bits.{and-mask}
 use Rattle.units.proofs.stays_put.Statement.{statement}

@@ -1,3 +1,4 @@
+-- `units::width_flags` meets its contract.
 use Rattle.units.proofs.Laws.{width-put}
 use borrow.Author.Needs.{needs}
 use Rattle.units.proofs.width_flags.Statement.{statement}

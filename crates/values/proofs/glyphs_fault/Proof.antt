@@ -1,3 +1,4 @@
+-- `values::glyphs_fault` meets its contract.
 use borrow.Author.Needs.{needs}
 use lib.ListN.{length}
 use native.Mathlib.Omega.{arith}

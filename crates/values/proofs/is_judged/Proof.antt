@@ -1,3 +1,4 @@
+-- `values::is_judged` meets its contract.
 use Rattle.values.proofs.Laws.{told-at, told-nowhere}
 use Rattle.values.specs.Values.{Tells}
 use mathlib.Core.Path.{_∙_, sym, subst}

@@ -1,3 +1,4 @@
+-- `values::item_fault` meets its contract.
 use mathlib.Core.Path.{_∙_, ap, sym}
 use denote.Ref.{now}
 use Rattle.values.proofs.Laws.{actions-judged}

@@ -1,3 +1,4 @@
+-- `values::judge` meets its contract.
 use Rattle.values.proofs.Laws.{item-judged}
 use Rattle.values.specs.Values.{besides}
 use mathlib.Core.Path.{_∙_, sym, ap}

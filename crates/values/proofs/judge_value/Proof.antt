@@ -1,3 +1,4 @@
+-- `values::judge_value` meets its contract.
 use denote.Ref.{now}
 use mathlib.Core.Path.{refl, _∙_, sym}
 use Rattle.values.proofs.Laws.{place-of}

@@ -1,3 +1,4 @@
+-- `values::list_spot` meets its contract.
 use Rattle.values.proofs.Laws.{list-nowhere, list-at}
 use mathlib.Core.Path.{sym}
 use borrow.Author.Needs.{needs}

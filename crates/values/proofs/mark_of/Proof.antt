@@ -1,3 +1,4 @@
+-- `values::mark_of` meets its contract.
 use Rattle.values.specs.declared.Kind.{Kind}
 use Rattle.values.specs.Values.{besides}
 use mathlib.Core.Path.{ap, sym}

@@ -1,3 +1,4 @@
+-- `values::note` meets its contract.
 use Rattle.values.proofs.Laws.{noted-none, noted-one}
 use native.Mathlib.Omega.{arith}
 use borrow.Author.Needs.{needs}

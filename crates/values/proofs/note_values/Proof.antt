@@ -1,3 +1,4 @@
+-- `values::note_values` meets its contract.
 use Rattle.values.proofs.Laws.{noted-none, noted-more}
 use Rattle.values.specs.Values.{Noted}
 use native.Mathlib.Omega.{arith}

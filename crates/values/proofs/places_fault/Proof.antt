@@ -1,3 +1,4 @@
+-- `values::places_fault` meets its contract.
 use Rattle.values.proofs.Laws.{part-passed, part-known, part-stops, noted-ahead}
 use Rattle.values.specs.Values.{placeFault, Judged, Ahead}
 use Rattle.fields.specs.Walk.{each, walk-none}

@@ -1,3 +1,4 @@
+-- `values::run_fault` meets its contract.
 use Rattle.values.proofs.Laws.{one-value, array-values}
 use Rattle.values.specs.Values.{placeFault}
 use denote.Ref.{now}

@@ -1,3 +1,4 @@
+-- `values::shared_fault` meets its contract.
 use borrow.Author.Needs.{needs}
 use Rattle.values.proofs.Laws.{none-ahead}
 use Rattle.values.proofs.shared_fault.Statement.{statement}

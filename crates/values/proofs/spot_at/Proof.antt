@@ -1,3 +1,4 @@
+-- `values::spot_at` meets its contract.
 use Prim.Native.Nat.{ℕ}
 use mathlib.Core.Path.{_∙_, ap}
 use Rattle.values.specs.Values.{spotOf}

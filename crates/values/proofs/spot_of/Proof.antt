@@ -1,3 +1,4 @@
+-- `values::spot_of` meets its contract.
 use Rattle.lookup.specs.declared.Found.{Found}
 use Rattle.values.specs.declared.Kind.{Kind}
 use Rattle.values.specs.Values.{spotOf}

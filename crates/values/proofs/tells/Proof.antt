@@ -1,3 +1,4 @@
+-- `values::tells` meets its contract.
 use borrow.Author.Tests.{eqb-true}
 use mathlib.Core.Path.{subst, sym}
 use Rattle.values.specs.Values.{Tells}

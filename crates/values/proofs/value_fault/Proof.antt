@@ -1,3 +1,4 @@
+-- `values::value_fault` meets its contract.
 use mathlib.Core.Path.{sym}
 use borrow.Author.Needs.{needs}
 use Rattle.values.proofs.value_fault.Statement.{statement}

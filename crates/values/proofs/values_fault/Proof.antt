@@ -1,3 +1,4 @@
+-- `values::values_fault` meets its contract.
 use Rattle.values.proofs.Laws.{none-ahead}
 use Rattle.values.specs.Values.{valuesFault}
 use Rattle.fields.specs.Laws.{then-stop, then-go}

@@ -1,3 +1,4 @@
+-- `verdict::adds_at` meets its contract.
 use borrow.Author.Needs.{needs}
 use mathlib.Core.Bool.{true, false}
 use Rattle.verdict.proofs.Laws.{adds-is}

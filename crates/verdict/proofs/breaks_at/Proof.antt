@@ -1,3 +1,4 @@
+-- `verdict::breaks_at` meets its contract.
 use mathlib.Core.Path.{refl}
 use mathlib.Core.Bool.{true, false}
 use borrow.Author.Needs.{needs}

@@ -1,3 +1,4 @@
+-- `verdict::is_above` meets its contract.
 use borrow.Author.Needs.{needs}
 use Rattle.verdict.proofs.Laws.{is-above}
 use Rattle.verdict.proofs.is_above.Statement.{statement}

@@ -1,3 +1,4 @@
+-- `verdict::is_below` meets its contract.
 use borrow.Author.Needs.{needs}
 use Rattle.verdict.proofs.Laws.{limit-fits, least-fits, is-below}
 use Rattle.verdict.proofs.is_below.Statement.{statement}

@@ -1,3 +1,4 @@
+-- `verdict::kind_fires` meets its contract.
 use mathlib.Core.Path.{_∙_}
 use borrow.Author.Needs.{needs}
 use Rattle.verdict.proofs.Laws.{kind-breaks, kind-adds, kind-substitutes, kind-stretches, kind-none}

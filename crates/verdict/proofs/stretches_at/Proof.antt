@@ -1,3 +1,4 @@
+-- `verdict::stretches_at` meets its contract.
 use borrow.Author.Needs.{needs}
 use Rattle.verdict.proofs.Laws.{stays, moves}
 use Rattle.verdict.proofs.stretches_at.Statement.{statement}

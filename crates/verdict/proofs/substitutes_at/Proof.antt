@@ -1,3 +1,4 @@
+-- `verdict::substitutes_at` meets its contract.
 use mathlib.Core.Bool.{true, false}
 use borrow.Author.Needs.{needs}
 use Rattle.verdict.proofs.Laws.{no-growth, substitutes-is, made}
