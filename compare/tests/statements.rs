@@ -16,6 +16,15 @@ fn names(text: &str) -> Vec<&str> {
     text.split('`').skip(1).step_by(2).collect()
 }
 
+/// Whether a name stands in a text as a word of its own, and not as a part of a longer one.
+fn has_word(text: &str, name: &str) -> bool {
+    let inside = |c: char| c.is_alphanumeric() || "_-'".contains(c);
+    text.match_indices(name).any(|(at, _)| {
+        let (before, after) = (text[..at].chars().next_back(), text[at + name.len()..].chars().next());
+        !before.is_some_and(inside) && !after.is_some_and(inside)
+    })
+}
+
 fn page(path: &str) -> String {
     std::fs::read_to_string(Path::new(ROOT).join(path)).expect("the page")
 }
@@ -56,7 +65,7 @@ fn files_and_names_are_there() {
             };
             seen += 1;
             if before.trim_end().ends_with("in") {
-                let missing = names(before).into_iter().filter(|name| !body.contains(name));
+                let missing = names(before).into_iter().filter(|name| !has_word(&body, name));
                 wrong.extend(missing.map(|name| format!("{path}: no {name}")));
             }
         }
