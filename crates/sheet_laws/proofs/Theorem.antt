@@ -25,7 +25,7 @@ use Rattle.sheet_laws.specs.Outcomes.{Outcomes, Parts, replyTo, Alike}
 use Rattle.sheet_write.specs.Written.{sheetOf}
 use Rattle.sheet_laws.specs.Writing.{SheetBy}
 use Rattle.sheet_laws.specs.Demand3.{Sheet, Demand3}
-use Rattle.sheet_laws.proofs.Written.{the-sheet, measured, never-refused}
+use Rattle.sheet_laws.proofs.Written.{the-sheet, measured, never-refused, a-sheet}
 
 -- an outcome's reply is the part of the meaning that the bytes are written for
 answers : (s : List ℕ) (o : Outcomes) → Parts s o → (q : Question) → Asked q → Answers s q (replyTo o q)
@@ -72,6 +72,7 @@ read-back s (m, v, e) = (m, v, e, (λ m′ v′ e′. one-meaning s m m′ v v�
 pub demand-3 : Demand3
 demand-3 =
     record {
+      some-sheet = λ t n a. (sheetOf t n, a-sheet t n a);
       one-sheet = λ t s s′ n a r r′. the-sheet t n a s r ∙ sym (the-sheet t n a s′ r′);
       sheet-length = λ t n a l e. (
         length (sheetOf t n),

@@ -78,3 +78,16 @@ module _ (t : List ℕ) (n : ℕ) (a : Accepted t n) where
       said-written w (length (sheetOf t n))
       (ap (λ (o : Outcome). o .said)
       (e ∙ sym (written-clear t n before a) ∙ sym (stored-fits (sheetOf t n) before _ (length (sheetOf t n)) refl h refl)))
+
+  -- into a room that is as long as the sheet it is written whole
+  pub a-sheet : SheetBy t n (sheetOf t n)
+  unfolding Accepted
+  a-sheet =
+      let sheet = sheetOf t n in
+      record {
+        before = sheet;
+        after = sheet ++ drop (length sheet) sheet;
+        size = length sheet;
+        run = stored-fits sheet sheet _ (length sheet) refl (omega arith) refl ∙ written-clear t n sheet a;
+        sheet = sym (take-append-seam sheet (drop (length sheet) sheet));
+      }

@@ -28,7 +28,9 @@ abbrev pub Sheet : List ℕ → Type 0
 Sheet s = SheetChecked s Taken
 
 pub record Demand3 : Type 0 where
-  -- each accepted table has one sheet, whatever the lent room held before
+  -- each accepted table has a sheet: lent room enough, the writer writes one
+  pub some-sheet : (t : List ℕ) (n : ℕ) → Accepted t n → (s : List ℕ) × SheetBy t n s
+  -- and one alone, whatever the lent room held before
   pub one-sheet : (t s s′ : List ℕ) (n : ℕ) → Accepted t n → SheetBy t n s → SheetBy t n s′ → s ≡ s′
   -- its length can be asked for; lent that much room or more, the writer is never refused
   pub sheet-length : (t : List ℕ) (n : ℕ) → Accepted t n → (l : LengthAnswer) → Measured t n l
