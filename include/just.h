@@ -87,7 +87,7 @@ struct just_pair {
 /* An action: its data is the first `size` bytes, zeros follow. */
 struct just_action {
     uint16_t just_class;
-    uint16_t kind;
+    uint16_t type;
     uint32_t size;
     uint8_t bytes[76];
 };

@@ -57,10 +57,10 @@ pub fn record(of: impl Asked, way: Direction, glyph: u16, kind: u8) -> Part<(u32
 }
 
 pub fn action(of: impl Asked, way: Direction, glyph: u16, index: u16) -> Part<Action> {
-    let turn = |raw::Action { class, kind, size, bytes }| {
+    let turn = |raw::Action { class, ty, size, bytes }| {
         let (data, rest) = bytes.split_at(size as usize);
         assert!(rest.iter().all(|&byte| byte == 0), "no zeros after an action's data");
-        Action { class, kind, data: data.to_vec() }
+        Action { class, kind: ty, data: data.to_vec() }
     };
     part(of.action(number(way), glyph, index), turn)
 }

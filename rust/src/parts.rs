@@ -83,7 +83,7 @@ pub enum Act {
 
 impl Act {
     /// The number of its type.
-    pub fn kind(&self) -> u16 {
+    pub fn type_number(&self) -> u16 {
         match self {
             Act::Decompose { .. } => 0,
             Act::Add { .. } => 1,
@@ -107,10 +107,10 @@ pub(crate) fn long(bytes: &[u8], at: usize) -> u32 {
 
 impl Action {
     /// An action from its type and data, as sheets and the part calls have them: accepted, and without padding.
-    pub(crate) fn of(class: u16, kind: u16, data: &[u8]) -> Action {
+    pub(crate) fn of(class: u16, ty: u16, data: &[u8]) -> Action {
         let fixed = |at: usize| long(data, at) as i32;
         let glyph = |at: usize| word(data, at);
-        let act = match kind {
+        let act = match ty {
             0 => Act::Decompose {
                 lower: fixed(0),
                 upper: fixed(4),
@@ -187,8 +187,8 @@ impl<T: Accepted> Meaning for T {
     }
 
     fn action(&self, direction: Direction, glyph: u16, number: u16) -> Option<Action> {
-        let raw::Action { class, kind, size, bytes } = part(self.asked().action(direction as u32, glyph, number))?;
-        Some(Action::of(class, kind, &bytes[..size as usize]))
+        let raw::Action { class, ty, size, bytes } = part(self.asked().action(direction as u32, glyph, number))?;
+        Some(Action::of(class, ty, &bytes[..size as usize]))
     }
 }
 

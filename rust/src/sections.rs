@@ -84,8 +84,8 @@ impl Reader<'_> {
     }
 
     fn action(&mut self) -> Action {
-        let (class, kind, size) = (self.word(), self.word(), self.long());
-        Action::of(class, kind, self.take(size as usize))
+        let (class, ty, size) = (self.word(), self.word(), self.long());
+        Action::of(class, ty, self.take(size as usize))
     }
 
     fn side(&mut self) -> Side {

@@ -59,11 +59,11 @@ module _ (t : List ℕ) (glyphs at : ℕ) where
   type5-clear glyph = then-go _ (clear-inside t (at + 8) 2 (omega (arith, glyph-inside t glyphs (at + 10) glyph))) ∙ glyph
 
   -- an action: its fields as they were read; a length that leads to the same place of four is a multiple of four
-  pub action-clear : (class kind size : ℕ) → at + 8 ≤ length t → class ≡ u16At t at → kind ≡ u16At t (at + 2) → size ≡ u32At t (at + 4)
-      → class ≤ 127 → kind ≤ 5 → 8 + dataSize kind ≤ size → (at + size) % 4 ≡ at % 4 → dataFault t glyphs at kind ≡ Clear
+  pub action-clear : (class ty size : ℕ) → at + 8 ≤ length t → class ≡ u16At t at → ty ≡ u16At t (at + 2) → size ≡ u32At t (at + 4)
+      → class ≤ 127 → ty ≤ 5 → 8 + dataSize ty ≤ size → (at + size) % 4 ≡ at % 4 → dataFault t glyphs at ty ≡ Clear
       → actionFault t glyphs at ≡ Clear
   unfolding actionFault lengthFault
-  action-clear class kind size h e f g low few enough whole inner =
+  action-clear class ty size h e f g low few enough whole inner =
       let four : u32At t (at + 4) % 4 ≡ 0 = omega arith in
       then-go _ (clear-inside t at 2 (omega arith))
       ∙ then-go _ (rule-clear BadActions at (le-leb _ _ (rw e at low)))

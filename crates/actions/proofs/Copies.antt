@@ -11,8 +11,8 @@ use lib.Seq.{take-all, length-take-le, set-at}
 use lib.Dec.{eqb}
 use borrow.Author.Tests.{ne-eqb}
 use Rattle.fields.specs.Field.{u16At}
-use Rattle.lists.specs.Upto.{from}
-use Rattle.lists.proofs.UptoLaws.{length-from}
+use Rattle.encoding.specs.Upto.{from}
+use Rattle.encoding.proofs.UptoLaws.{length-from}
 use Rattle.actions.specs.Faults.{dataSize}
 use Rattle.actions.specs.Actions.{bytesAt, contentAt, padded}
 
@@ -49,14 +49,14 @@ module _ (t : List ℕ) where
   short : (p n : ℕ) → n ≤ 76 → n ≡ length (take 76 (bytesAt t p n))
   short p n h = sym (ap length (take-all 76 (bytesAt t p n) (omega (arith, bytes-length p n))) ∙ bytes-length p n)
 
-  module _ (at kind : ℕ) where
-    pub size-long : (n : ℕ) → kind ≡ 0 → n ≡ u16At t (at + 18) → 32 < n → 76 ≡ length (take 76 (contentAt t at kind))
+  module _ (at ty : ℕ) where
+    pub size-long : (n : ℕ) → ty ≡ 0 → n ≡ u16At t (at + 18) → 32 < n → 76 ≡ length (take 76 (contentAt t at ty))
     unfolding contentAt
     size-long n z e h =
         let l : 76 ≤ length (bytesAt t (at + 8) (12 + 2 * u16At t (at + 18))) = omega (arith, bytes-length (at + 8) (12 + 2 * u16At t (at + 18))) in
         simp z (sym (length-take-le 76 (bytesAt t (at + 8) (12 + 2 * u16At t (at + 18))) l))
 
-    pub size-some : (n : ℕ) → kind ≡ 0 → n ≡ u16At t (at + 18) → n ≤ 32 → 12 + 2 * n ≡ length (take 76 (contentAt t at kind))
+    pub size-some : (n : ℕ) → ty ≡ 0 → n ≡ u16At t (at + 18) → n ≤ 32 → 12 + 2 * n ≡ length (take 76 (contentAt t at ty))
     unfolding contentAt
     size-some n z e h = simp (z, ← e) (short (at + 8) (12 + 2 * n) (omega arith))
 
@@ -68,35 +68,35 @@ module _ (t : List ℕ) where
     take-bytes (suc j) p zero = refl
     take-bytes (suc j) p (suc n) = ap (λ (l : List ℕ). getD t p 0 ∷ l) (take-bytes j (suc p) n)
 
-    plain : (kind ≡ 5 → ⊥) → contentAt t at kind ≡ bytesAt t (at + 8) (cond (eqb kind 0) (12 + 2 * u16At t (at + 18)) (dataSize kind))
+    plain : (ty ≡ 5 → ⊥) → contentAt t at ty ≡ bytesAt t (at + 8) (cond (eqb ty 0) (12 + 2 * u16At t (at + 18)) (dataSize ty))
     unfolding contentAt
-    plain z = simp (ne-eqb kind 5 z) (go (eqb kind 0))
+    plain z = simp (ne-eqb ty 5 z) (go (eqb ty 0))
       where
-        go : (b : Bool) → cond b (bytesAt t (at + 8) (12 + 2 * u16At t (at + 18))) (bytesAt t (at + 8) (dataSize kind))
-            ≡ bytesAt t (at + 8) (cond b (12 + 2 * u16At t (at + 18)) (dataSize kind))
+        go : (b : Bool) → cond b (bytesAt t (at + 8) (12 + 2 * u16At t (at + 18))) (bytesAt t (at + 8) (dataSize ty))
+            ≡ bytesAt t (at + 8) (cond b (12 + 2 * u16At t (at + 18)) (dataSize ty))
         go true = refl
         go false = refl
 
-    pub size-other : (s : ℕ) → (kind ≡ 0 → ⊥) → s ≡ dataSize kind → s ≤ 16 → s ≡ length (take 76 (contentAt t at kind))
+    pub size-other : (s : ℕ) → (ty ≡ 0 → ⊥) → s ≡ dataSize ty → s ≤ 16 → s ≡ length (take 76 (contentAt t at ty))
     unfolding contentAt bytesAt from
-    size-other s z e h = go (ℕ-discrete kind 5)
+    size-other s z e h = go (ℕ-discrete ty 5)
       where
-        go : Dec (kind ≡ 5) → s ≡ length (take 76 (contentAt t at kind))
+        go : Dec (ty ≡ 5) → s ≡ length (take 76 (contentAt t at ty))
         go (yes p) = e ∙ ap dataSize p ∙ ap (λ (k : ℕ). length (take 76 (contentAt t at k))) (sym p)
         go (no p) =
             subst (λ (k : ℕ). s ≡ length (take 76 (bytesAt t (at + 8) k))) e (short (at + 8) s (omega arith))
-            ∙ ap (λ (b : Bool). length (take 76 (bytesAt t (at + 8) (cond b (12 + 2 * u16At t (at + 18)) (dataSize kind))))) (sym (ne-eqb kind 0 z))
+            ∙ ap (λ (b : Bool). length (take 76 (bytesAt t (at + 8) (cond b (12 + 2 * u16At t (at + 18)) (dataSize ty))))) (sym (ne-eqb ty 0 z))
             ∙ ap (λ (l : List ℕ). length (take 76 l)) (sym (plain p))
 
-    pub content-plain : (s : ℕ) (bs : List ℕ) → (kind ≡ 5 → ⊥) → s ≡ length (take 76 (contentAt t at kind)) → bs ≡ padded (bytesAt t (at + 8) s)
-        → bs ≡ padded (take 76 (contentAt t at kind))
+    pub content-plain : (s : ℕ) (bs : List ℕ) → (ty ≡ 5 → ⊥) → s ≡ length (take 76 (contentAt t at ty)) → bs ≡ padded (bytesAt t (at + 8) s)
+        → bs ≡ padded (take 76 (contentAt t at ty))
     content-plain s bs z e f =
-        let n = cond (eqb kind 0) (12 + 2 * u16At t (at + 18)) (dataSize kind) in
-        let p : take 76 (contentAt t at kind) ≡ take 76 (bytesAt t (at + 8) n) = ap (take 76) (plain z) in
+        let n = cond (eqb ty 0) (12 + 2 * u16At t (at + 18)) (dataSize ty) in
+        let p : take 76 (contentAt t at ty) ≡ take 76 (bytesAt t (at + 8) n) = ap (take 76) (plain z) in
         f ∙ ap (λ (k : ℕ). padded (bytesAt t (at + 8) k)) (e ∙ ap length p) ∙ ap padded (sym (take-bytes 76 (at + 8) n) ∙ sym p)
 
-    pub content-five : (s : ℕ) (bs : List ℕ) → kind ≡ 5 → s ≡ length (take 76 (contentAt t at kind)) → bs ≡ padded (bytesAt t (at + 8) s)
-        → set (set bs 0 0) 1 0 ≡ padded (take 76 (contentAt t at kind))
+    pub content-five : (s : ℕ) (bs : List ℕ) → ty ≡ 5 → s ≡ length (take 76 (contentAt t at ty)) → bs ≡ padded (bytesAt t (at + 8) s)
+        → set (set bs 0 0) 1 0 ≡ padded (take 76 (contentAt t at ty))
     unfolding contentAt bytesAt from
     content-five s bs z e f =
         let four : s ≡ 4 = e ∙ ap (λ (k : ℕ). length (take 76 (contentAt t at k))) z in

@@ -18,9 +18,9 @@ use Rattle.fields.specs.Laws.{then-first, then-second, rule-holds, inside-holds
 use Rattle.meaning.specs.Meaning.{Action}
 use Rattle.actions.specs.declared.Spot.the-variants.{At, Nowhere}
 use Rattle.actions.specs.declared.Stretch.{Stretch}
-use Rattle.lists.specs.Codes.{All}
-use Rattle.lists.specs.Upto.{from}
-use Rattle.lists.proofs.UptoLaws.{getD-from, all-from}
+use Rattle.encoding.specs.Codes.{All}
+use Rattle.encoding.specs.Upto.{from}
+use Rattle.encoding.proofs.UptoLaws.{getD-from, all-from}
 use Rattle.meaning.specs.Limits.{OkContent, OkAction, OkActions}
 use Rattle.actions.specs.Faults.{glyphFault, addedFault, countFault, glyphsFault, type0Fault, type2Fault, type5Fault, dataFault, lengthFault, actionFault, actionsFault, listFault}
 use Rattle.actions.specs.Actions.{bytesAt, contentAt, actionAt, actionsAt, listAt, placeAfter, placeOf, componentsAt, clipped}
@@ -89,7 +89,7 @@ module _ (t : List ℕ) where
 
 -- data of at most 76 bytes is handed out whole
 pub clipped-same : (a : Action) → length (a .content) ≤ 76 → clipped a ≡ a
-clipped-same a h = ap (λ (l : List ℕ). record { class = a .class; kind = a .kind; content = l }) (take-all 76 (a .content) h)
+clipped-same a h = ap (λ (l : List ℕ). record { class = a .class; ty = a .ty; content = l }) (take-all 76 (a .content) h)
 
 pub clipped-ok : (n : ℕ) (a : Action) → OkAction n a → clipped a ≡ a
 clipped-ok n a ok = clipped-same a (ok .2)
@@ -137,10 +137,10 @@ or-cases : (a b : Bool) → (a || b) ≡ true → (a ≡ true) ⊎ (b ≡ true)
 or-cases true b e = inl refl
 or-cases false b e = inr e
 
-record Content (n kind : ℕ) (d : List ℕ) : Type 0 where
+record Content (n ty : ℕ) (d : List ℕ) : Type 0 where
   short : length d ≤ 76
   bytes : All (λ (b : ℕ). b < 256) d
-  ok : OkContent n kind d
+  ok : OkContent n ty d
 
 module _ (t : List ℕ) (n : ℕ) where
   glyph-ok : (p : ℕ) → glyphFault t n p ≡ Clear → u16At t p < n
@@ -251,9 +251,9 @@ module _ (t : List ℕ) (n : ℕ) where
       let e1 = then-second _ _ e in
       let e3 = then-second _ _ (then-second _ _ e1) in
       let class : u16At t at ≤ 127 = leb-true _ _ (rule-holds _ BadActions at (then-first _ _ e1)) in
-      let kind : u16At t (at + 2) ≤ 5 = leb-true _ _ (rule-holds _ BadActions (at + 2) (then-first _ _ e3)) in
-      let c = content at w (u16At t (at + 2)) kind (then-second _ _ (then-second _ _ e3)) in
-      (omega arith, kind, c .short, c .bytes, c .ok)
+      let ty : u16At t (at + 2) ≤ 5 = leb-true _ _ (rule-holds _ BadActions (at + 2) (then-first _ _ e3)) in
+      let c = content at w (u16At t (at + 2)) ty (then-second _ _ (then-second _ _ e3)) in
+      (omega arith, ty, c .short, c .bytes, c .ok)
 
   -- its class, type and length lie inside
   pub action-inside : (at : ℕ) → actionFault t n at ≡ Clear → at + 8 ≤ length t

@@ -2,4 +2,4 @@ pub mod Steps
 pub mod Copies
 pub mod Laws
 pub mod Clear
-pub mod Marks
+pub mod Notes

@@ -6,7 +6,7 @@ use mathlib.Core.List.{List, [], _∷_, _++_}
 use lib.Dec.{ltb, eqb}
 use lib.ListN.{length, getD, take, replicate}
 use Rattle.fields.specs.Field.{u16At, u32At}
-use Rattle.lists.specs.Upto.{from}
+use Rattle.encoding.specs.Upto.{from}
 use Rattle.meaning.specs.Meaning.{Action}
 use Rattle.actions.specs.declared.Spot.{Spot}
 use Rattle.actions.specs.declared.Spot.the-variants.{At, Nowhere}
@@ -19,13 +19,13 @@ bytesAt t at n = from (λ i. getD t i 0) n at
 
 -- the data of the action at `at`, of a type
 unfoldable pub contentAt : List ℕ → ℕ → ℕ → List ℕ
-contentAt t at kind =
-    cond (eqb kind 0) (bytesAt t (at + 8) (12 + 2 * u16At t (at + 18)))
-    (cond (eqb kind 5) (0 ∷ 0 ∷ bytesAt t (at + 10) 2)
-    (bytesAt t (at + 8) (dataSize kind)))
+contentAt t at ty =
+    cond (eqb ty 0) (bytesAt t (at + 8) (12 + 2 * u16At t (at + 18)))
+    (cond (eqb ty 5) (0 ∷ 0 ∷ bytesAt t (at + 10) 2)
+    (bytesAt t (at + 8) (dataSize ty)))
 
 unfoldable pub actionAt : List ℕ → ℕ → Action
-actionAt t at = record { class = u16At t at; kind = u16At t (at + 2); content = contentAt t at (u16At t (at + 2)) }
+actionAt t at = record { class = u16At t at; ty = u16At t (at + 2); content = contentAt t at (u16At t (at + 2)) }
 
 -- n actions from `at` on
 unfoldable pub actionsAt : List ℕ → ℕ → ℕ → List Action
@@ -65,4 +65,4 @@ padded bytes = bytes ++ replicate (76 - length bytes) 0
 
 -- an action with the first 76 bytes of its data, which are all of it where it keeps the limits
 abbrev pub clipped : Action → Action
-clipped a = record { class = a .class; kind = a .kind; content = take 76 (a .content) }
+clipped a = record { class = a .class; ty = a .ty; content = take 76 (a .content) }

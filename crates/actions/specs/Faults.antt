@@ -54,17 +54,17 @@ type5Fault t glyphs at = inside t (at + 8) 2 then glyphFault t glyphs (at + 10)
 
 -- the data of a type, 0 to 5
 unfoldable pub dataFault : List ℕ → ℕ → ℕ → ℕ → Fault
-dataFault t glyphs at kind =
-    cond (eqb kind 0) (type0Fault t glyphs at)
-    (cond (eqb kind 1) (glyphFault t glyphs (at + 8))
-    (cond (eqb kind 2) (type2Fault t glyphs at)
-    (cond (eqb kind 3) Clear
-    (cond (eqb kind 4) (type4Fault t at)
+dataFault t glyphs at ty =
+    cond (eqb ty 0) (type0Fault t glyphs at)
+    (cond (eqb ty 1) (glyphFault t glyphs (at + 8))
+    (cond (eqb ty 2) (type2Fault t glyphs at)
+    (cond (eqb ty 3) Clear
+    (cond (eqb ty 4) (type4Fault t at)
     (type5Fault t glyphs at)))))
 
 -- how many bytes of data a type has, type 0's glyphs left out
 abbrev pub dataSize : ℕ → ℕ
-dataSize kind = cond (eqb kind 0) 12 (cond (eqb kind 1) 2 (cond (eqb kind 2) 8 (cond (eqb kind 3) 0 (cond (eqb kind 4) 16 4))))
+dataSize ty = cond (eqb ty 0) 12 (cond (eqb ty 1) 2 (cond (eqb ty 2) 8 (cond (eqb ty 3) 0 (cond (eqb ty 4) 16 4))))
 
 unfoldable pub lengthFault : List ℕ → ℕ → Fault
 lengthFault t at =

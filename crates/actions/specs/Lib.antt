@@ -1,3 +1,3 @@
 pub mod Faults
 pub mod Actions
-pub mod Marks
+pub mod Notes

@@ -8,11 +8,11 @@ ghost use Rattle.fields.specs.declared.Fault.the-variants.{Clear};
 ghost use Rattle.fields.specs.Field.{u32At};
 ghost use Rattle.meaning.specs.Ask.{held};
 ghost use Rattle.actions.specs.Faults.{glyphFault, addedFault, countFault, glyphsFault, type0Fault, type2Fault, type4Fault, type5Fault, dataFault, dataSize, lengthFault, actionFault, actionsFault, listFault};
-ghost use Rattle.actions.specs.Marks.{Passed, Passing};
+ghost use Rattle.actions.specs.Notes.{Passed, Passing};
 ghost use Rattle.actions.specs.Actions.{bytesAt, contentAt, actionAt, placeAfter, placeOf, Below, componentsAt, padded, clipped};
 use fields::Fault;
 use fields::Refusal;
-use parts::HeldAction;
+use types::HeldAction;
 
 // Where an action stands, or nowhere.
 pub enum Spot {
@@ -130,46 +130,46 @@ fn type5_fault(table: &[u8], glyphs: usize, at: usize) -> Fault
     fields::then(flags, glyph_fault(table, glyphs, at + 10))
 }
 
-// The first fault in the data of the action at `at`, whose type is `kind`, 0 to 5.
-fn data_fault(table: &[u8], glyphs: usize, at: usize, kind: usize) -> Fault
+// The first fault in the data of the action at `at`, whose type is `ty`, 0 to 5.
+fn data_fault(table: &[u8], glyphs: usize, at: usize, ty: usize) -> Fault
     requires { ⌜ at ≤ length (now table) ⌝ }
-    ensures { λ r. ⌜ r ≡ dataFault (now (table .entry)) glyphs at kind ⌝ }
+    ensures { λ r. ⌜ r ≡ dataFault (now (table .entry)) glyphs at ty ⌝ }
 {
-    if kind == 0 {
+    if ty == 0 {
         return type0_fault(table, glyphs, at);
     }
-    if kind == 1 {
+    if ty == 1 {
         return glyph_fault(table, glyphs, at + 8);
     }
-    if kind == 2 {
+    if ty == 2 {
         return type2_fault(table, glyphs, at);
     }
-    if kind == 3 {
+    if ty == 3 {
         return Fault::Clear;
     }
-    if kind == 4 {
+    if ty == 4 {
         return type4_fault(table, at);
     }
     type5_fault(table, glyphs, at)
 }
 
 // How many bytes of data a type has, type 0's glyphs left out.
-pub fn data_size(kind: usize) -> usize
-    ensures { λ r. ⌜ (r ≡ dataSize kind) × (r ≤ 16) ⌝ }
+pub fn data_size(ty: usize) -> usize
+    ensures { λ r. ⌜ (r ≡ dataSize ty) × (r ≤ 16) ⌝ }
 {
-    if kind == 0 {
+    if ty == 0 {
         return 12;
     }
-    if kind == 1 {
+    if ty == 1 {
         return 2;
     }
-    if kind == 2 {
+    if ty == 2 {
         return 8;
     }
-    if kind == 3 {
+    if ty == 3 {
         return 0;
     }
-    if kind == 4 {
+    if ty == 4 {
         return 16;
     }
     4
@@ -197,14 +197,14 @@ fn action_fault(table: &[u8], glyphs: usize, at: usize) -> Fault
             at,
         };
     }
-    let kind = fields::u16_at(table, at + 2);
+    let ty = fields::u16_at(table, at + 2);
     let class_in = fields::in_table(table, at, 2);
     let classed = fields::ruled(fields::u16_at(table, at) <= 127, Refusal::BadActions, at);
-    let kind_in = fields::in_table(table, at + 2, 2);
-    let typed = fields::ruled(kind <= 5, Refusal::BadActions, at + 2);
+    let type_in = fields::in_table(table, at + 2, 2);
+    let typed = fields::ruled(ty <= 5, Refusal::BadActions, at + 2);
     let measured = length_fault(table, at);
-    let filled = fields::then(measured, data_fault(table, glyphs, at, kind));
-    let tail = fields::then(kind_in, fields::then(typed, filled));
+    let filled = fields::then(measured, data_fault(table, glyphs, at, ty));
+    let tail = fields::then(type_in, fields::then(typed, filled));
     fields::then(class_in, fields::then(classed, tail))
 }
 
@@ -289,29 +289,29 @@ fn type2_is_clear(table: &[u8], glyphs: usize, at: usize) -> bool
 }
 
 // Whether the action's length, `size`, and the data of its type, 0 to 5, are.
-fn data_is_clear(table: &[u8], glyphs: usize, at: usize, kind: usize, size: usize) -> bool
+fn data_is_clear(table: &[u8], glyphs: usize, at: usize, ty: usize, size: usize) -> bool
     requires { ⌜ (at + 8 ≤ length (now table)) × (size ≡ u32At (now table) (at + 4)) ⌝ }
-    ensures { λ r. ⌜ (r ≡ true → (8 + dataSize kind ≤ size) × (dataFault (now (table .entry)) glyphs at kind ≡ Clear)) ⌝ }
+    ensures { λ r. ⌜ (r ≡ true → (8 + dataSize ty ≤ size) × (dataFault (now (table .entry)) glyphs at ty ≡ Clear)) ⌝ }
 {
-    if kind == 0 {
+    if ty == 0 {
         return type0_is_clear(table, glyphs, at, size);
     }
-    if kind == 1 {
+    if ty == 1 {
         if size < 10 {
             return false;
         }
         return glyph_is_clear(table, glyphs, at + 8);
     }
-    if kind == 2 {
+    if ty == 2 {
         if size < 16 {
             return false;
         }
         return type2_is_clear(table, glyphs, at);
     }
-    if kind == 3 {
+    if ty == 3 {
         return 8 <= size;
     }
-    if kind == 4 {
+    if ty == 4 {
         if size < 24 {
             return false;
         }
@@ -332,15 +332,15 @@ fn clear_end(table: &[u8], glyphs: usize, at: usize) -> usize
         return 0;
     }
     let class = fields::u16_at(table, at);
-    let kind = fields::u16_at(table, at + 2);
+    let ty = fields::u16_at(table, at + 2);
     let size = fields::u32_at(table, at + 4);
     if 127 < class {
         return 0;
     }
-    if 5 < kind {
+    if 5 < ty {
         return 0;
     }
-    if !data_is_clear(table, glyphs, at, kind, size) {
+    if !data_is_clear(table, glyphs, at, ty, size) {
         return 0;
     }
     // The length is a multiple of 4.
@@ -351,7 +351,7 @@ fn clear_end(table: &[u8], glyphs: usize, at: usize) -> usize
     end
 }
 
-// Steps through actions from `first` on, up to `most`, while they are seen to be without fault. Each is marked in `judged`, so
+// Steps through actions from `first` on, up to `most`, while they are seen to be without fault. Each is noted in `judged`, so
 // that it is judged once, however many lists have it. It stops where so many are known as are left, or as are `enough`.
 fn step_through(
     table: &[u8],
@@ -369,9 +369,9 @@ fn step_through(
     let mut passed: usize = 0;
     let mut over: usize = 0;
     while passed < most {
-        let mark = fields::u8_at(judged, at);
-        if 4 <= mark {
-            let known = mark / 4;
+        let note = fields::u8_at(judged, at);
+        if 4 <= note {
+            let known = note / 4;
             if fields::lower(most - passed, enough) <= known {
                 let passed = passed + known;
                 return Walked { passed, over };
@@ -384,7 +384,7 @@ fn step_through(
             if end == 0 {
                 return Walked { passed, over };
             }
-            fields::put_u8(judged, at, (mark + 4) as u8);
+            fields::put_u8(judged, at, (note + 4) as u8);
             at = end;
             passed += 1;
         }
@@ -392,9 +392,9 @@ fn step_through(
     Walked { passed, over }
 }
 
-// Marks at each of `count` actions from `first` on, which have no fault, how many are known from it on: as far as a mark has
+// Notes at each of `count` actions from `first` on, which have no fault, how many are known from it on: as far as a note has
 // room, and up to one that tells as much, since from there on those that follow do so too.
-fn mark_ahead(table: &[u8], glyphs: usize, first: usize, count: usize, judged: &mut [u8])
+fn note_ahead(table: &[u8], glyphs: usize, first: usize, count: usize, judged: &mut [u8])
     requires { ⌜ actionsFault (now table) glyphs count first ≡ Clear ⌝ }
     requires { ⌜ Passed (now table) glyphs (now judged) ⌝ }
     ensures { λ r. ⌜ Passing (now (table .entry)) glyphs (now (judged .entry)) (now (judged .exit)) ⌝ }
@@ -403,18 +403,18 @@ fn mark_ahead(table: &[u8], glyphs: usize, first: usize, count: usize, judged: &
     let mut left = count;
     while 0 < left {
         let known = fields::lower(left, 63);
-        let mark = fields::u8_at(judged, at);
-        if known <= mark / 4 {
+        let note = fields::u8_at(judged, at);
+        if known <= note / 4 {
             return;
         }
-        fields::put_u8(judged, at, (4 * known + mark % 4) as u8);
+        fields::put_u8(judged, at, (4 * known + note % 4) as u8);
         at += fields::u32_at(table, at + 4);
         left -= 1;
     }
 }
 
 // Whether `count` actions from `first` on are seen to be without fault: most are, and a chain of fields is slower. Where many
-// of them were known, lists overlap: then those from `first` on, past the list's end too, are marked so that lists which
+// of them were known, lists overlap: then those from `first` on, past the list's end too, are noted so that lists which
 // begin on them cost a step or two.
 fn actions_are_clear(
     table: &[u8],
@@ -435,12 +435,12 @@ fn actions_are_clear(
         return true;
     }
     let ahead = step_through(table, glyphs, first, 255, 63, judged);
-    mark_ahead(table, glyphs, first, ahead.passed, judged);
+    note_ahead(table, glyphs, first, ahead.passed, judged);
     true
 }
 
-// The first fault of the list at `at`, in a table read with `glyphs` glyphs. `judged` has a mark for each position, whose
-// fourth says how many actions from there on are known to have no fault; the rest of a mark is the caller's.
+// The first fault of the list at `at`, in a table read with `glyphs` glyphs. `judged` has a note for each position, whose
+// fourth says how many actions from there on are known to have no fault; the rest of a note is the caller's.
 pub fn list_fault(table: &[u8], glyphs: usize, at: usize, judged: &mut [u8]) -> Fault
     requires { ⌜ Passed (now table) glyphs (now judged) ⌝ }
     ensures { λ r. ⌜ (r ≡ listFault (now (table .entry)) glyphs at) × Passing (now (table .entry)) glyphs (now (judged .entry)) (now (judged .exit)) ⌝ }
@@ -487,13 +487,13 @@ pub fn place_of(table: &[u8], at: usize, number: u16) -> Spot
     Spot::At(place_after(table, at + 4, number))
 }
 
-// How many bytes of data the action at `at` has, of type `kind`; at most 76.
-fn content_size(table: &[u8], at: usize, kind: usize) -> usize
+// How many bytes of data the action at `at` has, of type `ty`; at most 76.
+fn content_size(table: &[u8], at: usize, ty: usize) -> usize
     requires { ⌜ at < 2 ^ 62 ⌝ }
-    ensures { λ r. ⌜ (r ≡ length (take 76 (contentAt (now (table .entry)) at kind))) × (r ≤ 76) ⌝ }
+    ensures { λ r. ⌜ (r ≡ length (take 76 (contentAt (now (table .entry)) at ty))) × (r ≤ 76) ⌝ }
 {
-    if kind != 0 {
-        return data_size(kind);
+    if ty != 0 {
+        return data_size(ty);
     }
     let count = fields::u16_at(table, at + 18);
     if 32 < count {
@@ -516,13 +516,13 @@ fn copied(table: &[u8], first: usize, size: usize) -> [u8; 76]
     bytes
 }
 
-// The data of the action at `at`, of type `kind`: at most 76 bytes, then zeros.
-fn content_at(table: &[u8], at: usize, kind: usize) -> [u8; 76]
+// The data of the action at `at`, of type `ty`: at most 76 bytes, then zeros.
+fn content_at(table: &[u8], at: usize, ty: usize) -> [u8; 76]
     requires { ⌜ at < 2 ^ 62 ⌝ }
-    ensures { λ r. ⌜ r ≡ padded (take 76 (contentAt (now (table .entry)) at kind)) ⌝ }
+    ensures { λ r. ⌜ r ≡ padded (take 76 (contentAt (now (table .entry)) at ty)) ⌝ }
 {
-    let mut bytes = copied(table, at + 8, content_size(table, at, kind));
-    if kind != 5 {
+    let mut bytes = copied(table, at + 8, content_size(table, at, ty));
+    if ty != 5 {
         return bytes;
     }
     // the ignored flags
@@ -537,12 +537,12 @@ pub fn action_at(table: &[u8], at: usize) -> HeldAction
     ensures { λ r. ⌜ r ≡ held (clipped (actionAt (now (table .entry)) at)) ⌝ }
 {
     let class = fields::u16_at(table, at);
-    let kind = fields::u16_at(table, at + 2);
-    let size = content_size(table, at, kind);
-    let bytes = content_at(table, at, kind);
+    let ty = fields::u16_at(table, at + 2);
+    let size = content_size(table, at, ty);
+    let bytes = content_at(table, at, ty);
     HeldAction {
         class: class as u16,
-        kind: kind as u16,
+        ty: ty as u16,
         size: size as u32,
         bytes,
     }

@@ -4,7 +4,7 @@ use mathlib.Core.Path.{_≡_, ap, _∙_}
 use mathlib.Core.List.{List}
 use lib.ListN.{length, replicate}
 use lib.Seq.{take-append-seam}
-use Rattle.parts.specs.declared.HeldAction.{HeldAction}
+use Rattle.types.specs.declared.HeldAction.{HeldAction}
 use Rattle.meaning.specs.Meaning.{Action}
 use Rattle.meaning.specs.Ask.{held}
 use Rattle.answers.specs.Says.{actionIn, saysCount, saysSizes, saysClass, saysCell, saysRecord}
@@ -74,4 +74,4 @@ one-record (width.Refused r) (width.Refused u) i = ap width.Refused (one-number 
 pub held-is : (a : Action) {h : HeldAction} → h ≡ held a → actionIn h ≡ a
 held-is a {h} e =
     ap actionIn e
-    ∙ ap (λ (l : List ℕ). record { class = a .class; kind = a .kind; content = l }) (take-append-seam (a .content) (replicate (76 - length (a .content)) 0))
+    ∙ ap (λ (l : List ℕ). record { class = a .class; ty = a .ty; content = l }) (take-append-seam (a .content) (replicate (76 - length (a .content)) 0))

@@ -6,7 +6,7 @@ use Rattle.fields.specs.declared.Refusal.{Refusal}
 use Rattle.fields.specs.declared.Fault.{Fault}
 use Rattle.fields.specs.declared.Fault.the-variants.{Clear, Bad}
 use Rattle.fields.specs.Refusals.{numberOf}
-use Rattle.parts.specs.declared.HeldAction.{HeldAction}
+use Rattle.types.specs.declared.HeldAction.{HeldAction}
 use Rattle.meaning.specs.Meaning.{Action}
 use Rattle.meaning.specs.Ask.{Answer, nothing, number, both, entry, pair, act, held}
 use Rattle.answers.specs.declared.Checked.{Checked}
@@ -66,7 +66,7 @@ saysRecord (width.Refused r) = refused (numberOf r)
 
 -- the action in its room of 76 bytes: its data is the first `size` of them
 abbrev pub actionIn : HeldAction → Action
-actionIn h = record { class = h .class; kind = h .kind; content = take (h .size) (h .bytes) }
+actionIn h = record { class = h .class; ty = h .ty; content = take (h .size) (h .bytes) }
 
 abbrev pub saysSought : Sought → HeldAction → Reply
 saysSought sought.Found h = given (act (actionIn h))
@@ -78,7 +78,7 @@ saysAction r = saysSought (r .sought) (r .action)
 
 -- what the room holds: the action and zeros after it, or zeros alone
 abbrev pub noAction : HeldAction
-noAction = record { class = 0; kind = 0; size = 0; bytes = replicate 76 0 }
+noAction = record { class = 0; ty = 0; size = 0; bytes = replicate 76 0 }
 
 abbrev pub roomFor : Answer → HeldAction
 roomFor (act a) = held a

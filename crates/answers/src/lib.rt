@@ -3,9 +3,9 @@
 ghost use mathlib.Core.Path.{_≡_};
 ghost use Rattle.answers.specs.Says.{noAction};
 use fields::Refusal;
-use parts::Entry;
-use parts::HeldAction;
-use parts::Pair;
+use types::Entry;
+use types::HeldAction;
+use types::Pair;
 
 // Whether a table or a sheet is accepted.
 pub enum Checked {
@@ -68,7 +68,7 @@ pub fn no_action(sought: Sought) -> ActionAnswer
         sought,
         action: HeldAction {
             class: 0,
-            kind: 0,
+            ty: 0,
             size: 0,
             bytes: [0u8; 76],
         },

@@ -16,7 +16,7 @@ use Rattle.fields.specs.Walk.{walk}
 use Rattle.fields.specs.Laws.{then-first, then-second, rule-holds, inside-holds}
 use Rattle.units.specs.Fixed.{fixedSize}
 use Rattle.units.specs.Flags.{priorityOf, widthFlags, keptFlags, isUnlimited}
-use Rattle.lists.specs.Codes.{All}
+use Rattle.encoding.specs.Codes.{All}
 use Rattle.meaning.specs.Limits.{emLimit, OkFlags, OkPair, Rising, OkCluster}
 use Rattle.cluster.specs.Faults.{classAt, classFault, growFault, shrinkFault, flagsFault, pairFault, pairsFault, clusterFault}
 use Rattle.cluster.specs.Pairs.{pairAt, pairsAt, clusterAt}

@@ -6,7 +6,7 @@ use mathlib.Core.List.{List, [], _∷_}
 use Rattle.fields.specs.Field.{u16At, u32At}
 use Rattle.units.specs.Fixed.{fixedSize}
 use Rattle.units.specs.Flags.{keptFlags}
-use Rattle.parts.specs.declared.Pair.{Pair}
+use Rattle.types.specs.declared.Pair.{Pair}
 use Rattle.cluster.specs.declared.Sought.{Sought}
 use Rattle.cluster.specs.declared.Sought.the-variants.{Record, Nothing}
 use Rattle.cluster.specs.Faults.{classAt}

@@ -13,9 +13,9 @@ ghost use Rattle.cluster.specs.Faults.{classAt, classFault, growFault, s
 ghost use Rattle.cluster.specs.Pairs.{pairAt, pairsAt, clusterAt, soughtPair};
 use fields::Fault;
 use fields::Refusal;
-use parts::Flags;
-use parts::Limits;
-use parts::Pair;
+use types::Flags;
+use types::Limits;
+use types::Pair;
 
 // The width record of a class, or nothing.
 pub enum Sought {

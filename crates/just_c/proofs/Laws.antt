@@ -2,7 +2,7 @@
 use Prim.Native.Nat.{ℕ}
 use mathlib.Core.List.{List}
 use mathlib.Core.Path.{_≡_, sym, ap, _∙_}
-use Rattle.parts.specs.declared.HeldAction.{HeldAction}
+use Rattle.types.specs.declared.HeldAction.{HeldAction}
 use Rattle.answers.specs.declared.Sought.{Sought}
 use Rattle.answers.specs.declared.Sought.the-variants.{Found, Nothing, Refused}
 use Rattle.answers.specs.Says.{Reply, saysSought, roomAfter}

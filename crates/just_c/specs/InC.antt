@@ -2,9 +2,9 @@
 use Prim.Native.Nat.{ℕ, _-_}
 use mathlib.Core.Bool.{true, false}
 use Rattle.fields.specs.Refusals.{numberOf}
-use Rattle.parts.specs.declared.Entry.{Entry}
-use Rattle.parts.specs.declared.Pair.{Pair}
-use Rattle.parts.specs.declared.HeldAction.{HeldAction}
+use Rattle.types.specs.declared.Entry.{Entry}
+use Rattle.types.specs.declared.Pair.{Pair}
+use Rattle.types.specs.declared.HeldAction.{HeldAction}
 use Rattle.meaning.specs.Ask.{Answer, nothing, number, both, entry, pair, act, held}
 use Rattle.answers.specs.declared.Checked.{Checked}
 use Rattle.answers.specs.declared.Checked.the-variants.{Accepted, Refused}

@@ -5,8 +5,8 @@ use mathlib.Core.List.{List}
 use Rattle.meaning.specs.Ask.{Question}
 use Rattle.answers.specs.declared.Checked.{Checked}
 use Rattle.answers.specs.Says.{Reply}
-use Rattle.sheet_read.specs.Check.{SheetChecked}
-use Rattle.sheet_calls.specs.Calls.{SheetReply}
+use Rattle.sheet_check.specs.Check.{SheetChecked}
+use Rattle.sheet_ask.specs.Calls.{SheetReply}
 use Rattle.just_c.specs.InC.{checkedNumber}
 
 -- the number of what the check says: 0 where the bytes are a sheet, 17 where they are not

@@ -2,14 +2,14 @@
 // structs of C layout. A refusal is its number, 0 for none. A direction is 0 for horizontal, any other number for
 // vertical. specs/InC.antt says what each struct holds.
 ghost use mathlib.Core.Path.{_≡_};
-ghost use Rattle.parts.specs.InC.{directionIn};
+ghost use Rattle.types.specs.InC.{directionIn};
 ghost use Rattle.meaning.specs.Ask.{ask, glyphCount, along, sizes, class, cell, width, action};
 ghost use Rattle.answers.specs.Says.{checkedBy, unlessBad, saysCount, saysSizes, saysClass, saysCell, saysRecord};
 ghost use Rattle.table.specs.Table.{tableFault};
 ghost use Rattle.table.specs.Means.{meaningOf};
-ghost use Rattle.table_parts.specs.Components.{componentsOf};
-ghost use Rattle.table_values.specs.Values.{valueAsked, unitsAsked};
-ghost use Rattle.table_values.specs.ValuesInC.{kindIn, valueIn, unitsOut};
+ghost use Rattle.table_ask.specs.Components.{componentsOf};
+ghost use Rattle.table_find.specs.Values.{valueAsked, unitsAsked};
+ghost use Rattle.table_find.specs.ValuesInC.{kindIn, valueIn, unitsOut};
 ghost use Rattle.sheet_write.specs.Written.{saysLength, saysWritten, sheetLength, written};
 ghost use Rattle.just_c.specs.InC.{checkedNumber, countIn, sizesIn, classIn, cellIn, recordIn, noPair, actionIn, actionOut, stretchIn};
 ghost use Rattle.just_c.specs.SheetInC.{SheetNumber, Given};
@@ -22,15 +22,15 @@ use answers::CountAnswer;
 use answers::RecordAnswer;
 use answers::SizesAnswer;
 use answers::Sought;
-use parts::Entry;
-use parts::Flags;
-use parts::HeldAction;
-use parts::Limits;
-use parts::Pair;
 use sheet_write::LengthAnswer;
 use sheet_write::WriteAnswer;
-use table_values::JustUnits;
-use table_values::JustValue;
+use table_find::JustUnits;
+use table_find::JustValue;
+use types::Entry;
+use types::Flags;
+use types::HeldAction;
+use types::Limits;
+use types::Pair;
 
 #[repr(C)]
 pub struct JustCount {
@@ -267,7 +267,7 @@ pub extern "C" fn just_check_table(table: &[u8], glyphs: u32) -> u32
 pub extern "C" fn just_table_count(table: &[u8], glyphs: u32) -> JustCount
     ensures { λ r. ⌜ r ≡ countIn (unlessBad (tableFault (now (table .entry)) glyphs) (ask (meaningOf (now (table .entry)) glyphs) glyphCount)) ⌝ }
 {
-    count_out(table_parts::ask_count(table, glyphs))
+    count_out(table_ask::ask_count(table, glyphs))
 }
 
 // The row count and the class count of a direction's machine.
@@ -275,7 +275,7 @@ pub extern "C" fn just_table_count(table: &[u8], glyphs: u32) -> JustCount
 pub extern "C" fn just_table_sizes(table: &[u8], glyphs: u32, direction: u32) -> JustSizes
     ensures { λ r. ⌜ r ≡ sizesIn (unlessBad (tableFault (now (table .entry)) glyphs) (ask (meaningOf (now (table .entry)) glyphs) (along (directionIn direction) sizes))) ⌝ }
 {
-    sizes_out(table_parts::ask_sizes(table, glyphs, parts::direction_in(direction)))
+    sizes_out(table_ask::ask_sizes(table, glyphs, types::direction_in(direction)))
 }
 
 // The class of a glyph.
@@ -288,7 +288,7 @@ pub extern "C" fn just_table_class(
 ) -> JustClass
     ensures { λ r. ⌜ r ≡ classIn (unlessBad (tableFault (now (table .entry)) glyphs) (ask (meaningOf (now (table .entry)) glyphs) (along (directionIn direction) (class glyph)))) ⌝ }
 {
-    class_out(table_parts::ask_class(table, glyphs, parts::direction_in(direction), glyph))
+    class_out(table_ask::ask_class(table, glyphs, types::direction_in(direction), glyph))
 }
 
 // What the cell of a row and a class holds.
@@ -302,7 +302,7 @@ pub extern "C" fn just_table_cell(
 ) -> JustCell
     ensures { λ r. ⌜ r ≡ cellIn (unlessBad (tableFault (now (table .entry)) glyphs) (ask (meaningOf (now (table .entry)) glyphs) (along (directionIn direction) (cell row class)))) ⌝ }
 {
-    cell_out(table_parts::ask_cell(table, glyphs, parts::direction_in(direction), row, class))
+    cell_out(table_ask::ask_cell(table, glyphs, types::direction_in(direction), row, class))
 }
 
 // The width record of a glyph and a class.
@@ -316,7 +316,7 @@ pub extern "C" fn just_table_record(
 ) -> JustRecord
     ensures { λ r. ⌜ r ≡ recordIn (unlessBad (tableFault (now (table .entry)) glyphs) (ask (meaningOf (now (table .entry)) glyphs) (along (directionIn direction) (width glyph class)))) ⌝ }
 {
-    record_out(table_parts::ask_record(table, glyphs, parts::direction_in(direction), glyph, class))
+    record_out(table_ask::ask_record(table, glyphs, types::direction_in(direction), glyph, class))
 }
 
 // The value of a glyph in a lookup, and how many units a find of it looks at; 0 is the width lookup, any other number the
@@ -331,9 +331,9 @@ pub extern "C" fn just_table_value(
 ) -> JustValue
     ensures { λ r. ⌜ r ≡ valueIn (valueAsked (now (table .entry)) glyphs (directionIn direction) (kindIn lookup) glyph) ⌝ }
 {
-    let along = parts::direction_in(direction);
-    let kind = table_values::kind_in(lookup);
-    table_values::value_out(table_values::ask_value(table, glyphs, along, kind, glyph))
+    let along = types::direction_in(direction);
+    let kind = table_find::kind_in(lookup);
+    table_find::value_out(table_find::ask_value(table, glyphs, along, kind, glyph))
 }
 
 // How many units a lookup has for a find, and the bound on a find's looks there.
@@ -346,9 +346,9 @@ pub extern "C" fn just_table_units(
 ) -> JustUnits
     ensures { λ r. ⌜ r ≡ unitsOut (unitsAsked (now (table .entry)) glyphs (directionIn direction) (kindIn lookup)) ⌝ }
 {
-    let along = parts::direction_in(direction);
-    let kind = table_values::kind_in(lookup);
-    table_values::units_out(table_values::ask_units(table, glyphs, along, kind))
+    let along = types::direction_in(direction);
+    let kind = table_find::kind_in(lookup);
+    table_find::units_out(table_find::ask_units(table, glyphs, along, kind))
 }
 
 // The action of a glyph and a number.
@@ -362,13 +362,7 @@ pub extern "C" fn just_table_action(
 ) -> JustAction
     ensures { λ r. ⌜ r ≡ actionIn (unlessBad (tableFault (now (table .entry)) glyphs) (ask (meaningOf (now (table .entry)) glyphs) (along (directionIn direction) (action glyph number)))) ⌝ }
 {
-    action_out(table_parts::ask_action(
-        table,
-        glyphs,
-        parts::direction_in(direction),
-        glyph,
-        number,
-    ))
+    action_out(table_ask::ask_action(table, glyphs, types::direction_in(direction), glyph, number))
 }
 
 // Where a component list stands in the table: the offset of its first glyph, and its length in bytes, 0 where there
@@ -383,10 +377,10 @@ pub extern "C" fn just_table_components(
 ) -> JustStretch
     ensures { λ r. ⌜ r ≡ stretchIn (componentsOf (now (table .entry)) glyphs (directionIn direction) glyph number) ⌝ }
 {
-    let stretch = table_parts::components_at(
+    let stretch = table_ask::components_at(
         table,
         glyphs,
-        parts::direction_in(direction),
+        types::direction_in(direction),
         glyph,
         number,
     );
@@ -425,7 +419,7 @@ pub extern "C" fn just_table_write_sheet(table: &[u8], glyphs: u32, room: &mut [
 pub extern "C" fn just_check_sheet(sheet: &[u8]) -> u32
     ensures { λ r. ⌜ SheetNumber (now (sheet .entry)) r ⌝ }
 {
-    match sheet_read::check_sheet(sheet) {
+    match sheet_check::check_sheet(sheet) {
         Checked::Accepted => 0,
         Checked::Refused(refusal) => fields::number_of(refusal),
     }
@@ -436,7 +430,7 @@ pub extern "C" fn just_check_sheet(sheet: &[u8]) -> u32
 pub extern "C" fn just_sheet_count(sheet: &[u8]) -> JustCount
     ensures { λ r. ⌜ Given (now (sheet .entry)) glyphCount countIn r ⌝ }
 {
-    count_out(sheet_calls::ask_count(sheet))
+    count_out(sheet_ask::ask_count(sheet))
 }
 
 // The row count and the class count of a direction's machine.
@@ -444,7 +438,7 @@ pub extern "C" fn just_sheet_count(sheet: &[u8]) -> JustCount
 pub extern "C" fn just_sheet_sizes(sheet: &[u8], direction: u32) -> JustSizes
     ensures { λ r. ⌜ Given (now (sheet .entry)) (along (directionIn direction) sizes) sizesIn r ⌝ }
 {
-    sizes_out(sheet_calls::ask_sizes(sheet, parts::direction_in(direction)))
+    sizes_out(sheet_ask::ask_sizes(sheet, types::direction_in(direction)))
 }
 
 // The class of a glyph.
@@ -452,7 +446,7 @@ pub extern "C" fn just_sheet_sizes(sheet: &[u8], direction: u32) -> JustSizes
 pub extern "C" fn just_sheet_class(sheet: &[u8], direction: u32, glyph: u16) -> JustClass
     ensures { λ r. ⌜ Given (now (sheet .entry)) (along (directionIn direction) (class glyph)) classIn r ⌝ }
 {
-    class_out(sheet_calls::ask_class(sheet, parts::direction_in(direction), glyph))
+    class_out(sheet_ask::ask_class(sheet, types::direction_in(direction), glyph))
 }
 
 // What the cell of a row and a class holds.
@@ -460,7 +454,7 @@ pub extern "C" fn just_sheet_class(sheet: &[u8], direction: u32, glyph: u16) -> 
 pub extern "C" fn just_sheet_cell(sheet: &[u8], direction: u32, row: u16, class: u16) -> JustCell
     ensures { λ r. ⌜ Given (now (sheet .entry)) (along (directionIn direction) (cell row class)) cellIn r ⌝ }
 {
-    cell_out(sheet_calls::ask_cell(sheet, parts::direction_in(direction), row, class))
+    cell_out(sheet_ask::ask_cell(sheet, types::direction_in(direction), row, class))
 }
 
 // The width record of a glyph and a class.
@@ -473,7 +467,7 @@ pub extern "C" fn just_sheet_record(
 ) -> JustRecord
     ensures { λ r. ⌜ Given (now (sheet .entry)) (along (directionIn direction) (width glyph class)) recordIn r ⌝ }
 {
-    record_out(sheet_calls::ask_record(sheet, parts::direction_in(direction), glyph, class))
+    record_out(sheet_ask::ask_record(sheet, types::direction_in(direction), glyph, class))
 }
 
 // The action of a glyph and a number.
@@ -486,5 +480,5 @@ pub extern "C" fn just_sheet_action(
 ) -> JustAction
     ensures { λ r. ⌜ Given (now (sheet .entry)) (along (directionIn direction) (action glyph number)) actionIn r ⌝ }
 {
-    action_out(sheet_calls::ask_action(sheet, parts::direction_in(direction), glyph, number))
+    action_out(sheet_ask::ask_action(sheet, types::direction_in(direction), glyph, number))
 }

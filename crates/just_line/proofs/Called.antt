@@ -3,12 +3,12 @@ use Prim.Native.Nat.{ℕ}
 use mathlib.Core.Path.{_≡_, ap, _∙_}
 use mathlib.Core.List.{List}
 use lib.IntN.{ℤ}
-use Rattle.parts.specs.declared.Verdict.{Verdict}
-use Rattle.lines.specs.declared.LineShape.{LineShape}
-use Rattle.line.specs.declared.LineAnswer.{LineAnswer}
-use Rattle.line.specs.Justified.{Lent, justified}
-use Rattle.line.specs.Settle.{lineBy}
-use Rattle.records.specs.Outcome.{outcomeIs}
+use Rattle.types.specs.declared.Verdict.{Verdict}
+use Rattle.line_rule.specs.declared.LineShape.{LineShape}
+use Rattle.line_call.specs.declared.LineAnswer.{LineAnswer}
+use Rattle.line_call.specs.Justified.{Lent, justified}
+use Rattle.line_call.specs.Settle.{lineBy}
+use Rattle.line_justify.specs.Outcome.{outcomeIs}
 use Rattle.just_line.specs.declared.JustLine.{JustLine}
 use Rattle.just_line.specs.LineInC.{lineIn, calledIn, calledIs}
 

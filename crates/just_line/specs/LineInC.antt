@@ -4,13 +4,13 @@ use mathlib.Core.Bool.{Bool}
 use mathlib.Core.List.{List}
 use lib.IntN.{ℤ, pos}
 use Rattle.fields.specs.Refusals.{numberOf}
-use Rattle.parts.specs.declared.Verdict.{Verdict}
-use Rattle.parts.specs.InC.{directionIn}
-use Rattle.lines.specs.declared.LineShape.{LineShape}
-use Rattle.line.specs.declared.LineAnswer.{LineAnswer}
-use Rattle.line.specs.declared.LineAnswer.the-variants.{Justified, Refused}
-use Rattle.line.specs.Justified.{Lent, Outcome}
-use Rattle.line.specs.Settle.{lentBy}
+use Rattle.types.specs.declared.Verdict.{Verdict}
+use Rattle.types.specs.InC.{directionIn}
+use Rattle.line_rule.specs.declared.LineShape.{LineShape}
+use Rattle.line_call.specs.declared.LineAnswer.{LineAnswer}
+use Rattle.line_call.specs.declared.LineAnswer.the-variants.{Justified, Refused}
+use Rattle.line_call.specs.Justified.{Lent, Outcome}
+use Rattle.line_call.specs.Settle.{lentBy}
 use Rattle.just_line.specs.declared.JustLine.{JustLine}
 
 -- a line but for its glyphs and advances, as it is handed in

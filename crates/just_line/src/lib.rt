@@ -2,12 +2,12 @@
 // numbers, slices (a pointer, then a length) and structs of C layout; a refusal is its number, 0 for none; a direction
 // is 0 for horizontal, any other number for vertical. specs/LineInC.antt says what the struct holds.
 ghost use mathlib.Core.Path.{_≡_};
-ghost use Rattle.line.specs.Justified.{justified};
-ghost use Rattle.line.specs.Settle.{lineBy, lentBy};
+ghost use Rattle.line_call.specs.Justified.{justified};
+ghost use Rattle.line_call.specs.Settle.{lineBy, lentBy};
 ghost use Rattle.just_line.specs.LineInC.{shapeIn, lineIn, calledIn, calledIs};
-use line::LineAnswer;
-use lines::LineShape;
-use parts::Verdict;
+use line_call::LineAnswer;
+use line_rule::LineShape;
+use types::Verdict;
 
 // The remainder in units, the count of entries that the class walk took, and the count of verdicts.
 #[repr(C)]
@@ -22,7 +22,7 @@ pub struct JustLine {
 fn shape_in(direction: u32, starts: bool, ends: bool, size: u32, target: i32) -> LineShape
     ensures { λ r. ⌜ r ≡ shapeIn direction starts ends size target ⌝ }
 {
-    let along = parts::direction_in(direction);
+    let along = types::direction_in(direction);
     LineShape {
         direction: along,
         starts,
@@ -80,7 +80,7 @@ pub extern "C" fn just_justify<'a, 'v>(
         ⌝ }
 {
     let shape = shape_in(direction, starts, ends, size, target);
-    let answer = records::justify(
+    let answer = line_justify::justify(
         table,
         count,
         shape,

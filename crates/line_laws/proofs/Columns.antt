@@ -7,8 +7,8 @@ use lib.IntN.{ℤ, pos, negℤ}
 use Rattle.fields.specs.Field.{u16At, u32At}
 use Rattle.fields.specs.Faults.{_then_, rule, inside}
 use Rattle.fields.specs.Walk.{walk}
-use Rattle.lists.specs.Upto.{from}
-use Rattle.parts.specs.declared.Direction.the-variants.{Horizontal}
+use Rattle.encoding.specs.Upto.{from}
+use Rattle.types.specs.declared.Direction.the-variants.{Horizontal}
 use Rattle.units.specs.Fixed.{fixedSize}
 use Rattle.units.specs.Flags.{widthFlags}
 use Rattle.meaning.specs.Meaning.{emptySide}
@@ -16,15 +16,15 @@ use Rattle.lookup.specs.Find.{valueFrom, valueOf}
 use Rattle.lookup.specs.Lookup.{formatFault, lookupFault}
 use Rattle.cluster.specs.Faults.{classAt, classFault, growFault, shrinkFault, flagsFault, pairFault, clusterFault}
 use Rattle.cluster.specs.Pairs.{pairAt, pairsAt, clusterAt}
-use Rattle.values.specs.Values.{placeFault, glyphFault, valuesFault, clusterOf}
+use Rattle.lookup_targets.specs.Values.{placeFault, glyphFault, valuesFault, clusterOf}
 use Rattle.table.specs.Table.{present, headerFault, offsetsFault, machinePart, actionPart, directionFault, tableFault}
 use Rattle.table.specs.Means.{machineOf, listsOf, sideAt, directionOf, meaningOf}
 use Rattle.share.specs.Share.{stages, goesBack, shares, stageMoves, stageLeft, movesBy, leftBy}
 use Rattle.share.specs.Line.{lineFits, lineMoves, lineLeft}
-use Rattle.lines.specs.Line.{Line, gapOf, walkOf, partsOf, beforeOf, afterOf, remainderOf, firings, verdictsFrom, verdictsOf}
-use Rattle.lines.specs.Edges.{aimed}
-use Rattle.line.specs.Justified.{Lent, workedFault, lineFault, justified}
-use Rattle.line.specs.Settle.{lineBy, lentBy}
+use Rattle.line_rule.specs.Line.{Line, gapOf, walkOf, partsOf, beforeOf, afterOf, remainderOf, firings, verdictsFrom, verdictsOf}
+use Rattle.line_rule.specs.Edges.{aimed}
+use Rattle.line_call.specs.Justified.{Lent, workedFault, lineFault, justified}
+use Rattle.line_call.specs.Settle.{lineBy, lentBy}
 use Rattle.line_laws.specs.Edges.{Shown, left, right}
 
 -- horizontal, at 10: no machine, no actions, clusters from 20 on, and a width lookup of format 0 whose one value is 0; the cluster at 20 has one pair, for class 0, whose

@@ -7,11 +7,11 @@ use lib.IntN.{ℤ}
 use lib.Signed.{_≤ℤ_}
 use Rattle.meaning.specs.Ask.{sideOf}
 use Rattle.table.specs.Means.{meaningOf}
-use Rattle.lines.specs.Line.{Line, beforeOf, afterOf}
-use Rattle.lines.specs.Edges.{leftEdge, rightEdge, aimed}
-use Rattle.lines.proofs.Edges.{edges-rise}
-use Rattle.line.specs.Justified.{Lent}
-use Rattle.line.proofs.Theorems.{answered}
+use Rattle.line_rule.specs.Line.{Line, beforeOf, afterOf}
+use Rattle.line_rule.specs.Edges.{leftEdge, rightEdge, aimed}
+use Rattle.line_rule.proofs.Edges.{edges-rise}
+use Rattle.line_call.specs.Justified.{Lent}
+use Rattle.line_call.proofs.Theorems.{answered}
 use Rattle.line_laws.specs.Edges.{Shown, left, right, NeverBack}
 
 -- the edges that a call's outcome shows are those of its movements

@@ -13,9 +13,9 @@ use Rattle.meaning.specs.Ask.{sideOf}
 use Rattle.table.specs.Means.{meaningOf}
 use Rattle.table_laws.specs.Order.{First, Free}
 use Rattle.table_laws.proofs.Faults.{chain, chain-first, first-chain, chain-free, free-chain}
-use Rattle.lines.specs.Line.{Line}
-use Rattle.line.specs.declared.LineAnswer.the-variants.{Justified, Refused}
-use Rattle.line.specs.Justified.{Lent, workedFault, lineFault, settled, justified}
+use Rattle.line_rule.specs.Line.{Line}
+use Rattle.line_call.specs.declared.LineAnswer.the-variants.{Justified, Refused}
+use Rattle.line_call.specs.Justified.{Lent, workedFault, lineFault, settled, justified}
 use Rattle.line_laws.specs.Bars.{sideFor, lineParts}
 
 module _ (t : List ℕ) (n : ℕ) (l : Line) (b : Lent) where

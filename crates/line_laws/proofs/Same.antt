@@ -14,8 +14,8 @@ use Rattle.meaning.proofs.SheetLaws.{write-injective}
 use Rattle.table.specs.Table.{Accepted, tableFault}
 use Rattle.table.specs.Means.{meaningOf}
 use Rattle.table_laws.proofs.Valid.{valid-meaning}
-use Rattle.lines.specs.Line.{Line}
-use Rattle.line.specs.Justified.{Lent, Outcome, lengthsOf, inputTests, workTests, roomTest, firstFault, workedFault, lineFault, settled, justified}
+use Rattle.line_rule.specs.Line.{Line}
+use Rattle.line_call.specs.Justified.{Lent, Outcome, lengthsOf, inputTests, workTests, roomTest, firstFault, workedFault, lineFault, settled, justified}
 
 -- a line's outcome from its table's fault and the meaning of its direction
 abbrev outcomeBy : ℕ → Line → Lent → Fault → Side → Outcome

@@ -12,10 +12,10 @@ use lib.ListN.{length, getD}
 use borrow.Author.Tests.{leb-true, le-leb, eq-eqb, lt-ltb, le-ltb}
 use Rattle.share.specs.Share.{total, ofStage, stages, most}
 use Rattle.share.specs.Line.{Glyph, sideStages, sideFactors, lineFits, sumℤ}
-use Rattle.lines.specs.Line.{Line}
-use Rattle.line_parts.specs.Parts.{Known}
-use Rattle.line.specs.Justified.{Lent, equalLengths, lengthsOf, within, noneNegative, goodAdvances, allKnown}
-use Rattle.line.proofs.Tests.{and-left, and-right, lengths-hold, known-each}
+use Rattle.line_rule.specs.Line.{Line}
+use Rattle.line_moves.specs.Parts.{Known}
+use Rattle.line_call.specs.Justified.{Lent, equalLengths, lengthsOf, within, noneNegative, goodAdvances, allKnown}
+use Rattle.line_call.proofs.Tests.{and-left, and-right, lengths-hold, known-each}
 use Rattle.line_laws.specs.Bars.{OneLength, Measured, stageTotal, SmallTotals}
 
 and-both : {a b : Bool} → a ≡ true → b ≡ true → (a && b) ≡ true

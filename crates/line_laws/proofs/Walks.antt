@@ -17,23 +17,23 @@ use Rattle.fields.specs.declared.Fault.the-variants.{Clear, Bad}
 use Rattle.fields.specs.Field.{Bytes}
 use Rattle.fields.specs.Faults.{rule}
 use Rattle.fields.specs.Laws.{rule-holds, rule-clear, rule-fails}
-use Rattle.parts.specs.declared.Direction.{Direction}
-use Rattle.parts.specs.declared.Direction.the-variants.{Horizontal, Vertical}
+use Rattle.types.specs.declared.Direction.{Direction}
+use Rattle.types.specs.declared.Direction.the-variants.{Horizontal, Vertical}
 use Rattle.meaning.specs.Meaning.{Machine, Meaning}
 use Rattle.meaning.specs.Limits.{OkMaybe, Valid}
 use Rattle.meaning.specs.Ask.{sideOf}
-use Rattle.walk.specs.Walk.{Walk, going, stopped}
-use Rattle.walk.proofs.Laws.{never-walked}
+use Rattle.class_walk.specs.Walk.{Walk, going, stopped}
+use Rattle.class_walk.proofs.Laws.{never-walked}
 use Rattle.table.specs.Table.{Accepted, tableFault}
 use Rattle.table.specs.Means.{meaningOf}
 use Rattle.table_laws.specs.Order.{First}
 use Rattle.table_laws.proofs.Faults.{clear-not-bad, rule-bad}
 use Rattle.table_laws.proofs.Valid.{valid-meaning}
-use Rattle.lines.specs.Line.{Line, walkMachine, walkOf, hasStopped, classesOf, entriesOf}
-use Rattle.line_parts.specs.Parts.{Known}
-use Rattle.line.specs.declared.LineAnswer.the-variants.{Justified, Refused}
-use Rattle.line.specs.Justified.{Lent, justified}
-use Rattle.line.proofs.Theorems.{answered, cleared, walk-ends, walk-never}
+use Rattle.line_rule.specs.Line.{Line, walkMachine, walkOf, hasStopped, classesOf, entriesOf}
+use Rattle.line_moves.specs.Parts.{Known}
+use Rattle.line_call.specs.declared.LineAnswer.the-variants.{Justified, Refused}
+use Rattle.line_call.specs.Justified.{Lent, justified}
+use Rattle.line_call.proofs.Theorems.{answered, cleared, walk-ends, walk-never}
 use Rattle.line_laws.specs.Bars.{sideFor, lineParts, walkLine, NeverEnds, EndsWith, Ready}
 use Rattle.line_laws.proofs.Tests.{lengths-are, size-is, advances-are, glyphs-are}
 use Rattle.line_laws.proofs.Refusals.{call-refused}

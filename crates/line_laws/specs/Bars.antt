@@ -8,16 +8,16 @@ use lib.ListN.{length, replicate}
 use Rattle.fields.specs.declared.Fault.{Fault}
 use Rattle.meaning.specs.Meaning.{Side, Machine}
 use Rattle.meaning.specs.Ask.{sideOf}
-use Rattle.walk.specs.Walk.{Ends, Never}
-use Rattle.walk.specs.Walk as walk
-use Rattle.walk.specs.Line.{lineOf}
+use Rattle.class_walk.specs.Walk.{Ends, Never}
+use Rattle.class_walk.specs.Walk as walk
+use Rattle.class_walk.specs.Line.{lineOf}
 use Rattle.share.specs.Share.{total, ofStage}
 use Rattle.share.specs.Line.{Glyph, sideStages, sideFactors}
 use Rattle.table.specs.Table.{tableFault}
 use Rattle.table.specs.Means.{meaningOf}
-use Rattle.lines.specs.Line.{Line, walkMachine, kindOf}
-use Rattle.line_parts.specs.Parts.{Known}
-use Rattle.line.specs.Justified.{Lent, lengthsOf, inputTests, workTests, roomTest}
+use Rattle.line_rule.specs.Line.{Line, walkMachine, columnOf}
+use Rattle.line_moves.specs.Parts.{Known}
+use Rattle.line_call.specs.Justified.{Lent, lengthsOf, inputTests, workTests, roomTest}
 
 -- the direction of a line in the meaning of its table
 abbrev pub sideFor : List ℕ → ℕ → Line → Side
@@ -61,7 +61,7 @@ pub record SmallTotals (gs : List Glyph) : Type 0 where
 
 -- the line as a machine walks it: its glyphs' classes in the machine, and whether it starts and ends the text
 abbrev pub walkLine : Machine → Line → walk.Line
-walkLine m l = lineOf (map (kindOf m) (l .glyphs)) (l .starts) (l .ends)
+walkLine m l = lineOf (map (columnOf m) (l .glyphs)) (l .starts) (l .ends)
 
 -- with no machine there is no walk, so none that never ends
 abbrev pub NeverEnds : Option Machine → Line → Type 0

@@ -4,10 +4,10 @@ use mathlib.Core.Path.{_≡_}
 use mathlib.Core.List.{List}
 use lib.IntN.{ℤ}
 use lib.Signed.{_≤ℤ_}
-use Rattle.lines.specs.Line.{Line}
-use Rattle.lines.specs.Edges.{leftEdge, rightEdge, aimed}
-use Rattle.line.specs.declared.LineAnswer.the-variants.{Justified}
-use Rattle.line.specs.Justified.{Lent, justified}
+use Rattle.line_rule.specs.Line.{Line}
+use Rattle.line_rule.specs.Edges.{leftEdge, rightEdge, aimed}
+use Rattle.line_call.specs.declared.LineAnswer.the-variants.{Justified}
+use Rattle.line_call.specs.Justified.{Lent, justified}
 
 -- a line's call is accepted: it answers with numbers
 pub record Shown (t : List ℕ) (n : ℕ) (l : Line) (b : Lent) : Type 0 where

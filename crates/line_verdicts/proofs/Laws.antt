@@ -16,27 +16,27 @@ use Rattle.fields.specs.declared.Fault.the-variants.{Clear}
 use Rattle.fields.specs.Field.{u16At, u32At}
 use Rattle.fields.specs.Laws.{then-first, then-second}
 use Rattle.fields.specs.Walk.{walk}
-use Rattle.parts.specs.declared.Direction.{Direction}
-use Rattle.parts.specs.declared.Verdict.{Verdict}
+use Rattle.types.specs.declared.Direction.{Direction}
+use Rattle.types.specs.declared.Verdict.{Verdict}
 use Rattle.meaning.specs.Meaning.{Action, Side}
 use Rattle.meaning.specs.Ask.{sideOf}
 use Rattle.actions.specs.declared.Spot.{Spot}
 use Rattle.actions.specs.declared.Spot.the-variants.{At, Nowhere}
 use Rattle.actions.specs.Faults.{actionFault, actionsFault, listFault}
-use Rattle.lists.proofs.UptoLaws.{getD-from}
+use Rattle.encoding.proofs.UptoLaws.{getD-from}
 use Rattle.actions.specs.Actions.{bytesAt, contentAt, actionAt, actionsAt, listAt, Below}
 use Rattle.actions.proofs.Laws.{action-inside, list-count, list-length}
-use Rattle.values.specs.Values.{listHere}
+use Rattle.lookup_targets.specs.Values.{listHere}
 use Rattle.verdict.specs.declared.Fires.{Fires}
 use Rattle.verdict.specs.declared.Fires.the-variants.{No, Plain, Substitutes}
-use Rattle.verdict.specs.Verdict.{breaks, substitutes, kindFires, firesOf}
+use Rattle.verdict.specs.Verdict.{breaks, substitutes, typeFires, firesOf}
 use Rattle.table.specs.Table.{tableFault}
 use Rattle.table.specs.Means.{meaningOf}
 use Rattle.table.proofs.Laws.{short}
-use Rattle.table_parts.specs.Places.{listSpot}
-use Rattle.table_parts.proofs.Asked.{side-is, lists-are}
-use Rattle.table_parts.proofs.Laws.{list-clear}
-use Rattle.lines.specs.Line.{recordIf, firings, verdictsFrom}
+use Rattle.table_ask.specs.Places.{listSpot}
+use Rattle.table_ask.proofs.Asked.{side-is, lists-are}
+use Rattle.table_ask.proofs.Laws.{list-clear}
+use Rattle.line_rule.specs.Line.{recordIf, firings, verdictsFrom}
 use Rattle.line_verdicts.specs.declared.Cursor.{Cursor}
 use Rattle.line_verdicts.specs.declared.Step.{Step}
 use Rattle.line_verdicts.specs.Cursor.{Moved, classAt, growthAt, verdictsAt, listLeft, leftAt, startCursor, handCursor, firesCount, given, stepOf, nothingAt, pastOf, judgedAt, Serves, Begins, InList, Here, InLine, Fits}
@@ -410,19 +410,19 @@ u32-copied t first n k h =
     rw (byte-copied t first n k (omega arith), byte-copied t first n (k + 1) (omega arith), byte-copied t first n (k + 2) (omega arith), byte-copied t first n (k + 2 + 1) (omega arith))
     (simp add-assoc)
 
-same-limits : (kind : ℕ) (xs ys : List ℕ) (g : ℤ) (s : ℕ) → u32At xs 0 ≡ u32At ys 0 → u32At xs 4 ≡ u32At ys 4 → kindFires kind xs g s ≡ kindFires kind ys g s
-unfolding kindFires breaks substitutes
-same-limits kind xs ys g s e f = simp (e, f)
+same-limits : (ty : ℕ) (xs ys : List ℕ) (g : ℤ) (s : ℕ) → u32At xs 0 ≡ u32At ys 0 → u32At xs 4 ≡ u32At ys 4 → typeFires ty xs g s ≡ typeFires ty ys g s
+unfolding typeFires breaks substitutes
+same-limits ty xs ys g s e f = simp (e, f)
 
 module _ (t : List ℕ) (at : ℕ) (g : ℤ) (s : ℕ) where
-  zero-type : kindFires 0 (drop (at + 8) t) g s ≡ kindFires 0 (contentAt t at 0) g s
+  zero-type : typeFires 0 (drop (at + 8) t) g s ≡ typeFires 0 (contentAt t at 0) g s
   unfolding contentAt
   zero-type =
       same-limits 0 (drop (at + 8) t) (bytesAt t (at + 8) (12 + 2 * u16At t (at + 18))) g s
       (u32-dropped t (at + 8) 0 ∙ sym (u32-copied t (at + 8) (12 + 2 * u16At t (at + 18)) 0 (omega arith)))
       (u32-dropped t (at + 8) 4 ∙ sym (u32-copied t (at + 8) (12 + 2 * u16At t (at + 18)) 4 (omega arith)))
 
-  two-type : kindFires 2 (drop (at + 8) t) g s ≡ kindFires 2 (contentAt t at 2) g s
+  two-type : typeFires 2 (drop (at + 8) t) g s ≡ typeFires 2 (contentAt t at 2) g s
   unfolding contentAt
   two-type =
       same-limits 2 (drop (at + 8) t) (bytesAt t (at + 8) 8) g s
@@ -430,31 +430,31 @@ module _ (t : List ℕ) (at : ℕ) (g : ℤ) (s : ℕ) where
       (u32-dropped t (at + 8) 4 ∙ sym (u32-copied t (at + 8) 8 4 (omega arith)))
 
   -- the other types have no limits
-  other-type : (kind : ℕ) → (kind ≡ 0 → ⊥) → (kind ≡ 2 → ⊥) → kindFires kind (drop (at + 8) t) g s ≡ kindFires kind (contentAt t at kind) g s
-  unfolding kindFires
-  other-type kind a b = simp (ne-eqb kind 0 a, ne-eqb kind 2 b)
+  other-type : (ty : ℕ) → (ty ≡ 0 → ⊥) → (ty ≡ 2 → ⊥) → typeFires ty (drop (at + 8) t) g s ≡ typeFires ty (contentAt t at ty) g s
+  unfolding typeFires
+  other-type ty a b = simp (ne-eqb ty 0 a, ne-eqb ty 2 b)
 
-  kind-where : (kind : ℕ) → kindFires kind (drop (at + 8) t) g s ≡ kindFires kind (contentAt t at kind) g s
-  kind-where kind = go (ℕ-discrete kind 0) (ℕ-discrete kind 2)
+  ty-where : (ty : ℕ) → typeFires ty (drop (at + 8) t) g s ≡ typeFires ty (contentAt t at ty) g s
+  ty-where ty = go (ℕ-discrete ty 0) (ℕ-discrete ty 2)
     where
-      go : Dec (kind ≡ 0) → Dec (kind ≡ 2) → kindFires kind (drop (at + 8) t) g s ≡ kindFires kind (contentAt t at kind) g s
-      go (yes e) q = subst (λ (k : ℕ). kindFires k (drop (at + 8) t) g s ≡ kindFires k (contentAt t at k) g s) (sym e) zero-type
-      go (no a) (yes e) = subst (λ (k : ℕ). kindFires k (drop (at + 8) t) g s ≡ kindFires k (contentAt t at k) g s) (sym e) two-type
-      go (no a) (no b) = other-type kind a b
+      go : Dec (ty ≡ 0) → Dec (ty ≡ 2) → typeFires ty (drop (at + 8) t) g s ≡ typeFires ty (contentAt t at ty) g s
+      go (yes e) q = subst (λ (k : ℕ). typeFires k (drop (at + 8) t) g s ≡ typeFires k (contentAt t at k) g s) (sym e) zero-type
+      go (no a) (yes e) = subst (λ (k : ℕ). typeFires k (drop (at + 8) t) g s ≡ typeFires k (contentAt t at k) g s) (sym e) two-type
+      go (no a) (no b) = other-type ty a b
 
 module _ (t : List ℕ) (at class : ℕ) (g : ℤ) (s : ℕ) where
   pub other-class : (u16At t at ≡ class → ⊥) → No ≡ firesOf (actionAt t at) class g s
   unfolding firesOf actionAt
-  other-class e = sym (ap (λ (b : Bool). cond b (kindFires (u16At t (at + 2)) (contentAt t at (u16At t (at + 2))) g s) No) (ne-eqb (u16At t at) class e))
+  other-class e = sym (ap (λ (b : Bool). cond b (typeFires (u16At t (at + 2)) (contentAt t at (u16At t (at + 2))) g s) No) (ne-eqb (u16At t at) class e))
 
-  pub own-class : {r : Fires} {kind : ℕ} {content : List ℕ} → r ≡ kindFires kind content g s → u16At t at ≡ class → kind ≡ u16At t (at + 2) → content ≡ drop (at + 8) t
+  pub own-class : {r : Fires} {ty : ℕ} {content : List ℕ} → r ≡ typeFires ty content g s → u16At t at ≡ class → ty ≡ u16At t (at + 2) → content ≡ drop (at + 8) t
       → r ≡ firesOf (actionAt t at) class g s
   unfolding firesOf actionAt
-  own-class {r} {kind} {content} f e k q =
+  own-class {r} {ty} {content} f e k q =
       f
-      ∙ ap₂ (λ (x : ℕ) (y : List ℕ). kindFires x y g s) k q
-      ∙ kind-where t at g s (u16At t (at + 2))
-      ∙ sym (ap (λ (b : Bool). cond b (kindFires (u16At t (at + 2)) (contentAt t at (u16At t (at + 2))) g s) No) (eq-eqb (u16At t at) class e))
+      ∙ ap₂ (λ (x : ℕ) (y : List ℕ). typeFires x y g s) k q
+      ∙ ty-where t at g s (u16At t (at + 2))
+      ∙ sym (ap (λ (b : Bool). cond b (typeFires (u16At t (at + 2)) (contentAt t at (u16At t (at + 2))) g s) No) (eq-eqb (u16At t at) class e))
 
 -- what stands from a position to the end
 pub rest-whole : (t : List ℕ) (n : ℕ) → take (length t - n) (drop n t) ≡ drop n t

@@ -9,7 +9,7 @@ use lib.IntN.{ℤ, pos, _+ℤ_}
 use lib.ListN.{length, getD, drop}
 use Rattle.fields.specs.declared.Fault.the-variants.{Clear}
 use Rattle.fields.specs.Field.{u32At}
-use Rattle.parts.specs.declared.Verdict.{Verdict}
+use Rattle.types.specs.declared.Verdict.{Verdict}
 use Rattle.meaning.specs.Meaning.{Action, Side}
 use Rattle.actions.specs.Faults.{actionsFault}
 use Rattle.actions.specs.Actions.{actionAt, actionsAt}
@@ -17,7 +17,7 @@ use Rattle.verdict.specs.declared.Fires.{Fires}
 use Rattle.verdict.specs.declared.Fires.the-variants.{No, Plain, Substitutes}
 use Rattle.verdict.specs.Verdict.{firesOf}
 use Rattle.table.specs.Table.{tableFault}
-use Rattle.lines.specs.Line.{firings, verdictsFrom}
+use Rattle.line_rule.specs.Line.{firings, verdictsFrom}
 use Rattle.line_verdicts.specs.declared.Cursor.{Cursor}
 use Rattle.line_verdicts.specs.declared.Step.{Step}
 

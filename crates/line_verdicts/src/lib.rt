@@ -11,14 +11,14 @@ ghost use Rattle.actions.specs.Actions.{actionAt};
 ghost use Rattle.verdict.specs.Verdict.{firesOf};
 ghost use Rattle.table.specs.Table.{tableFault};
 ghost use Rattle.table.specs.Means.{meaningOf};
-ghost use Rattle.table_parts.specs.Places.{listsIn, Readable};
-ghost use Rattle.lines.specs.Line.{firings, verdictsFrom};
+ghost use Rattle.table_ask.specs.Places.{listsIn, Readable};
+ghost use Rattle.line_rule.specs.Line.{firings, verdictsFrom};
 ghost use Rattle.line_verdicts.specs.Cursor.{moved, stepOf, nothingAt, judgedAt, firesCount, handCursor, listLeft, Serves, Begins, InList, Here, InLine, Ready};
 use actions::Spot;
-use lines::LineShape;
-use parts::Direction;
-use parts::Verdict;
-use table_parts::Lookup;
+use line_rule::LineShape;
+use table_ask::Lookup;
+use types::Direction;
+use types::Verdict;
 use units::Units;
 use verdict::Fires;
 
@@ -47,8 +47,8 @@ fn fires_here(table: &[u8], at: usize, class: u8, growth: Units, size: u32) -> F
     if fields::u16_in(table, at) != class as usize {
         return Fires::No;
     }
-    let kind = fields::u16_in(table, at + 2) as u16;
-    verdict::kind_fires(kind, &table[at + 8..], growth, size)
+    let ty = fields::u16_in(table, at + 2) as u16;
+    verdict::type_fires(ty, &table[at + 8..], growth, size)
 }
 
 // What a glyph grows by: its two movements.
@@ -187,7 +187,7 @@ fn begin(
     requires { ⌜ (lists ≡ listsIn (now table) direction) × Readable (now table) lists ⌝ }
     ensures { λ r. ⌜ Begins (now (table .entry)) (getD (sideOf direction (meaningOf (now (table .entry)) count) .lists) glyph []) place r ⌝ }
 {
-    let Spot::At(at) = table_parts::list_by(table, count, lists, glyph) else {
+    let Spot::At(at) = table_ask::list_by(table, count, lists, glyph) else {
         return Cursor {
             next: place + 1,
             number: 0,
@@ -222,7 +222,7 @@ pub fn next_verdict<'a>(
     if here.found {
         return here;
     }
-    let lists = table_parts::lists_in(table, direction);
+    let lists = table_ask::lists_in(table, direction);
     let mut next = cursor.next;
     while next < glyphs.len() {
         let begun = begin(table, count, direction, lists, glyphs[next], next);
@@ -290,7 +290,7 @@ fn count_glyph(
     requires { ⌜ (lists ≡ listsIn (now table) direction) × Readable (now table) lists ⌝ }
     ensures { λ r. ⌜ (r ≡ length (firings 0 class size (growth .0) 0 (getD (sideOf direction (meaningOf (now (table .entry)) count) .lists) glyph []))) × (r ≤ 64) ⌝ }
 {
-    let Spot::At(at) = table_parts::list_by(table, count, lists, glyph) else {
+    let Spot::At(at) = table_ask::list_by(table, count, lists, glyph) else {
         return 0;
     };
     count_list(
@@ -317,7 +317,7 @@ pub fn count_verdicts<'a>(
     ensures { λ r. ⌜ r ≡ length (verdictsFrom (sideOf (shape .direction) (meaningOf (now (table .entry)) count)) (shape .size) 0 (now (glyphs .entry)) (now (classes .entry)) (now (before .entry)) (now (after .entry))) ⌝ }
 {
     let direction = shape.direction;
-    let lists = table_parts::lists_in(table, direction);
+    let lists = table_ask::lists_in(table, direction);
     let mut total: usize = 0;
     let mut place: usize = 0;
     while place < glyphs.len() {

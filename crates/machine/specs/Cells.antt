@@ -6,7 +6,7 @@ use mathlib.Core.List.{List}
 use lib.ListN.{getD}
 use lib.Dec.{leb, ltb}
 use Rattle.fields.specs.Field.{u16At}
-use Rattle.parts.specs.declared.Entry.{Entry}
+use Rattle.types.specs.declared.Entry.{Entry}
 
 -- the class count, and where the class table, the state array and the entry table stand
 abbrev pub classCount : List ℕ → ℕ → ℕ

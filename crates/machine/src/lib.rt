@@ -13,7 +13,7 @@ ghost use Rattle.machine.specs.Rows.{cellPlace, entryPlace, entryFault, 
 ghost use Rattle.machine.specs.Machine.{headFault, classFault, classesFault, covered, classTableFault, machineFault};
 use fields::Fault;
 use fields::Refusal;
-use parts::Entry;
+use types::Entry;
 
 // The first fault of a machine's rows, or their count.
 pub enum Scan {

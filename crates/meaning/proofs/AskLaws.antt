@@ -10,11 +10,11 @@ use native.Mathlib.Nat.{div-add-mod', mod-lt, div-lt-iff-lt-mul}
 use lib.ListN.{getD, getElem?}
 use lib.Seq.{ext-getD}
 use borrow.Author.Tests.{lt-ltb, eq-eqb, ne-eqb}
-use Rattle.lists.specs.Codes.{All}
-use Rattle.lists.proofs.ListLaws.{all-at, elem-ext-below}
-use Rattle.parts.specs.declared.Direction.the-variants.{Horizontal, Vertical}
-use Rattle.parts.specs.declared.Entry.{Entry}
-use Rattle.parts.specs.declared.Pair.{Pair}
+use Rattle.encoding.specs.Codes.{All}
+use Rattle.encoding.proofs.ListLaws.{all-at, elem-ext-below}
+use Rattle.types.specs.declared.Direction.the-variants.{Horizontal, Vertical}
+use Rattle.types.specs.declared.Entry.{Entry}
+use Rattle.types.specs.declared.Pair.{Pair}
 use Rattle.meaning.specs.Meaning.{Machine, Action, Side, Meaning}
 use Rattle.meaning.specs.Ask.{Part, sizes, class, cell, width, action, Question, glyphCount, along, Answer, nothing, number, both, entry, pair, act, maybe, machinePart, cellOf, recordOf, askSide, ask}
 use Rattle.meaning.specs.Limits.{OkMachine, OkMaybe, OkPair, Rising, OkCluster, OkActions, OkSide, Valid}
@@ -103,13 +103,13 @@ cell-at m w k e h b =
 
 module _ (n : ℕ) (hn : n < 2 ^ 16) where
   machine-same : (a b : Machine) → OkMachine n a → OkMachine n b → both (a .rows) (a .classes) ≡ both (b .rows) (b .classes)
-      → ((g : ℕ) → g < 2 ^ 16 → maybe number (getElem? (a .kinds) g) ≡ maybe number (getElem? (b .kinds) g))
+      → ((g : ℕ) → g < 2 ^ 16 → maybe number (getElem? (a .columns) g) ≡ maybe number (getElem? (b .columns) g))
       → ((r c : ℕ) → r < 2 ^ 16 → c < 2 ^ 16 → maybe entry (cellOf a r c) ≡ maybe entry (cellOf b r c)) → a ≡ b
   machine-same a b ha hb e ks cs =
       let rows : a .rows ≡ b .rows = cc in
       let classes : a .classes ≡ b .classes = cc in
-      let kinds : a .kinds ≡ b .kinds =
-      elem-ext-below (2 ^ 16) (a .kinds) (b .kinds) (omega (arith, ha .kind-count)) (omega (arith, hb .kind-count)) (λ g l. number-same _ _ (ks g l)) in
+      let columns : a .columns ≡ b .columns =
+      elem-ext-below (2 ^ 16) (a .columns) (b .columns) (omega (arith, ha .column-count)) (omega (arith, hb .column-count)) (λ g l. number-same _ _ (ks g l)) in
       let w : ℕ = a .classes in
       let size : b .rows * b .classes ≡ a .rows * w = ap₂ _*_ (sym rows) (sym classes) in
       let wide : 0 < w = omega (arith, ha .some-classes) in
@@ -120,13 +120,13 @@ module _ (n : ℕ) (hn : n < 2 ^ 16) where
       ∙ entry-same _ _ (cs (k / w) (k % w)
       (omega (arith, div-lt-iff-lt-mul {k = w} wide .1 l, ha .few-rows)) (omega (arith, mod-lt k wide, ha .few-classes)))
       ∙ cell-at b w k classes wide (subst (λ (r : ℕ). k < r * w) rows l)) in
-      λ i. record { rows = rows i; classes = classes i; kinds = kinds i; cells = cells i }
+      λ i. record { rows = rows i; classes = classes i; columns = columns i; cells = cells i }
 
   -- a machine or none
   any-same : (a b : Option Machine) → OkMaybe n a → OkMaybe n b
       → machinePart (λ (m : Machine). both (m .rows) (m .classes)) a ≡ machinePart (λ (m : Machine). both (m .rows) (m .classes)) b
       → ((g : ℕ) → g < 2 ^ 16
-      → machinePart (λ (m : Machine). maybe number (getElem? (m .kinds) g)) a ≡ machinePart (λ (m : Machine). maybe number (getElem? (m .kinds) g)) b)
+      → machinePart (λ (m : Machine). maybe number (getElem? (m .columns) g)) a ≡ machinePart (λ (m : Machine). maybe number (getElem? (m .columns) g)) b)
       → ((r c : ℕ) → r < 2 ^ 16 → c < 2 ^ 16
       → machinePart (λ (m : Machine). maybe entry (cellOf m r c)) a ≡ machinePart (λ (m : Machine). maybe entry (cellOf m r c)) b)
       → a ≡ b

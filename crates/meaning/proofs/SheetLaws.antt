@@ -7,13 +7,13 @@ use native.Mathlib.Omega.{arith}
 use native.Mathlib.Nat.{mul-le-mul}
 use lib.ListN.{length, replicate, length-replicate}
 use Rattle.fields.specs.Field.{be32}
-use Rattle.lists.specs.Codes.{All, counted, PrefixFree}
-use Rattle.lists.specs.Sections.{byte, runSection, numbered, pool}
-use Rattle.lists.proofs.ListLaws.{all-map, all-unit, all-replicate}
-use Rattle.lists.proofs.CodeLaws.{be16-free, be32-free, peel, counted-free}
-use Rattle.lists.proofs.SectionLaws.{byte-free, run-section-free, numbered-free, pool-free, pool-none}
-use Rattle.parts.specs.declared.Entry.{Entry}
-use Rattle.parts.specs.declared.Pair.{Pair}
+use Rattle.encoding.specs.Codes.{All, counted, PrefixFree}
+use Rattle.encoding.specs.Sections.{byte, runSection, numbered, pool}
+use Rattle.encoding.proofs.ListLaws.{all-map, all-unit, all-replicate}
+use Rattle.encoding.proofs.CodeLaws.{be16-free, be32-free, peel, counted-free}
+use Rattle.encoding.proofs.SectionLaws.{byte-free, run-section-free, numbered-free, pool-free, pool-none}
+use Rattle.types.specs.declared.Entry.{Entry}
+use Rattle.types.specs.declared.Pair.{Pair}
 use Rattle.meaning.specs.Meaning.{Machine, Action, Side, Meaning, emptySide}
 use Rattle.meaning.specs.Discrete.{Entry-discrete, cluster-discrete, list-discrete}
 use Rattle.meaning.specs.Limits.{OkEntry, OkMachine, OkMaybe, OkPair, OkCluster, OkAction, OkActions, OkSide, Valid}
@@ -60,9 +60,9 @@ pair-free a b s t ha hb e =
 pub action-free : PrefixFree actionCode WideAction
 action-free a b s t ha hb e =
     let f = be16-free (a .class) (b .class) _ _ (ha .0) (hb .0) e in
-    let g = be16-free (a .kind) (b .kind) _ _ (ha .1) (hb .1) (f .1) in
+    let g = be16-free (a .ty) (b .ty) _ _ (ha .1) (hb .1) (f .1) in
     let h = counted-free byte (λ x. Unit {0}) byte-free (a .content) (b .content) s t (ha .2, all-unit (a .content)) (hb .2, all-unit (b .content)) (g .1) in
-    ((λ i. record { class = f .0 i; kind = g .0 i; content = h .0 i }), h .1)
+    ((λ i. record { class = f .0 i; ty = g .0 i; content = h .0 i }), h .1)
 
 -- ---- clusters and action lists
 
@@ -105,15 +105,15 @@ few-sizes : (n : ℕ) (m : Option Machine) → OkMaybe n m → W32 (length (size
 few-sizes n none h = (omega arith, tt)
 few-sizes n (some m) h = (omega arith, ((omega (arith, h .few-rows), omega (arith, h .few-classes)), tt))
 
-abbrev Kinds : ℕ → List ℕ → Type 0
-Kinds n l = (length l ≡ n) × All (λ (c : ℕ). c < 256) l
+abbrev Columns : ℕ → List ℕ → Type 0
+Columns n l = (length l ≡ n) × All (λ (c : ℕ). c < 256) l
 
 abbrev Cells : List Entry → Type 0
 Cells l = W32 (length l) × All WideEntry l
 
-kinds-ok : (n : ℕ) (m : Machine) → OkMachine n m → Kinds n (m .kinds)
-kinds-ok n m h =
-    (h .kind-count, all-map (λ (c : ℕ). c < m .classes) (λ (c : ℕ). c < 256) (λ (c : ℕ) k. omega (arith, h .few-classes)) (m .kinds) (h .kinds))
+columns-ok : (n : ℕ) (m : Machine) → OkMachine n m → Columns n (m .columns)
+columns-ok n m h =
+    (h .column-count, all-map (λ (c : ℕ). c < m .classes) (λ (c : ℕ). c < 256) (λ (c : ℕ) k. omega (arith, h .few-classes)) (m .columns) (h .columns))
 
 cells-ok : (n : ℕ) (m : Machine) → OkMachine n m → Cells (m .cells)
 cells-ok n m h = (
@@ -122,7 +122,7 @@ cells-ok n m h = (
 )
 
 -- sections 2 to 4
-within-free : (n : ℕ) → n < 2 ^ 16 → (ks ks′ : List ℕ) (cs cs′ : List Entry) (s t : List ℕ) → Kinds n ks → Kinds n ks′ → Cells cs → Cells cs′
+within-free : (n : ℕ) → n < 2 ^ 16 → (ks ks′ : List ℕ) (cs cs′ : List Entry) (s t : List ℕ) → Columns n ks → Columns n ks′ → Cells cs → Cells cs′
     → (runSection 1 ks ++ numbered Entry-discrete entryCode cs) ++ s ≡ (runSection 1 ks′ ++ numbered Entry-discrete entryCode cs′) ++ t
     → (ks ≡ ks′) × (cs ≡ cs′) × (s ≡ t)
 within-free n hn ks ks′ cs cs′ s t hk hk′ hc hc′ e =
@@ -144,8 +144,8 @@ machine-free n hn a b s t ha hb e =
     go (some a) none ha hb z e = absurd (cons≢nil z)
     go (some a) (some b) ha hb z e =
         let p = head-eq-of-cons-eq z in
-        let f = within-free n hn (a .kinds) (b .kinds) (a .cells) (b .cells) s t (kinds-ok n a ha) (kinds-ok n b hb) (cells-ok n a ha) (cells-ok n b hb) e in
-        ((λ i. some (record { rows = p i .0; classes = p i .1; kinds = f .0 i; cells = f .1 i })), f .2)
+        let f = within-free n hn (a .columns) (b .columns) (a .cells) (b .cells) s t (columns-ok n a ha) (columns-ok n b hb) (cells-ok n a ha) (cells-ok n b hb) e in
+        ((λ i. some (record { rows = p i .0; classes = p i .1; columns = f .0 i; cells = f .1 i })), f .2)
 
 -- ---- a direction
 

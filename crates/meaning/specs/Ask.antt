@@ -6,11 +6,11 @@ use mathlib.Core.Option.{Option, none, some}
 use mathlib.Core.List.{List, [], _∷_, _++_}
 use lib.Dec.{ltb, eqb}
 use lib.ListN.{length, getD, getElem?, replicate}
-use Rattle.parts.specs.declared.Direction.{Direction}
-use Rattle.parts.specs.declared.Direction.the-variants.{Horizontal, Vertical}
-use Rattle.parts.specs.declared.Entry.{Entry}
-use Rattle.parts.specs.declared.Pair.{Pair}
-use Rattle.parts.specs.declared.HeldAction.{HeldAction}
+use Rattle.types.specs.declared.Direction.{Direction}
+use Rattle.types.specs.declared.Direction.the-variants.{Horizontal, Vertical}
+use Rattle.types.specs.declared.Entry.{Entry}
+use Rattle.types.specs.declared.Pair.{Pair}
+use Rattle.types.specs.declared.HeldAction.{HeldAction}
 use Rattle.meaning.specs.Meaning.{Machine, Action, Side, Meaning}
 
 -- a part of one direction: S and class count; the class of a glyph; the cell of a row and a class; the width record of a glyph and a class;
@@ -59,7 +59,7 @@ sideOf Vertical m = m .vertical
 
 unfoldable pub askSide : Side → Part → Answer
 askSide s sizes = machinePart (λ (m : Machine). both (m .rows) (m .classes)) (s .machine)
-askSide s (class g) = machinePart (λ (m : Machine). maybe number (getElem? (m .kinds) g)) (s .machine)
+askSide s (class g) = machinePart (λ (m : Machine). maybe number (getElem? (m .columns) g)) (s .machine)
 askSide s (cell r c) = machinePart (λ (m : Machine). maybe entry (cellOf m r c)) (s .machine)
 askSide s (width g c) = maybe pair (recordOf c (getD (s .clusters) g []))
 askSide s (action g k) = maybe act (getElem? (getD (s .lists) g []) k)
@@ -71,4 +71,4 @@ ask m (along d p) = askSide (sideOf d m) p
 -- an action as it is handed out: its data, then zeros up to 76 bytes
 abbrev pub held : Action → HeldAction
 held a =
-    record { class = a .class; kind = a .kind; size = length (a .content); bytes = a .content ++ replicate (76 - length (a .content)) 0 }
+    record { class = a .class; ty = a .ty; size = length (a .content); bytes = a .content ++ replicate (76 - length (a .content)) 0 }

@@ -4,8 +4,8 @@ use mathlib.Core.Path.{_≡_, refl, sym, ap, _∙_}
 use mathlib.Core.List.{List, [], _∷_, List-discrete}
 use native.Mathlib.Decide.{ℕ-discrete}
 use lib.ListN.{getD, drop}
-use Rattle.parts.specs.declared.Entry.{Entry}
-use Rattle.parts.specs.declared.Pair.{Pair}
+use Rattle.types.specs.declared.Entry.{Entry}
+use Rattle.types.specs.declared.Pair.{Pair}
 use Rattle.meaning.specs.Meaning.{Action}
 
 -- things that can be told from the numbers that they are made of
@@ -34,7 +34,7 @@ Pair-discrete =
 
 pub Action-discrete : Discrete Action
 Action-discrete =
-    by-numbers (λ (a : Action). a .class ∷ a .kind ∷ a .content) (λ (l : List ℕ). record { class = getD l 0 0; kind = getD l 1 0; content = drop 2 l })
+    by-numbers (λ (a : Action). a .class ∷ a .ty ∷ a .content) (λ (l : List ℕ). record { class = getD l 0 0; ty = getD l 1 0; content = drop 2 l })
     (λ (a : Action). refl)
 
 pub cluster-discrete : Discrete (List Pair)

@@ -7,11 +7,11 @@ use mathlib.Core.Option.{Option, none, some}
 use mathlib.Core.List.{List, [], _∷_}
 use lib.ListN.{length, getD}
 use Rattle.fields.specs.Field.{u16At}
-use Rattle.lists.specs.Codes.{All}
-use Rattle.lists.specs.Distinct.{distinct}
-use Rattle.parts.specs.declared.Entry.{Entry}
-use Rattle.parts.specs.declared.Limits.{Limits}
-use Rattle.parts.specs.declared.Pair.{Pair}
+use Rattle.encoding.specs.Codes.{All}
+use Rattle.encoding.specs.Distinct.{distinct}
+use Rattle.types.specs.declared.Entry.{Entry}
+use Rattle.types.specs.declared.Limits.{Limits}
+use Rattle.types.specs.declared.Pair.{Pair}
 use Rattle.meaning.specs.Meaning.{Machine, Action, Side, Meaning}
 use Rattle.meaning.specs.Discrete.{Entry-discrete}
 
@@ -30,8 +30,8 @@ pub record OkMachine (glyphs : ℕ) (m : Machine) : Type 0 where
   pub few-rows : m .rows ≤ 256
   pub some-classes : 4 ≤ m .classes
   pub few-classes : m .classes ≤ 255
-  pub kind-count : length (m .kinds) ≡ glyphs
-  pub kinds : All (λ (c : ℕ). c < m .classes) (m .kinds)
+  pub column-count : length (m .columns) ≡ glyphs
+  pub columns : All (λ (c : ℕ). c < m .classes) (m .columns)
   pub cell-count : length (m .cells) ≡ m .rows * m .classes
   pub cells : All (OkEntry (m .rows)) (m .cells)
   pub least : (t : ℕ) → 2 ≤ t → t < m .rows → Closed (m .classes) (m .cells) t → ⊥
@@ -88,7 +88,7 @@ OkContent n (suc (suc (suc (suc (suc zero))))) d = (length d ≡ 4) × (u16At d 
 OkContent n (suc (suc (suc (suc (suc (suc k)))))) d = ⊥
 
 abbrev pub OkAction : ℕ → Action → Type 0
-OkAction n a = (a .class < 128) × (a .kind ≤ 5) × (length (a .content) ≤ 76) × All (λ (b : ℕ). b < 256) (a .content) × OkContent n (a .kind) (a .content)
+OkAction n a = (a .class < 128) × (a .ty ≤ 5) × (length (a .content) ≤ 76) × All (λ (b : ℕ). b < 256) (a .content) × OkContent n (a .ty) (a .content)
 
 -- the actions of a list; no actions stand for no list
 abbrev pub OkActions : ℕ → List Action → Type 0

@@ -4,20 +4,20 @@ use Prim.Native.Nat.{ℕ}
 use mathlib.Core.Option.{Option, none}
 use mathlib.Core.List.{List, []}
 use lib.ListN.{replicate}
-use Rattle.parts.specs.declared.Entry.{Entry}
-use Rattle.parts.specs.declared.Pair.{Pair}
+use Rattle.types.specs.declared.Entry.{Entry}
+use Rattle.types.specs.declared.Pair.{Pair}
 
 -- a class machine: the row count S, the class count, the class of every glyph below N, and the cells row by row
 pub record Machine : Type 0 where
   pub rows : ℕ
   pub classes : ℕ
-  pub kinds : List ℕ
+  pub columns : List ℕ
   pub cells : List Entry
 
 -- an action: its class, its type, and the bytes of its data without padding
 pub record Action : Type 0 where
   pub class : ℕ
-  pub kind : ℕ
+  pub ty : ℕ
   pub content : List ℕ
 
 -- one direction. The lists have an element for each glyph below N: its width records by rising class, [] where it has none, and its actions in order, [] where it has none

@@ -5,10 +5,10 @@ use mathlib.Core.Path.{_≡_}
 use mathlib.Core.Option.{Option, none, some}
 use mathlib.Core.List.{List, [], _∷_, _++_}
 use Rattle.fields.specs.Field.{be16, be32}
-use Rattle.lists.specs.Codes.{counted}
-use Rattle.lists.specs.Sections.{byte, runSection, distinctSection, numberSection, othersSection, othersRunSection, numbered, pool}
-use Rattle.parts.specs.declared.Entry.{Entry}
-use Rattle.parts.specs.declared.Pair.{Pair}
+use Rattle.encoding.specs.Codes.{counted}
+use Rattle.encoding.specs.Sections.{byte, runSection, distinctSection, numberSection, othersSection, othersRunSection, numbered, pool}
+use Rattle.types.specs.declared.Entry.{Entry}
+use Rattle.types.specs.declared.Pair.{Pair}
 use Rattle.meaning.specs.Meaning.{Machine, Action, Side, Meaning}
 use Rattle.meaning.specs.Discrete.{Entry-discrete, cluster-discrete, list-discrete}
 use Rattle.meaning.specs.Limits.{Valid}
@@ -33,7 +33,7 @@ pairCode p =
 
 -- class and type, 16-bit each, then the data after its 32-bit length
 abbrev pub actionCode : Action → List ℕ
-actionCode a = be16 (a .class) ++ be16 (a .kind) ++ counted byte (a .content)
+actionCode a = be16 (a .class) ++ be16 (a .ty) ++ counted byte (a .content)
 
 -- ---- a machine's parts, and nothing where there is no machine
 
@@ -41,9 +41,9 @@ abbrev pub sizesOf : Option Machine → List (ℕ × ℕ)
 sizesOf none = []
 sizesOf (some m) = (m .rows, m .classes) ∷ []
 
-abbrev pub kindsOf : Option Machine → List ℕ
-kindsOf none = []
-kindsOf (some m) = m .kinds
+abbrev pub columnsOf : Option Machine → List ℕ
+columnsOf none = []
+columnsOf (some m) = m .columns
 
 abbrev pub cellsOf : Option Machine → List Entry
 cellsOf none = []
@@ -57,7 +57,7 @@ machineSection m = counted sizesCode (sizesOf m)
 
 -- 2: runs of glyphs of one class other than 1
 abbrev pub classSection : Option Machine → List ℕ
-classSection m = runSection 1 (kindsOf m)
+classSection m = runSection 1 (columnsOf m)
 
 -- 3: distinct entries
 abbrev pub entrySection : Option Machine → List ℕ

@@ -3,9 +3,9 @@
 use Prim.Native.Nat.{ℕ, _<_, _^_}
 use mathlib.Core.List.{List}
 use lib.ListN.{length}
-use Rattle.lists.specs.Codes.{All}
-use Rattle.parts.specs.declared.Entry.{Entry}
-use Rattle.parts.specs.declared.Pair.{Pair}
+use Rattle.encoding.specs.Codes.{All}
+use Rattle.types.specs.declared.Entry.{Entry}
+use Rattle.types.specs.declared.Pair.{Pair}
 use Rattle.meaning.specs.Meaning.{Action}
 
 abbrev pub W16 : ℕ → Type 0
@@ -31,7 +31,7 @@ pub record WidePair (p : Pair) : Type 0 where
   pub flags-shrink : W16 (p .flags .shrink)
 
 abbrev pub WideAction : Action → Type 0
-WideAction a = W16 (a .class) × W16 (a .kind) × W32 (length (a .content))
+WideAction a = W16 (a .class) × W16 (a .ty) × W32 (length (a .content))
 
 -- a cluster and an action list
 abbrev pub FewPairs : List Pair → Type 0

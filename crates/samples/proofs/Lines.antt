@@ -8,8 +8,8 @@ use lib.IntN.{pos}
 use Rattle.fields.specs.Field.{u16At, u32At}
 use Rattle.fields.specs.Faults.{_then_, rule, inside}
 use Rattle.fields.specs.Walk.{walk}
-use Rattle.lists.specs.Upto.{from}
-use Rattle.parts.specs.declared.Direction.the-variants.{Horizontal, Vertical}
+use Rattle.encoding.specs.Upto.{from}
+use Rattle.types.specs.declared.Direction.the-variants.{Horizontal, Vertical}
 use Rattle.lookup.specs.Units.{unitSize}
 use Rattle.lookup.specs.Find.{unitsValue, hasUnits, unitCount, valueFrom, valueOf}
 use Rattle.meaning.specs.Meaning.{emptySide}
@@ -17,12 +17,12 @@ use Rattle.lookup.specs.Lookup.{countedFault, formatFault, lookupFault}
 use Rattle.machine.specs.Cells.{classAt, entryAt, cellAt}
 use Rattle.machine.specs.Rows.{entryFault, cellFault, rowFault, raised, raisedBy, faultFrom, countFrom, unless, rowCount}
 use Rattle.machine.specs.Machine.{headFault, classFault, classTableFault, machineFault}
-use Rattle.values.specs.Values.{glyphFault, valuesFault}
+use Rattle.lookup_targets.specs.Values.{glyphFault, valuesFault}
 use Rattle.table.specs.Table.{present, headerFault, offsetsFault, machinePart, actionPart, directionFault, tableFault, Accepted}
 use Rattle.table.specs.Means.{cellBy, machineAt, machineOf, sideAt, directionOf, meaningOf}
-use Rattle.lines.specs.Line.{Line}
-use Rattle.line.specs.Justified.{Lent}
-use Rattle.line.specs.Settle.{lineBy, lentBy}
+use Rattle.line_rule.specs.Line.{Line}
+use Rattle.line_call.specs.Justified.{Lent}
+use Rattle.line_call.specs.Settle.{lineBy, lentBy}
 use Rattle.samples.specs.Samples.{Proper, Shaped, empty, stuck, twelve}
 
 -- horizontal, at 10: a machine at 22, no actions, and a width lookup of format 6 without units, whose search fields are not read; the machine has 4 classes, a class

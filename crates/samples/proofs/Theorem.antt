@@ -15,24 +15,24 @@ use Rattle.fields.specs.declared.Fault.the-variants.{Clear, Bad}
 use Rattle.fields.specs.Field.{u16At, u32At}
 use Rattle.fields.specs.Faults.{_then_, rule}
 use Rattle.fields.specs.Laws.{then-go, then-stop, rule-clear, rule-fails}
-use Rattle.lists.specs.Codes.{All}
+use Rattle.encoding.specs.Codes.{All}
 use Rattle.units.specs.Fixed.{factorOf}
-use Rattle.parts.specs.declared.Direction.{Direction}
-use Rattle.parts.specs.declared.Verdict.{Verdict}
+use Rattle.types.specs.declared.Direction.{Direction}
+use Rattle.types.specs.declared.Verdict.{Verdict}
 use Rattle.meaning.specs.Meaning.{Machine, Side}
-use Rattle.walk.specs.Walk.{Never, Walk, stopped, walked}
-use Rattle.walk.specs.Line.{lineOf}
-use Rattle.walk.proofs.Laws.{never-walked}
-use Rattle.walk.proofs.Samples.{sample-never}
+use Rattle.class_walk.specs.Walk.{Never, Walk, stopped, walked}
+use Rattle.class_walk.specs.Line.{lineOf}
+use Rattle.class_walk.proofs.Laws.{never-walked}
+use Rattle.class_walk.proofs.Samples.{sample-never}
 use Rattle.share.specs.Share.{shares, stageMoves, stageLeft, stages, goesBack, movesBy, leftBy}
 use Rattle.share.specs.Line.{lineMoves, lineLeft, lineFits}
-use Rattle.verdict.specs.Verdict.{breaks, kindFires, firesOf}
+use Rattle.verdict.specs.Verdict.{breaks, typeFires, firesOf}
 use Rattle.table.specs.Table.{Accepted}
-use Rattle.lines.specs.Line.{Line, gapOf, walkMachine, kindOf, walkOf, hasStopped, classesOf, entriesOf, partsOf, partsFor, beforeOf, afterOf, remainderOf, verdictsFrom, verdictsOf}
-use Rattle.line.specs.Justified.{Lent, settled, roomTest, workedFault, lineFault, justified}
-use Rattle.line.specs.Settle.{lineBy, lentBy}
-use Rattle.line.proofs.Tests.{lengths-hold}
-use Rattle.line.specs.declared.LineAnswer.the-variants.{Justified, Refused}
+use Rattle.line_rule.specs.Line.{Line, gapOf, walkMachine, columnOf, walkOf, hasStopped, classesOf, entriesOf, partsOf, partsFor, beforeOf, afterOf, remainderOf, verdictsFrom, verdictsOf}
+use Rattle.line_call.specs.Justified.{Lent, settled, roomTest, workedFault, lineFault, justified}
+use Rattle.line_call.specs.Settle.{lineBy, lentBy}
+use Rattle.line_call.proofs.Tests.{lengths-hold}
+use Rattle.line_call.specs.declared.LineAnswer.the-variants.{Justified, Refused}
 use Rattle.samples.specs.Samples.{Proper, Empty, Stuck, sideFor, cases, Holds}
 use Rattle.samples.proofs.Lines.{empty-line, stuck-line}
 
@@ -135,17 +135,17 @@ module _ (t : List ℕ) (n : ℕ) (l : Line) (b : Lent) (p : Proper t n l b) (e 
 -- ---- the line that is stuck
 
 module _ (t : List ℕ) (n : ℕ) (l : Line) (b : Lent) (p : Proper t n l b) (e : Stuck t n l) where
-  never : Never (walkMachine (e .machine)) (lineOf (kindOf (e .machine) (e .glyph) ∷ []) false (l .ends))
-  never = sample-never (walkMachine (e .machine)) (kindOf (e .machine) (e .glyph)) (l .ends) (e .leads-back) (e .entry-stays)
+  never : Never (walkMachine (e .machine)) (lineOf (columnOf (e .machine) (e .glyph) ∷ []) false (l .ends))
+  never = sample-never (walkMachine (e .machine)) (columnOf (e .machine) (e .glyph)) (l .ends) (e .leads-back) (e .entry-stays)
 
   not-walked : hasStopped (walkOf (sideFor t n l .machine) l) ≡ false
   unfolding walkOf
   not-walked =
       let m : Machine = e .machine in
-      let kinds : map (kindOf m) (l .glyphs) ≡ kindOf m (e .glyph) ∷ [] = ap (map (kindOf m)) (e .one-glyph) in
+      let columns : map (columnOf m) (l .glyphs) ≡ columnOf m (e .glyph) ∷ [] = ap (map (columnOf m)) (e .one-glyph) in
       let w = never-walked _ _ never in
       ap (λ (o : Option Machine). hasStopped (walkOf o l)) (e .has-machine)
-      ∙ ap₂ (λ (ks : List ℕ) (starts : Bool). hasStopped (walked (walkMachine m) (lineOf ks starts (l .ends)))) kinds (e .not-first)
+      ∙ ap₂ (λ (ks : List ℕ) (starts : Bool). hasStopped (walked (walkMachine m) (lineOf ks starts (l .ends)))) columns (e .not-first)
       ∙ ap hasStopped (w .1)
 
   stuck-holds : justified t n l b ≡ record { answer = Refused EndlessWalk; lent = b }
@@ -159,15 +159,15 @@ module _ (t : List ℕ) (n : ℕ) (l : Line) (b : Lent) (p : Proper t n l b) (e 
 -- ---- a ligature
 
 -- an action of the glyph's own class
-own-class : (class kind : ℕ) (content : List ℕ) (g : ℤ) (size : ℕ)
-    → firesOf (record { class = class; kind = kind; content = content }) class g size ≡ kindFires kind content g size
+own-class : (class ty : ℕ) (content : List ℕ) (g : ℤ) (size : ℕ)
+    → firesOf (record { class = class; ty = ty; content = content }) class g size ≡ typeFires ty content g size
 unfolding firesOf
-own-class class kind content g size = rw (eq-eqb class class refl)
+own-class class ty content g size = rw (eq-eqb class class refl)
 
 -- ---- all
 
 pub all-hold : All Holds cases
-unfolding factorOf shares stageMoves stageLeft stages goesBack movesBy leftBy lineMoves lineLeft lineFits u16At u32At breaks kindFires
+unfolding factorOf shares stageMoves stageLeft stages goesBack movesBy leftBy lineMoves lineLeft lineFits u16At u32At breaks typeFires
 all-hold = (
   record { factor = refl; units = refl },
   (

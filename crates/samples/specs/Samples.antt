@@ -8,7 +8,7 @@ use mathlib.Core.List.{List, [], _∷_, _++_}
 use lib.IntN.{ℤ, pos}
 use Rattle.fields.specs.declared.Refusal.the-variants.{EndlessWalk}
 use Rattle.fields.specs.Field.{be32}
-use Rattle.parts.specs.declared.Entry.{Entry}
+use Rattle.types.specs.declared.Entry.{Entry}
 use Rattle.units.specs.Fixed.{fixedOf, factorOf}
 use Rattle.units.specs.Flags.{stays}
 use Rattle.meaning.specs.Meaning.{Machine, Side}
@@ -19,10 +19,10 @@ use Rattle.verdict.specs.declared.Fires.the-variants.{No, Plain}
 use Rattle.verdict.specs.Verdict.{firesOf}
 use Rattle.table.specs.Table.{Accepted}
 use Rattle.table.specs.Means.{meaningOf}
-use Rattle.lines.specs.Line.{Line, walkMachine, kindOf, unitsOf}
-use Rattle.line.specs.declared.LineAnswer.{LineAnswer}
-use Rattle.line.specs.declared.LineAnswer.the-variants.{Justified, Refused}
-use Rattle.line.specs.Justified.{Lent, lengthsOf, equalLengths, goodAdvances, allKnown, justified}
+use Rattle.line_rule.specs.Line.{Line, walkMachine, columnOf, unitsOf}
+use Rattle.line_call.specs.declared.LineAnswer.{LineAnswer}
+use Rattle.line_call.specs.declared.LineAnswer.the-variants.{Justified, Refused}
+use Rattle.line_call.specs.Justified.{Lent, lengthsOf, equalLengths, goodAdvances, allKnown, justified}
 
 -- ---- a case and what is expected of it
 
@@ -117,7 +117,7 @@ pub record ShareHolds (c : ShareCase) : Type 0 where
 abbrev pub LigatureHolds : LigatureCase → Type 0
 LigatureHolds c =
     (class : ℕ) (rest : List ℕ)
-    → firesOf (record { class = class; kind = 0; content = be32 (c .lower) ++ be32 (c .upper) ++ rest }) class (c .growth) (c .size) ≡ c .fires
+    → firesOf (record { class = class; ty = 0; content = be32 (c .lower) ++ be32 (c .upper) ++ rest }) class (c .growth) (c .size) ≡ c .fires
 
 -- the direction of a line in the meaning of its table
 abbrev pub sideFor : List ℕ → ℕ → Line → Side
@@ -130,7 +130,7 @@ pub record Empty (target : ℤ) (t : List ℕ) (n : ℕ) (l : Line) : Type 0 whe
 
 -- the entry for a glyph in row 1
 abbrev pub entryFor : Machine → ℕ → Entry
-entryFor m glyph = walkMachine m .cell 1 (kindOf m glyph)
+entryFor m glyph = walkMachine m .cell 1 (columnOf m glyph)
 
 pub record Stuck (t : List ℕ) (n : ℕ) (l : Line) : Type 0 where
   pub glyph : ℕ

@@ -95,7 +95,7 @@ length-movesBy ss back n ks fs us gap k f u =
 
 -- ---- a side that takes no part
 
--- the mark is a stage of the list
+-- the priority is a stage of the list
 abbrev pub among : ℕ → List ℕ → Bool
 among k [] = false
 among k (s ∷ ss) = eqb k s || among k ss
@@ -137,7 +137,7 @@ module _ (d i : ℕ) (ks fs us : List ℕ) where
       go true h = getD-shares r i (ofStage s ks fs) (getD-ofStage s d i ks fs (p .0))
       go false h = h
 
-  -- STAYS STILL: a side whose mark is no stage of the list does not move
+  -- STAYS STILL: a side whose priority is no stage of the list does not move
   pub still-by : (ss : List ℕ) (back : Bool) (gap : ℕ) → among (getD ks i d) ss ≡ false → getD (movesBy ss back ks fs us gap) i 0 ≡ 0
   unfolding movesBy
   still-by ss true gap e =

@@ -9,7 +9,7 @@ use lib.IntN.{ℤ, pos, negℤ, _+ℤ_}
 use Rattle.share.specs.Share.{stages, noPart, movements, remainder, within, empty}
 use Rattle.share.specs.Carry.{widest}
 
--- a glyph's part: its stage mark, 1 where it is unlimited and else 0, and the factors of its two sides
+-- a glyph's part: its stage priority, 1 where it is unlimited and else 0, and the factors of its two sides
 pub record Glyph : Type 0 where
   pub stage : ℕ
   pub extra : ℕ
@@ -77,7 +77,7 @@ abbrev pub sumℤ : List ℤ → ℤ
 sumℤ [] = pos 0
 sumℤ (z ∷ zs) = z +ℤ sumℤ zs
 
--- the glyphs whose stage marks, extra weights and factors stand in four lists
+-- the glyphs whose stage priorities, extra weights and factors stand in four lists
 abbrev pub glyphsOf : List ℕ → List ℕ → List ℕ → List ℕ → List Glyph
 glyphsOf [] us bs cs = []
 glyphsOf (k ∷ ks) [] bs cs = []
@@ -89,7 +89,7 @@ glyphsOf (k ∷ ks) (u ∷ us) (b ∷ bs) (c ∷ cs) = record { stage = k; extra
 abbrev pub Narrow : List ℕ → Type 0
 Narrow fs = (i : ℕ) → getD fs i 0 ≤ widest
 
--- lists of n glyphs: their stage marks and factors; and these with their extra weights, of no more glyphs than a line may have
+-- lists of n glyphs: their stage priorities and factors; and these with their extra weights, of no more glyphs than a line may have
 pub record Parts (n : ℕ) (ks bs cs : List ℕ) : Type 0 where
   pub stages : length ks ≡ n
   pub first : length bs ≡ n

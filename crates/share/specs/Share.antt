@@ -1,5 +1,5 @@
 -- The staged rule (document 01, "Sharing the gap", and refusal 15; stage 3 by document 02, request 2/14), on sizes: numbers of units without signs.
--- The sides of a line stand in line order, a glyph's before side ahead of its after side. Three lists say of each side its stage mark, its factor, and
+-- The sides of a line stand in line order, a glyph's before side ahead of its after side. Three lists say of each side its stage priority, its factor, and
 -- its extra weight: 1 on the after side of an unlimited glyph, else 0.
 use Prim.Native.Nat.{ℕ, _+_, _-_, _*_, _/_}
 use mathlib.Core.Bool.{Bool, true, cond, _&&_}
@@ -13,7 +13,7 @@ stages = 0 ∷ 1 ∷ 2 ∷ 3 ∷ []
 unfoldable pub goesBack : Bool
 goesBack = true
 
--- the stage mark of a side that takes no part; no stage
+-- the stage priority of a side that takes no part; no stage
 abbrev pub noPart : ℕ
 noPart = 255
 

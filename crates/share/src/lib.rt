@@ -1,6 +1,6 @@
 // A line's gap shared over its sides (document 01, "Sharing the gap" and refusal 15). All of it works on sizes; the sign stands in
-// `signed` alone. A line is four slices with an element for each glyph: its stage mark, 1 where it is unlimited and else 0, and the
-// factors of its before and its after side. A mark that is no stage, as 255, takes no part.
+// `signed` alone. A line is four slices with an element for each glyph: its stage priority, 1 where it is unlimited and else 0, and the
+// factors of its before and its after side. A priority that is no stage, as 255, takes no part.
 ghost use mathlib.Core.Path.{_≡_};
 ghost use Prim.Native.Nat.{ℕ, _+_, _*_, _≤_, _<_, _^_};
 ghost use lib.ListN.{length, replicate};
@@ -118,14 +118,14 @@ fn total_of(totals: Totals, stage: u8) -> u64
 }
 
 // The totals of a line's stages. Two factors a glyph, none above 1,073,741,824, and 1,024 glyphs: no sum passes 2 to the power 41.
-pub fn line_totals(marks: &[u8], first: &[u64], second: &[u64]) -> Totals
-    requires { ⌜ Parts (length (now marks)) (now marks) (now first) (now second) × (length (now marks) ≤ 1024) ⌝ }
-    ensures { λ r. ⌜ TotalsOf r (now (marks .entry)) (now (first .entry)) (now (second .entry)) ⌝ }
+pub fn line_totals(priorities: &[u8], first: &[u64], second: &[u64]) -> Totals
+    requires { ⌜ Parts (length (now priorities)) (now priorities) (now first) (now second) × (length (now priorities) ≤ 1024) ⌝ }
+    ensures { λ r. ⌜ TotalsOf r (now (priorities .entry)) (now (first .entry)) (now (second .entry)) ⌝ }
 {
     let mut sums = [0u64; STAGES as usize];
     let mut i = 0;
-    while i < marks.len() {
-        let stage = marks[i];
+    while i < priorities.len() {
+        let stage = priorities[i];
         if stage < STAGES {
             sums[stage as usize] += first[i] + second[i];
             i += 1;
@@ -153,22 +153,22 @@ pub fn totals_fit(totals: Totals) -> bool
 // Adds to the sides of a stage their factors; answers how much extra weight its glyphs have: the number of unlimited ones.
 fn give_all(
     stage: u8,
-    marks: &[u8],
+    priorities: &[u8],
     extras: &[u8],
     first: &[u64],
     second: &[u64],
     before: &mut [u64],
     after: &mut [u64],
 ) -> u64
-    requires { ⌜ Lent (length (now marks)) (now marks) (now extras) (now first) (now second) × Sides (length (now marks)) (now before) (now after) ⌝ }
-    requires { ⌜ Holds (total (factorsAt stage (now marks) (now first) (now second))) (now before) (now after) ⌝ }
-    ensures { λ r. ⌜ (r ≡ total (extrasAt stage (now (marks .entry)) (now (extras .entry)))) × (r ≤ most) ⌝ }
-    ensures { λ r. ⌜ Moved (factorsAt stage (now (marks .entry)) (now (first .entry)) (now (second .entry))) (now (before .entry)) (now (after .entry)) (now (before .exit)) (now (after .exit)) ⌝ }
+    requires { ⌜ Lent (length (now priorities)) (now priorities) (now extras) (now first) (now second) × Sides (length (now priorities)) (now before) (now after) ⌝ }
+    requires { ⌜ Holds (total (factorsAt stage (now priorities) (now first) (now second))) (now before) (now after) ⌝ }
+    ensures { λ r. ⌜ (r ≡ total (extrasAt stage (now (priorities .entry)) (now (extras .entry)))) × (r ≤ most) ⌝ }
+    ensures { λ r. ⌜ Moved (factorsAt stage (now (priorities .entry)) (now (first .entry)) (now (second .entry))) (now (before .entry)) (now (after .entry)) (now (before .exit)) (now (after .exit)) ⌝ }
 {
     let mut unlimited: u64 = 0;
     let mut i = 0;
-    while i < marks.len() {
-        if marks[i] == stage {
+    while i < priorities.len() {
+        if priorities[i] == stage {
             before[i] += first[i];
             after[i] += second[i];
             unlimited += extras[i] as u64;
@@ -185,23 +185,23 @@ fn give(
     amount: u64,
     over: u64,
     stage: u8,
-    marks: &[u8],
+    priorities: &[u8],
     first: &[u64],
     second: &[u64],
     before: &mut [u64],
     after: &mut [u64],
 )
-    requires { ⌜ Parts (length (now marks)) (now marks) (now first) (now second) × Sides (length (now marks)) (now before) (now after) ⌝ }
-    requires { ⌜ Holds amount (now before) (now after) × (over ≡ total (factorsAt stage (now marks) (now first) (now second))) × (over ≤ most) ⌝ }
-    ensures { λ r. ⌜ Moved (shares amount (factorsAt stage (now (marks .entry)) (now (first .entry)) (now (second .entry)))) (now (before .entry)) (now (after .entry)) (now (before .exit)) (now (after .exit)) ⌝ }
+    requires { ⌜ Parts (length (now priorities)) (now priorities) (now first) (now second) × Sides (length (now priorities)) (now before) (now after) ⌝ }
+    requires { ⌜ Holds amount (now before) (now after) × (over ≡ total (factorsAt stage (now priorities) (now first) (now second))) × (over ≤ most) ⌝ }
+    ensures { λ r. ⌜ Moved (shares amount (factorsAt stage (now (priorities .entry)) (now (first .entry)) (now (second .entry)))) (now (before .entry)) (now (after .entry)) (now (before .exit)) (now (after .exit)) ⌝ }
 {
     if over == 0 {
         return;
     }
     let mut run = start(amount, over);
     let mut i = 0;
-    while i < marks.len() {
-        if marks[i] == stage {
+    while i < priorities.len() {
+        if priorities[i] == stage {
             let one = next_share(run, first[i]);
             let middle = one.next;
             let two = next_share(middle, second[i]);
@@ -216,15 +216,22 @@ fn give(
 }
 
 // Adds to the after sides of a stage's unlimited glyphs their shares of the amount; `over` is their number.
-fn give_extra(amount: u64, over: u64, stage: u8, marks: &[u8], extras: &[u8], after: &mut [u64])
-    requires { ⌜ (length (now extras) ≡ length (now marks)) × (length (now after) ≡ length (now marks)) ⌝ }
-    requires { ⌜ (amount ≤ 1073741823) × (total (now after) + amount < 2 ^ 63) × (over ≡ total (extrasAt stage (now marks) (now extras))) × (over ≤ most) × (0 < over) ⌝ }
-    ensures { λ r. ⌜ now (after .exit) ≡ plus (now (after .entry)) (odds (shares amount (extrasAt stage (now (marks .entry)) (now (extras .entry))))) ⌝ }
+fn give_extra(
+    amount: u64,
+    over: u64,
+    stage: u8,
+    priorities: &[u8],
+    extras: &[u8],
+    after: &mut [u64],
+)
+    requires { ⌜ (length (now extras) ≡ length (now priorities)) × (length (now after) ≡ length (now priorities)) ⌝ }
+    requires { ⌜ (amount ≤ 1073741823) × (total (now after) + amount < 2 ^ 63) × (over ≡ total (extrasAt stage (now priorities) (now extras))) × (over ≤ most) × (0 < over) ⌝ }
+    ensures { λ r. ⌜ now (after .exit) ≡ plus (now (after .entry)) (odds (shares amount (extrasAt stage (now (priorities .entry)) (now (extras .entry))))) ⌝ }
 {
     let mut run = start(amount, over);
     let mut i = 0;
-    while i < marks.len() {
-        if marks[i] == stage {
+    while i < priorities.len() {
+        if priorities[i] == stage {
             let one = next_share(run, extras[i] as u64);
             after[i] += one.share;
             run = one.next;
@@ -240,19 +247,19 @@ fn share_extra(
     left: u64,
     over: u64,
     stage: u8,
-    marks: &[u8],
+    priorities: &[u8],
     extras: &[u8],
     after: &mut [u64],
 ) -> u64
-    requires { ⌜ (length (now extras) ≡ length (now marks)) × (length (now after) ≡ length (now marks)) ⌝ }
-    requires { ⌜ (left ≤ 1073741823) × (total (now after) + left < 2 ^ 63) × (over ≡ total (extrasAt stage (now marks) (now extras))) × (over ≤ most) ⌝ }
-    ensures { λ r. ⌜ r ≡ cond (ltb 0 (total (extrasAt stage (now (marks .entry)) (now (extras .entry))))) 0 left ⌝ }
-    ensures { λ r. ⌜ now (after .exit) ≡ plus (now (after .entry)) (odds (shares left (extrasAt stage (now (marks .entry)) (now (extras .entry))))) ⌝ }
+    requires { ⌜ (length (now extras) ≡ length (now priorities)) × (length (now after) ≡ length (now priorities)) ⌝ }
+    requires { ⌜ (left ≤ 1073741823) × (total (now after) + left < 2 ^ 63) × (over ≡ total (extrasAt stage (now priorities) (now extras))) × (over ≤ most) ⌝ }
+    ensures { λ r. ⌜ r ≡ cond (ltb 0 (total (extrasAt stage (now (priorities .entry)) (now (extras .entry))))) 0 left ⌝ }
+    ensures { λ r. ⌜ now (after .exit) ≡ plus (now (after .entry)) (odds (shares left (extrasAt stage (now (priorities .entry)) (now (extras .entry))))) ⌝ }
 {
     if over == 0 {
         return left;
     }
-    give_extra(left, over, stage, marks, extras, after);
+    give_extra(left, over, stage, priorities, extras, after);
     0
 }
 
@@ -261,44 +268,44 @@ fn share_stage(
     left: u64,
     over: u64,
     stage: u8,
-    marks: &[u8],
+    priorities: &[u8],
     extras: &[u8],
     first: &[u64],
     second: &[u64],
     before: &mut [u64],
     after: &mut [u64],
 ) -> u64
-    requires { ⌜ Lent (length (now marks)) (now marks) (now extras) (now first) (now second) × Sides (length (now marks)) (now before) (now after) ⌝ }
-    requires { ⌜ Holds left (now before) (now after) × (over ≡ total (factorsAt stage (now marks) (now first) (now second))) × (over ≤ most) ⌝ }
-    ensures { λ r. ⌜ r ≡ stageLeft left (factorsAt stage (now (marks .entry)) (now (first .entry)) (now (second .entry))) (extrasAt stage (now (marks .entry)) (now (extras .entry))) ⌝ }
-    ensures { λ r. ⌜ Moved (stageMoves left (factorsAt stage (now (marks .entry)) (now (first .entry)) (now (second .entry))) (extrasAt stage (now (marks .entry)) (now (extras .entry)))) (now (before .entry)) (now (after .entry)) (now (before .exit)) (now (after .exit)) ⌝ }
+    requires { ⌜ Lent (length (now priorities)) (now priorities) (now extras) (now first) (now second) × Sides (length (now priorities)) (now before) (now after) ⌝ }
+    requires { ⌜ Holds left (now before) (now after) × (over ≡ total (factorsAt stage (now priorities) (now first) (now second))) × (over ≤ most) ⌝ }
+    ensures { λ r. ⌜ r ≡ stageLeft left (factorsAt stage (now (priorities .entry)) (now (first .entry)) (now (second .entry))) (extrasAt stage (now (priorities .entry)) (now (extras .entry))) ⌝ }
+    ensures { λ r. ⌜ Moved (stageMoves left (factorsAt stage (now (priorities .entry)) (now (first .entry)) (now (second .entry))) (extrasAt stage (now (priorities .entry)) (now (extras .entry)))) (now (before .entry)) (now (after .entry)) (now (before .exit)) (now (after .exit)) ⌝ }
 {
     if left == 0 {
         return 0;
     }
     if left <= over {
-        give(left, over, stage, marks, first, second, before, after);
+        give(left, over, stage, priorities, first, second, before, after);
         return 0;
     }
-    let unlimited = give_all(stage, marks, extras, first, second, before, after);
-    share_extra(left - over, unlimited, stage, marks, extras, after)
+    let unlimited = give_all(stage, priorities, extras, first, second, before, after);
+    share_extra(left - over, unlimited, stage, priorities, extras, after)
 }
 
 // The stages in turn: adds their movements; answers what the last one leaves.
 fn share_stages(
     gap: u64,
     totals: Totals,
-    marks: &[u8],
+    priorities: &[u8],
     extras: &[u8],
     first: &[u64],
     second: &[u64],
     before: &mut [u64],
     after: &mut [u64],
 ) -> u64
-    requires { ⌜ Lent (length (now marks)) (now marks) (now extras) (now first) (now second) × Sides (length (now marks)) (now before) (now after) ⌝ }
-    requires { ⌜ Holds gap (now before) (now after) × Fit totals (now marks) (now first) (now second) ⌝ }
-    ensures { λ r. ⌜ r ≡ lineOf stagesLeft (now (marks .entry)) (now (extras .entry)) (now (first .entry)) (now (second .entry)) stages gap ⌝ }
-    ensures { λ r. ⌜ Moved (lineOf stagesMoves (now (marks .entry)) (now (extras .entry)) (now (first .entry)) (now (second .entry)) stages gap) (now (before .entry)) (now (after .entry)) (now (before .exit)) (now (after .exit)) ⌝ }
+    requires { ⌜ Lent (length (now priorities)) (now priorities) (now extras) (now first) (now second) × Sides (length (now priorities)) (now before) (now after) ⌝ }
+    requires { ⌜ Holds gap (now before) (now after) × Fit totals (now priorities) (now first) (now second) ⌝ }
+    ensures { λ r. ⌜ r ≡ lineOf stagesLeft (now (priorities .entry)) (now (extras .entry)) (now (first .entry)) (now (second .entry)) stages gap ⌝ }
+    ensures { λ r. ⌜ Moved (lineOf stagesMoves (now (priorities .entry)) (now (extras .entry)) (now (first .entry)) (now (second .entry)) stages gap) (now (before .entry)) (now (after .entry)) (now (before .exit)) (now (after .exit)) ⌝ }
 {
     let mut left = gap;
     let mut stage: u8 = 0;
@@ -308,7 +315,7 @@ fn share_stages(
             left,
             over,
             stage,
-            marks,
+            priorities,
             extras,
             first,
             second,
@@ -324,16 +331,16 @@ fn share_stages(
 fn go_back(
     left: u64,
     totals: Totals,
-    marks: &[u8],
+    priorities: &[u8],
     first: &[u64],
     second: &[u64],
     before: &mut [u64],
     after: &mut [u64],
 ) -> u64
-    requires { ⌜ Parts (length (now marks)) (now marks) (now first) (now second) × Sides (length (now marks)) (now before) (now after) ⌝ }
-    requires { ⌜ Holds left (now before) (now after) × Fit totals (now marks) (now first) (now second) ⌝ }
-    ensures { λ r. ⌜ r ≡ backLeft (weave (now (marks .entry)) (now (marks .entry))) (weave (now (first .entry)) (now (second .entry))) stages left ⌝ }
-    ensures { λ r. ⌜ Moved (backMoves (weave (now (marks .entry)) (now (marks .entry))) (weave (now (first .entry)) (now (second .entry))) stages left) (now (before .entry)) (now (after .entry)) (now (before .exit)) (now (after .exit)) ⌝ }
+    requires { ⌜ Parts (length (now priorities)) (now priorities) (now first) (now second) × Sides (length (now priorities)) (now before) (now after) ⌝ }
+    requires { ⌜ Holds left (now before) (now after) × Fit totals (now priorities) (now first) (now second) ⌝ }
+    ensures { λ r. ⌜ r ≡ backLeft (weave (now (priorities .entry)) (now (priorities .entry))) (weave (now (first .entry)) (now (second .entry))) stages left ⌝ }
+    ensures { λ r. ⌜ Moved (backMoves (weave (now (priorities .entry)) (now (priorities .entry))) (weave (now (first .entry)) (now (second .entry))) stages left) (now (before .entry)) (now (after .entry)) (now (before .exit)) (now (after .exit)) ⌝ }
 {
     if left == 0 {
         return 0;
@@ -342,7 +349,7 @@ fn go_back(
     while stage < STAGES {
         let over = total_of(totals, stage);
         if 0 < over {
-            give(left, over, stage, marks, first, second, before, after);
+            give(left, over, stage, priorities, first, second, before, after);
             return 0;
         }
         stage += 1;
@@ -354,20 +361,29 @@ fn go_back(
 fn share_sizes(
     gap: u64,
     totals: Totals,
-    marks: &[u8],
+    priorities: &[u8],
     extras: &[u8],
     first: &[u64],
     second: &[u64],
     before: &mut [u64],
     after: &mut [u64],
 ) -> u64
-    requires { ⌜ Lent (length (now marks)) (now marks) (now extras) (now first) (now second) × Sides (length (now marks)) (now before) (now after) ⌝ }
-    requires { ⌜ Holds gap (now before) (now after) × Fit totals (now marks) (now first) (now second) ⌝ }
-    ensures { λ r. ⌜ r ≡ lineOf remainder (now (marks .entry)) (now (extras .entry)) (now (first .entry)) (now (second .entry)) gap ⌝ }
-    ensures { λ r. ⌜ Moved (lineOf movements (now (marks .entry)) (now (extras .entry)) (now (first .entry)) (now (second .entry)) gap) (now (before .entry)) (now (after .entry)) (now (before .exit)) (now (after .exit)) ⌝ }
+    requires { ⌜ Lent (length (now priorities)) (now priorities) (now extras) (now first) (now second) × Sides (length (now priorities)) (now before) (now after) ⌝ }
+    requires { ⌜ Holds gap (now before) (now after) × Fit totals (now priorities) (now first) (now second) ⌝ }
+    ensures { λ r. ⌜ r ≡ lineOf remainder (now (priorities .entry)) (now (extras .entry)) (now (first .entry)) (now (second .entry)) gap ⌝ }
+    ensures { λ r. ⌜ Moved (lineOf movements (now (priorities .entry)) (now (extras .entry)) (now (first .entry)) (now (second .entry)) gap) (now (before .entry)) (now (after .entry)) (now (before .exit)) (now (after .exit)) ⌝ }
 {
-    let left = share_stages(gap, totals, marks, extras, first, second, before, after);
-    go_back(left, totals, marks, first, second, before, after)
+    let left = share_stages(
+        gap,
+        totals,
+        priorities,
+        extras,
+        first,
+        second,
+        before,
+        after,
+    );
+    go_back(left, totals, priorities, first, second, before, after)
 }
 
 // A size with the gap's sign.
@@ -396,7 +412,7 @@ fn share_in(
     shrink: bool,
     gap: u64,
     totals: Totals,
-    marks: &[u8],
+    priorities: &[u8],
     extras: &[u8],
     first: &[u64],
     second: &[u64],
@@ -405,14 +421,23 @@ fn share_in(
     before: &mut [i32],
     after: &mut [i32],
 ) -> u64
-    requires { ⌜ Lent (length (now marks)) (now marks) (now extras) (now first) (now second) × (gap ≤ 1073741823) × Fit totals (now marks) (now first) (now second) ⌝ }
-    requires { ⌜ (now befores ≡ replicate (length (now marks)) 0) × (now afters ≡ replicate (length (now marks)) 0) ⌝ }
-    requires { ⌜ (length (now before) ≡ length (now marks)) × (length (now after) ≡ length (now marks)) ⌝ }
-    ensures { λ r. ⌜ r ≡ lineOf remainder (now (marks .entry)) (now (extras .entry)) (now (first .entry)) (now (second .entry)) gap ⌝ }
-    ensures { λ r. ⌜ now (before .exit) ≡ map (signedOf shrink) (evens (lineOf movements (now (marks .entry)) (now (extras .entry)) (now (first .entry)) (now (second .entry)) gap)) ⌝ }
-    ensures { λ r. ⌜ now (after .exit) ≡ map (signedOf shrink) (odds (lineOf movements (now (marks .entry)) (now (extras .entry)) (now (first .entry)) (now (second .entry)) gap)) ⌝ }
+    requires { ⌜ Lent (length (now priorities)) (now priorities) (now extras) (now first) (now second) × (gap ≤ 1073741823) × Fit totals (now priorities) (now first) (now second) ⌝ }
+    requires { ⌜ (now befores ≡ replicate (length (now priorities)) 0) × (now afters ≡ replicate (length (now priorities)) 0) ⌝ }
+    requires { ⌜ (length (now before) ≡ length (now priorities)) × (length (now after) ≡ length (now priorities)) ⌝ }
+    ensures { λ r. ⌜ r ≡ lineOf remainder (now (priorities .entry)) (now (extras .entry)) (now (first .entry)) (now (second .entry)) gap ⌝ }
+    ensures { λ r. ⌜ now (before .exit) ≡ map (signedOf shrink) (evens (lineOf movements (now (priorities .entry)) (now (extras .entry)) (now (first .entry)) (now (second .entry)) gap)) ⌝ }
+    ensures { λ r. ⌜ now (after .exit) ≡ map (signedOf shrink) (odds (lineOf movements (now (priorities .entry)) (now (extras .entry)) (now (first .entry)) (now (second .entry)) gap)) ⌝ }
 {
-    let left = share_sizes(gap, totals, marks, extras, first, second, befores, afters);
+    let left = share_sizes(
+        gap,
+        totals,
+        priorities,
+        extras,
+        first,
+        second,
+        befores,
+        afters,
+    );
     copy_signed(shrink, befores, before);
     copy_signed(shrink, afters, after);
     left
@@ -425,21 +450,21 @@ pub fn share_line(
     shrink: bool,
     gap: u64,
     totals: Totals,
-    marks: &[u8],
+    priorities: &[u8],
     extras: &[u8],
     first: &[u64],
     second: &[u64],
     before: &mut [i32],
     after: &mut [i32],
 ) -> u64
-    requires { ⌜ Lent (length (now marks)) (now marks) (now extras) (now first) (now second) ⌝ }
-    requires { ⌜ (length (now before) ≡ length (now marks)) × (length (now after) ≡ length (now marks)) ⌝ }
-    requires { ⌜ (gap ≤ 1073741823) × TotalsOf totals (now marks) (now first) (now second) × (lineFits (glyphsOf (now marks) (now extras) (now first) (now second)) ≡ true) ⌝ }
-    ensures { λ r. ⌜ r ≡ lineLeft (glyphsOf (now (marks .entry)) (now (extras .entry)) (now (first .entry)) (now (second .entry))) gap ⌝ }
-    ensures { λ r. ⌜ now (before .exit) ≡ map (signedOf shrink) (beforeMoves (glyphsOf (now (marks .entry)) (now (extras .entry)) (now (first .entry)) (now (second .entry))) gap) ⌝ }
-    ensures { λ r. ⌜ now (after .exit) ≡ map (signedOf shrink) (afterMoves (glyphsOf (now (marks .entry)) (now (extras .entry)) (now (first .entry)) (now (second .entry))) gap) ⌝ }
+    requires { ⌜ Lent (length (now priorities)) (now priorities) (now extras) (now first) (now second) ⌝ }
+    requires { ⌜ (length (now before) ≡ length (now priorities)) × (length (now after) ≡ length (now priorities)) ⌝ }
+    requires { ⌜ (gap ≤ 1073741823) × TotalsOf totals (now priorities) (now first) (now second) × (lineFits (glyphsOf (now priorities) (now extras) (now first) (now second)) ≡ true) ⌝ }
+    ensures { λ r. ⌜ r ≡ lineLeft (glyphsOf (now (priorities .entry)) (now (extras .entry)) (now (first .entry)) (now (second .entry))) gap ⌝ }
+    ensures { λ r. ⌜ now (before .exit) ≡ map (signedOf shrink) (beforeMoves (glyphsOf (now (priorities .entry)) (now (extras .entry)) (now (first .entry)) (now (second .entry))) gap) ⌝ }
+    ensures { λ r. ⌜ now (after .exit) ≡ map (signedOf shrink) (afterMoves (glyphsOf (now (priorities .entry)) (now (extras .entry)) (now (first .entry)) (now (second .entry))) gap) ⌝ }
 {
-    let n = marks.len();
+    let n = priorities.len();
     // Most lines are short, and less room is sooner cleared.
     if n <= 128 {
         let mut befores = [0u64; 128];
@@ -448,7 +473,7 @@ pub fn share_line(
             shrink,
             gap,
             totals,
-            marks,
+            priorities,
             extras,
             first,
             second,
@@ -464,7 +489,7 @@ pub fn share_line(
         shrink,
         gap,
         totals,
-        marks,
+        priorities,
         extras,
         first,
         second,

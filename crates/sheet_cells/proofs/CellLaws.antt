@@ -7,19 +7,19 @@ use lib.ListN.{length, getD, drop}
 use lib.Seq.{drop-cons}
 use Rattle.fields.specs.Field.{be16, u16At, u32At, Bytes}
 use Rattle.fields.specs.Laws.{u16At-fits}
-use Rattle.lists.specs.Codes.{All, counted, PrefixFree, Found, Absent, itemsAt}
-use Rattle.lists.specs.Distinct.{InOrder}
-use Rattle.lists.specs.Sections.{byte, numbered}
-use Rattle.lists.proofs.ListLaws.{all-map, all-unit}
-use Rattle.lists.proofs.CodeLaws.{counted-free}
-use Rattle.lists.proofs.ReadLaws.{items-length, first-absent, second-absent, both-found}
-use Rattle.lists.proofs.SectionLaws.{byte-free}
-use Rattle.lists.proofs.NumberedLaws.{numbered-found, numbered-absent}
-use Rattle.section.specs.Section.{Parses, Room}
-use Rattle.section.specs.declared.Read.{Read}
-use Rattle.section.specs.declared.Read.the-variants.{Upto, Absent as Nothing}
-use Rattle.section.proofs.SectionLaws.{field16, count-known, items-outside, items-good, items-bad}
-use Rattle.parts.specs.declared.Entry.{Entry}
+use Rattle.encoding.specs.Codes.{All, counted, PrefixFree, Found, Absent, itemsAt}
+use Rattle.encoding.specs.Distinct.{InOrder}
+use Rattle.encoding.specs.Sections.{byte, numbered}
+use Rattle.encoding.proofs.ListLaws.{all-map, all-unit}
+use Rattle.encoding.proofs.CodeLaws.{counted-free}
+use Rattle.encoding.proofs.ReadLaws.{items-length, first-absent, second-absent, both-found}
+use Rattle.encoding.proofs.SectionLaws.{byte-free}
+use Rattle.encoding.proofs.NumberedLaws.{numbered-found, numbered-absent}
+use Rattle.sheet_sections.specs.Section.{Parses, Room}
+use Rattle.sheet_sections.specs.declared.Read.{Read}
+use Rattle.sheet_sections.specs.declared.Read.the-variants.{Upto, Absent as Nothing}
+use Rattle.sheet_sections.proofs.SectionLaws.{field16, count-known, items-outside, items-good, items-bad}
+use Rattle.types.specs.declared.Entry.{Entry}
 use Rattle.meaning.specs.Discrete.{Entry-discrete}
 use Rattle.meaning.specs.Limits.{OkEntry}
 use Rattle.meaning.specs.Sheet.{entryCode}

@@ -7,12 +7,12 @@ use native.Mathlib.Decide.{ℕ-discrete}
 use native.Mathlib.Omega.{arith}
 use lib.ListN.{length, getD, length-append}
 use Rattle.fields.specs.Field.{u16At}
-use Rattle.lists.specs.Codes.{itemsAt}
-use Rattle.lists.specs.Distinct.{index, InOrder}
-use Rattle.lists.proofs.ListLaws.{all-append, all-at}
-use Rattle.lists.proofs.DistinctLaws.{index-take, once-more}
-use Rattle.lists.proofs.ReadLaws.{items-length, items-take, items-getD, items-snoc}
-use Rattle.parts.specs.declared.Entry.{Entry}
+use Rattle.encoding.specs.Codes.{itemsAt}
+use Rattle.encoding.specs.Distinct.{index, InOrder}
+use Rattle.encoding.proofs.ListLaws.{all-append, all-at}
+use Rattle.encoding.proofs.DistinctLaws.{index-take, once-more}
+use Rattle.encoding.proofs.ReadLaws.{items-length, items-take, items-getD, items-snoc}
+use Rattle.types.specs.declared.Entry.{Entry}
 use Rattle.meaning.specs.Discrete.{Entry-discrete}
 use Rattle.meaning.specs.Limits.{OkEntry}
 use Rattle.sheet_cells.specs.Cells.{entryAt, byteAt, OkEntries}

@@ -5,9 +5,9 @@ use mathlib.Core.Path.{_≡_}
 use mathlib.Core.List.{List, []}
 use lib.ListN.{length, getD}
 use Rattle.fields.specs.Field.{u16At}
-use Rattle.lists.specs.Codes.{All}
-use Rattle.lists.specs.Distinct.{distinct, InOrder, Once}
-use Rattle.parts.specs.declared.Entry.{Entry}
+use Rattle.encoding.specs.Codes.{All}
+use Rattle.encoding.specs.Distinct.{distinct, InOrder, Once}
+use Rattle.types.specs.declared.Entry.{Entry}
 use Rattle.meaning.specs.Discrete.{Entry-discrete}
 use Rattle.meaning.specs.Limits.{OkEntry}
 

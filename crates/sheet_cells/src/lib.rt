@@ -1,14 +1,14 @@
 // Sections 3 and 4 of a direction of a sheet (document 01, "The sheet"): the distinct entries of the machine's cells,
 // and each cell as its entry's number. Read out of bytes at a position.
-use section::Read;
+use sheet_sections::Read;
 ghost use mathlib.Core.Path.{_≡_};
 ghost use Prim.Native.Nat.{_+_, _*_, _≤_, _<_, _^_};
 ghost use lib.ListN.{length};
-ghost use Rattle.lists.specs.Codes.{counted, itemsAt};
-ghost use Rattle.lists.specs.Distinct.{index, InOrder};
-ghost use Rattle.lists.specs.Sections.{byte, numbered};
-ghost use Rattle.lists.specs.Tests.{Says};
-ghost use Rattle.section.specs.Section.{Parses};
+ghost use Rattle.encoding.specs.Codes.{counted, itemsAt};
+ghost use Rattle.encoding.specs.Distinct.{index, InOrder};
+ghost use Rattle.encoding.specs.Sections.{byte, numbered};
+ghost use Rattle.encoding.specs.Tests.{Says};
+ghost use Rattle.sheet_sections.specs.Section.{Parses};
 ghost use Rattle.meaning.specs.Discrete.{Entry-discrete};
 ghost use Rattle.meaning.specs.Sheet.{entryCode};
 ghost use Rattle.sheet_cells.specs.Cells.{entryAt, byteAt, OkEntries, OkNumbers, OkCells};
@@ -100,7 +100,7 @@ fn read_entries(bytes: &[u8], at: usize, rows: usize) -> Read
     requires { ⌜ rows ≤ 256 ⌝ }
     ensures { λ r. ⌜ Parses (counted entryCode) (OkEntries rows) (now (bytes .entry)) at r ⌝ }
 {
-    if !section::has_items(bytes, at, 4) {
+    if !sheet_sections::has_items(bytes, at, 4) {
         return Read::Absent;
     }
     let count = fields::u32_at(bytes, at);
@@ -118,7 +118,7 @@ fn read_numbers(bytes: &[u8], at: usize, total: usize, count: usize) -> Read
     requires { ⌜ total < 2 ^ 32 ⌝ }
     ensures { λ r. ⌜ Parses (counted byte) (OkNumbers total count) (now (bytes .entry)) at r ⌝ }
 {
-    if !section::has_items(bytes, at, 1) {
+    if !sheet_sections::has_items(bytes, at, 1) {
         return Read::Absent;
     }
     if fields::u32_at(bytes, at) != total {

@@ -19,8 +19,8 @@ use Rattle.answers.specs.Says.{given, unlessBad}
 use Rattle.table.specs.Table.{tableFault, Accepted}
 use Rattle.table.specs.Means.{meaningOf}
 use Rattle.table_laws.proofs.Valid.{valid-meaning}
-use Rattle.sheet_read.specs.Check.{SheetChecked}
-use Rattle.sheet_parts.specs.Parts.{Answers}
+use Rattle.sheet_check.specs.Check.{SheetChecked}
+use Rattle.sheet_ask.specs.Parts.{Answers}
 use Rattle.sheet_laws.specs.Outcomes.{Outcomes, Parts, replyTo, Alike}
 use Rattle.sheet_write.specs.Written.{sheetOf}
 use Rattle.sheet_laws.specs.Writing.{SheetBy}

@@ -15,7 +15,7 @@ use Rattle.answers.specs.declared.Checked.the-variants.{Accepted as Taken}
 use Rattle.answers.specs.Says.{given, unlessBad}
 use Rattle.table.specs.Table.{tableFault, Accepted}
 use Rattle.table.specs.Means.{meaningOf}
-use Rattle.sheet_read.specs.Check.{SheetChecked}
+use Rattle.sheet_check.specs.Check.{SheetChecked}
 use Rattle.sheet_write.specs.declared.LengthAnswer.{LengthAnswer}
 use Rattle.sheet_write.specs.declared.LengthAnswer.the-variants.{Length}
 use Rattle.sheet_write.specs.declared.WriteAnswer.{WriteAnswer}

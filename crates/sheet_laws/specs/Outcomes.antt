@@ -2,7 +2,7 @@
 use Prim.Native.Nat.{ℕ, _<_, _^_}
 use mathlib.Core.Path.{_≡_}
 use mathlib.Core.List.{List}
-use Rattle.parts.specs.declared.Direction.{Direction}
+use Rattle.types.specs.declared.Direction.{Direction}
 use Rattle.meaning.specs.Ask.{Part, sizes, class, cell, width, action, Question, glyphCount, along}
 use Rattle.meaning.specs.Same.{Asked}
 use Rattle.answers.specs.declared.CountAnswer.{CountAnswer}
@@ -12,8 +12,8 @@ use Rattle.answers.specs.declared.CellAnswer.{CellAnswer}
 use Rattle.answers.specs.declared.RecordAnswer.{RecordAnswer}
 use Rattle.answers.specs.declared.ActionAnswer.{ActionAnswer}
 use Rattle.answers.specs.Says.{Reply, saysCount, saysSizes, saysClass, saysCell, saysRecord, saysAction}
-use Rattle.sheet_parts.specs.Parts.{CountOf, SizesOf, ClassOf, CellOf, RecordOf, ActionOf}
-use Rattle.sheet_calls.specs.Calls.{SheetReply, ActionReply}
+use Rattle.sheet_ask.specs.Parts.{CountOf, SizesOf, ClassOf, CellOf, RecordOf, ActionOf}
+use Rattle.sheet_ask.specs.Calls.{SheetReply, ActionReply}
 
 -- an outcome of each call, for whatever it is asked
 pub record Outcomes : Type 0 where

@@ -8,17 +8,17 @@ use native.Mathlib.Omega.{arith}
 use lib.ListN.{length, drop, length-append, length-drop}
 use Rattle.fields.specs.Field.{be32, u32At, Bytes}
 use Rattle.fields.specs.Laws.{u32At-fits}
-use Rattle.lists.specs.Codes.{PrefixFree, Found, Absent}
-use Rattle.lists.specs.Sections.{runSection, numbered}
-use Rattle.lists.proofs.CodeLaws.{be32-at, be32-free}
-use Rattle.lists.proofs.ReadLaws.{first-absent, second-absent, both-found}
-use Rattle.lists.proofs.SectionLaws.{run-section-free}
-use Rattle.lists.specs.Tests.{Says}
-use Rattle.section.specs.Section.{Parses}
-use Rattle.section.specs.RunSection.{Below}
-use Rattle.section.specs.declared.Read.{Read}
-use Rattle.section.specs.declared.Read.the-variants.{Upto, Absent as Nothing}
-use Rattle.section.proofs.SectionLaws.{field32}
+use Rattle.encoding.specs.Codes.{PrefixFree, Found, Absent}
+use Rattle.encoding.specs.Sections.{runSection, numbered}
+use Rattle.encoding.proofs.CodeLaws.{be32-at, be32-free}
+use Rattle.encoding.proofs.ReadLaws.{first-absent, second-absent, both-found}
+use Rattle.encoding.proofs.SectionLaws.{run-section-free}
+use Rattle.encoding.specs.Tests.{Says}
+use Rattle.sheet_sections.specs.Section.{Parses}
+use Rattle.sheet_sections.specs.RunSection.{Below}
+use Rattle.sheet_sections.specs.declared.Read.{Read}
+use Rattle.sheet_sections.specs.declared.Read.the-variants.{Upto, Absent as Nothing}
+use Rattle.sheet_sections.proofs.SectionLaws.{field32}
 use Rattle.meaning.specs.Discrete.{Entry-discrete}
 use Rattle.meaning.specs.Meaning.{Machine}
 use Rattle.meaning.specs.Limits.{OkMachine, OkMaybe}
@@ -28,19 +28,19 @@ use Rattle.sheet_machine.specs.Machine.{Sizes, OkLeast, withinBytes, OkW
 -- ---- sections 2 to 4, one after another
 
 module _ (glyphs rows classes : ℕ) (hg : glyphs < 2 ^ 16) (hc : classes ≤ 255) (s : List ℕ) (at : ℕ) where
-  kinds-free : PrefixFree (runSection 1) (Below glyphs classes)
-  kinds-free = run-section-free 1 glyphs classes (omega arith) (omega arith)
+  columns-free : PrefixFree (runSection 1) (Below glyphs classes)
+  columns-free = run-section-free 1 glyphs classes (omega arith) (omega arith)
 
   pub within-none : Absent (runSection 1) (Below glyphs classes) s at → Absent withinBytes (OkWithin glyphs rows classes) s at
   within-none =
-      first-absent (runSection 1) (Below glyphs classes) kinds-free (λ ks cs. numbered Entry-discrete entryCode cs) (λ ks cs. OkLeast rows classes cs) s at
+      first-absent (runSection 1) (Below glyphs classes) columns-free (λ ks cs. numbered Entry-discrete entryCode cs) (λ ks cs. OkLeast rows classes cs) s at
 
   pub within-parse : (q : ℕ) → Found (runSection 1) (Below glyphs classes) s at q → (r : Read)
       → Parses (numbered Entry-discrete entryCode) (OkLeast rows classes) s q r → Parses withinBytes (OkWithin glyphs rows classes) s at r
   within-parse q f (Upto t) h =
-      both-found (runSection 1) (Below glyphs classes) kinds-free (λ ks cs. numbered Entry-discrete entryCode cs) (λ ks cs. OkLeast rows classes cs) s at q f t h
+      both-found (runSection 1) (Below glyphs classes) columns-free (λ ks cs. numbered Entry-discrete entryCode cs) (λ ks cs. OkLeast rows classes cs) s at q f t h
   within-parse q f Nothing h =
-      second-absent (runSection 1) (Below glyphs classes) kinds-free (λ ks cs. numbered Entry-discrete entryCode cs) (λ ks cs. OkLeast rows classes cs) s at q f h
+      second-absent (runSection 1) (Below glyphs classes) columns-free (λ ks cs. numbered Entry-discrete entryCode cs) (λ ks cs. OkLeast rows classes cs) s at q f h
 
 -- ---- section 1
 
@@ -58,10 +58,10 @@ record Opened (glyphs : ℕ) (s : List ℕ) (at : ℕ) (m : Machine) (rest : Lis
   one : u32At s at ≡ 1
   rows : u32At s (at + 4) ≡ m .rows
   classes : u32At s (at + 8) ≡ m .classes
-  within : drop (at + 12) s ≡ withinBytes (m .kinds, m .cells) ++ rest
+  within : drop (at + 12) s ≡ withinBytes (m .columns, m .cells) ++ rest
 
-within-ok : (glyphs : ℕ) (m : Machine) → OkMachine glyphs m → OkWithin glyphs (m .rows) (m .classes) (m .kinds, m .cells)
-within-ok glyphs m h = ((h .kind-count, h .kinds), ((h .cell-count, h .cells, h .few-entries), h .least))
+within-ok : (glyphs : ℕ) (m : Machine) → OkMachine glyphs m → OkWithin glyphs (m .rows) (m .classes) (m .columns, m .cells)
+within-ok glyphs m h = ((h .column-count, h .columns), ((h .cell-count, h .cells, h .few-entries), h .least))
 
 module _ (s : List ℕ) (bytes : Bytes s) where
   -- a number that is written first stands there
@@ -86,7 +86,7 @@ module _ (s : List ℕ) (bytes : Bytes s) where
 
     opened-one : (m : Machine) (rest : List ℕ) → OkMachine glyphs m → drop at s ≡ machineBytes (some m) ++ rest → Opened glyphs s at m rest
     opened-one m rest h e =
-        let w = withinBytes (m .kinds, m .cells) ++ rest in
+        let w = withinBytes (m .columns, m .cells) ++ rest in
         let a = number at (at + 4) 1 (be32 (m .rows) ++ (be32 (m .classes) ++ w)) refl (omega arith) e in
         let b = number (at + 4) (at + 8) (m .rows) (be32 (m .classes) ++ w) (omega arith) (omega (arith, h .few-rows)) (a .2) in
         let c = number (at + 8) (at + 12) (m .classes) w (omega arith) (omega (arith, h .few-classes)) (b .2) in
@@ -125,14 +125,14 @@ module _ (s : List ℕ) (bytes : Bytes s) where
       pub machine-parse : (r : Read) → Parses withinBytes (OkWithin glyphs rows classes) s (at + 12) r → Parses machineBytes (OkMaybe glyphs) s at r
       machine-parse (Upto q) f =
           let o = f .1 in (
-            some (record { rows = rows; classes = classes; kinds = f .0 .0; cells = f .0 .1 }),
+            some (record { rows = rows; classes = classes; columns = f .0 .0; cells = f .0 .1 }),
             record {
               some-rows = omega (arith, er, one .sizes .some-rows);
               few-rows = omega (arith, er, one .sizes .few-rows);
               some-classes = omega (arith, ec, one .sizes .some-classes);
               few-classes = omega (arith, ec, one .sizes .few-classes);
-              kind-count = o .0 .0;
-              kinds = o .0 .1;
+              column-count = o .0 .0;
+              columns = o .0 .1;
               cell-count = o .1 .0 .0;
               cells = o .1 .0 .1;
               least = o .1 .1;
@@ -150,7 +150,7 @@ module _ (s : List ℕ) (bytes : Bytes s) where
           none-there none rest o e = omega (arith, opened-none rest e .no-machine, one .one)
           none-there (some m) rest o e =
               let x = opened-one m rest o e in
-              h (m .kinds, m .cells) rest
-              (subst (λ (k : ℕ). OkWithin glyphs k classes (m .kinds, m .cells)) (sym (er ∙ x .rows))
-              (subst (λ (k : ℕ). OkWithin glyphs (m .rows) k (m .kinds, m .cells)) (sym (ec ∙ x .classes)) (within-ok glyphs m o)))
+              h (m .columns, m .cells) rest
+              (subst (λ (k : ℕ). OkWithin glyphs k classes (m .columns, m .cells)) (sym (er ∙ x .rows))
+              (subst (λ (k : ℕ). OkWithin glyphs (m .rows) k (m .columns, m .cells)) (sym (ec ∙ x .classes)) (within-ok glyphs m o)))
               (x .within)

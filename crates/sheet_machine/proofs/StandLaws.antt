@@ -10,16 +10,16 @@ use native.Mathlib.Nat.{mul-le-mul-right}
 use lib.ListN.{length, getD, drop, length-append, length-drop}
 use Rattle.fields.specs.Field.{be32, u32At, Bytes}
 use Rattle.fields.specs.Laws.{u32At-fits}
-use Rattle.lists.specs.Codes.{All, many, counted, Found, Absent, itemsAt}
-use Rattle.lists.specs.Distinct.{distinct, numbers, elements, InOrder}
-use Rattle.lists.specs.Sections.{byte, numbered}
-use Rattle.lists.proofs.ListLaws.{all-at, all-map, all-unit}
-use Rattle.lists.proofs.CodeLaws.{be32-at, be32-free, many-free, many-length}
-use Rattle.lists.proofs.DistinctLaws.{in-order, in-order-lt, elements-numbers}
-use Rattle.lists.proofs.ReadLaws.{items-at, items-wide, items-length, items-getD}
-use Rattle.lists.proofs.SectionLaws.{byte-free, all-distinct, numbers-length}
-use Rattle.lists.specs.Tests.{Says}
-use Rattle.parts.specs.declared.Entry.{Entry}
+use Rattle.encoding.specs.Codes.{All, many, counted, Found, Absent, itemsAt}
+use Rattle.encoding.specs.Distinct.{distinct, numbers, elements, InOrder}
+use Rattle.encoding.specs.Sections.{byte, numbered}
+use Rattle.encoding.proofs.ListLaws.{all-at, all-map, all-unit}
+use Rattle.encoding.proofs.CodeLaws.{be32-at, be32-free, many-free, many-length}
+use Rattle.encoding.proofs.DistinctLaws.{in-order, in-order-lt, elements-numbers}
+use Rattle.encoding.proofs.ReadLaws.{items-at, items-wide, items-length, items-getD}
+use Rattle.encoding.proofs.SectionLaws.{byte-free, all-distinct, numbers-length}
+use Rattle.encoding.specs.Tests.{Says}
+use Rattle.types.specs.declared.Entry.{Entry}
 use Rattle.meaning.specs.Discrete.{Entry-discrete}
 use Rattle.meaning.specs.Limits.{OkEntry}
 use Rattle.meaning.specs.Sheet.{entryCode}

@@ -6,11 +6,11 @@ use mathlib.Core.Bool.{Bool}
 use mathlib.Core.List.{List, _++_}
 use lib.ListN.{length, getD, drop}
 use Rattle.fields.specs.Field.{u16At, u32At}
-use Rattle.lists.specs.Codes.{Found}
-use Rattle.lists.specs.Sections.{runSection, numbered}
-use Rattle.lists.specs.Tests.{Says}
-use Rattle.section.specs.RunSection.{Below}
-use Rattle.parts.specs.declared.Entry.{Entry}
+use Rattle.encoding.specs.Codes.{Found}
+use Rattle.encoding.specs.Sections.{runSection, numbered}
+use Rattle.encoding.specs.Tests.{Says}
+use Rattle.sheet_sections.specs.RunSection.{Below}
+use Rattle.types.specs.declared.Entry.{Entry}
 use Rattle.meaning.specs.Discrete.{Entry-discrete}
 use Rattle.meaning.specs.Limits.{Closed}
 use Rattle.meaning.specs.Sheet.{entryCode}

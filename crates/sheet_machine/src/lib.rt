@@ -1,10 +1,10 @@
 // Sections 1 to 4 of a direction of a sheet (document 01, "The sheet"): a machine or none. Read out of bytes at a
 // position. S has to be the least number from 2 on such that rows below it lead only below it.
-use section::Read;
+use sheet_sections::Read;
 ghost use Prim.Native.Nat.{_*_, _<_, _^_};
-ghost use Rattle.lists.specs.Sections.{numbered};
-ghost use Rattle.lists.specs.Tests.{Says};
-ghost use Rattle.section.specs.Section.{Parses};
+ghost use Rattle.encoding.specs.Sections.{numbered};
+ghost use Rattle.encoding.specs.Tests.{Says};
+ghost use Rattle.sheet_sections.specs.Section.{Parses};
 ghost use Rattle.meaning.specs.Discrete.{Entry-discrete};
 ghost use Rattle.meaning.specs.Limits.{OkMaybe};
 ghost use Rattle.meaning.specs.Sheet.{entryCode, machineBytes};
@@ -71,8 +71,8 @@ fn read_within(bytes: &[u8], at: usize, glyphs: usize, rows: usize, classes: usi
     requires { ⌜ (glyphs < 2 ^ 16) × Sizes rows classes ⌝ }
     ensures { λ r. ⌜ Parses withinBytes (OkWithin glyphs rows classes) (now (bytes .entry)) at r ⌝ }
 {
-    let kinds = section::read_runs(bytes, at, glyphs, classes, 1);
-    match kinds {
+    let columns = sheet_sections::read_runs(bytes, at, glyphs, classes, 1);
+    match columns {
         Read::Upto(end) => read_least_cells(bytes, end, rows, classes),
         Read::Absent => Read::Absent,
     }

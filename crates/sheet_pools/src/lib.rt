@@ -1,47 +1,47 @@
 // The clusters and the action lists of a direction of a sheet (document 01, "The sheet", sections 5 and 6, 7 and 8),
 // read out of bytes at a position: the distinct items, and the runs of glyphs that have one of them.
-use section::Read;
-use sorts::Sort;
+use sheet_items::Sort;
+use sheet_sections::Read;
 ghost use Prim.Native.Nat.{_≤_, _<_, _^_, min};
 ghost use lib.ListN.{length};
 ghost use Rattle.fields.specs.Field.{u32At};
-ghost use Rattle.lists.specs.Codes.{counted};
-ghost use Rattle.section.specs.Section.{Parses};
-ghost use Rattle.pool.specs.Pool.{Items};
-ghost use Rattle.order.specs.Scan.{Scans};
-ghost use Rattle.order.specs.Slots.{Rooms};
-ghost use Rattle.sorts.specs.Items.{item-discrete, itemCode, SomeItem, poolBytes, OkPool};
+ghost use Rattle.encoding.specs.Codes.{counted};
+ghost use Rattle.sheet_sections.specs.Section.{Parses};
+ghost use Rattle.sheet_sections.specs.Pool.{Items};
+ghost use Rattle.sheet_distinct.specs.Scan.{Scans};
+ghost use Rattle.sheet_distinct.specs.Slots.{Rooms};
+ghost use Rattle.sheet_items.specs.Items.{item-discrete, itemCode, SomeItem, poolBytes, OkPool};
 
 // A cluster, or a list of actions.
 fn read_item(bytes: &[u8], at: usize, sort: Sort, glyphs: usize) -> Read
     ensures { λ r. ⌜ Parses (itemCode sort) (SomeItem sort glyphs) (now (bytes .entry)) at r ⌝ }
 {
     match sort {
-        Sort::Clusters => sheet_clusters::read_cluster(bytes, at),
-        Sort::Lists => sheet_action::read_list(bytes, at, glyphs),
+        Sort::Clusters => sheet_cluster::read_cluster(bytes, at),
+        Sort::Lists => sheet_list::read_list(bytes, at, glyphs),
     }
 }
 
-// `count` items one after the other; the marks are set to where each begins and where the last ends.
+// `count` items one after the other; the offsets are set to where each begins and where the last ends.
 fn scan_items(
     bytes: &[u8],
     at: usize,
     count: usize,
     sort: Sort,
     glyphs: usize,
-    marks: &mut [usize],
+    offsets: &mut [usize],
 ) -> Read
-    requires { ⌜ (at ≤ length (now bytes)) × (count < length (now marks)) ⌝ }
-    ensures { λ r. ⌜ Scans (itemCode sort) (SomeItem sort glyphs) (now (bytes .entry)) at count r (now (marks .exit)) ⌝ }
+    requires { ⌜ (at ≤ length (now bytes)) × (count < length (now offsets)) ⌝ }
+    ensures { λ r. ⌜ Scans (itemCode sort) (SomeItem sort glyphs) (now (bytes .entry)) at count r (now (offsets .exit)) ⌝ }
 {
-    marks[0] = at;
+    offsets[0] = at;
     let mut place = at;
     let mut i: usize = 0;
     while i < count {
         let found = read_item(bytes, place, sort, glyphs);
         match found {
             Read::Upto(end) => {
-                marks[i + 1] = end;
+                offsets[i + 1] = end;
                 place = end;
                 i += 1;
             }
@@ -53,32 +53,32 @@ fn scan_items(
     Read::Upto(place)
 }
 
-// Section 5 or 7, with rooms for the marks and to compare. Each item is some glyph's, so there are no more of them than
+// Section 5 or 7, with rooms for the offsets and to compare. Each item is some glyph's, so there are no more of them than
 // glyphs.
-fn read_marked(
+fn read_by_offsets(
     bytes: &[u8],
     at: usize,
     sort: Sort,
     glyphs: usize,
-    marks: &mut [usize],
+    offsets: &mut [usize],
     numbers: &mut [u16],
     firsts: &mut [u16],
 ) -> Read
-    requires { ⌜ (glyphs < 2 ^ 16) × (min glyphs (u32At (now bytes) at) < length (now marks)) × Rooms (min glyphs (u32At (now bytes) at)) (now numbers) (now firsts) ⌝ }
+    requires { ⌜ (glyphs < 2 ^ 16) × (min glyphs (u32At (now bytes) at) < length (now offsets)) × Rooms (min glyphs (u32At (now bytes) at)) (now numbers) (now firsts) ⌝ }
     ensures { λ r. ⌜ Parses (counted (itemCode sort)) (Items (item-discrete sort) (SomeItem sort glyphs) glyphs) (now (bytes .entry)) at r ⌝ }
 {
     // A count; what it counts is read item by item.
-    if !section::has_items(bytes, at, 0) {
+    if !sheet_sections::has_items(bytes, at, 0) {
         return Read::Absent;
     }
     let count = fields::u32_at(bytes, at);
     if glyphs < count {
         return Read::Absent;
     }
-    let found = scan_items(bytes, at + 4, count, sort, glyphs, marks);
+    let found = scan_items(bytes, at + 4, count, sort, glyphs, offsets);
     match found {
         Read::Upto(end) => {
-            if order::distinct(bytes, marks, count, numbers, firsts) {
+            if sheet_distinct::distinct(bytes, offsets, count, numbers, firsts) {
                 Read::Upto(end)
             } else {
                 Read::Absent
@@ -92,15 +92,15 @@ fn read_few(bytes: &[u8], at: usize, sort: Sort, glyphs: usize) -> Read
     requires { ⌜ (glyphs < 2 ^ 16) × (u32At (now bytes) at ≤ 64) ⌝ }
     ensures { λ r. ⌜ Parses (counted (itemCode sort)) (Items (item-discrete sort) (SomeItem sort glyphs) glyphs) (now (bytes .entry)) at r ⌝ }
 {
-    let mut marks = [0usize; 65];
+    let mut offsets = [0usize; 65];
     let mut numbers = [0u16; 64];
     let mut firsts = [0u16; 256];
-    read_marked(
+    read_by_offsets(
         bytes,
         at,
         sort,
         glyphs,
-        &mut marks,
+        &mut offsets,
         &mut numbers,
         &mut firsts,
     )
@@ -110,15 +110,15 @@ fn read_many(bytes: &[u8], at: usize, sort: Sort, glyphs: usize) -> Read
     requires { ⌜ (glyphs < 2 ^ 16) × (u32At (now bytes) at ≤ 2048) ⌝ }
     ensures { λ r. ⌜ Parses (counted (itemCode sort)) (Items (item-discrete sort) (SomeItem sort glyphs) glyphs) (now (bytes .entry)) at r ⌝ }
 {
-    let mut marks = [0usize; 2049];
+    let mut offsets = [0usize; 2049];
     let mut numbers = [0u16; 2048];
     let mut firsts = [0u16; 8192];
-    read_marked(
+    read_by_offsets(
         bytes,
         at,
         sort,
         glyphs,
-        &mut marks,
+        &mut offsets,
         &mut numbers,
         &mut firsts,
     )
@@ -128,15 +128,15 @@ fn read_any(bytes: &[u8], at: usize, sort: Sort, glyphs: usize) -> Read
     requires { ⌜ glyphs < 2 ^ 16 ⌝ }
     ensures { λ r. ⌜ Parses (counted (itemCode sort)) (Items (item-discrete sort) (SomeItem sort glyphs) glyphs) (now (bytes .entry)) at r ⌝ }
 {
-    let mut marks = [0usize; 65536];
+    let mut offsets = [0usize; 65536];
     let mut numbers = [0u16; 65536];
     let mut firsts = [0u16; 131072];
-    read_marked(
+    read_by_offsets(
         bytes,
         at,
         sort,
         glyphs,
-        &mut marks,
+        &mut offsets,
         &mut numbers,
         &mut firsts,
     )
@@ -189,7 +189,7 @@ pub fn read_pool(bytes: &[u8], at: usize, sort: Sort, glyphs: usize) -> Read
     match found {
         Read::Upto(end) => {
             let count = fields::u32_at(bytes, at);
-            pool::read_number_runs(bytes, end, glyphs, count)
+            sheet_sections::read_number_runs(bytes, end, glyphs, count)
         }
         Read::Absent => Read::Absent,
     }

@@ -14,8 +14,8 @@ use Rattle.fields.specs.declared.Refusal.{Refusal}
 use Rattle.fields.specs.Field.{u16At}
 use Rattle.fields.specs.Refusals.{numberOf}
 use Rattle.table.specs.Table.{tableFault}
-use Rattle.printed.specs.Printed.{printedSheet, printedRefusal}
-use Rattle.printed.specs.Laws.{printed-most}
+use Rattle.sheet_text.specs.Printed.{printedSheet, printedRefusal}
+use Rattle.sheet_text.specs.Laws.{printed-most}
 use Rattle.sheet_write.specs.declared.WriteAnswer.{WriteAnswer}
 use Rattle.sheet_write.specs.declared.WriteAnswer.the-variants.{Written, Refused}
 use Rattle.sheet_write.specs.Written.{Said, refused, bytes, saysWritten, Outcome, sheetOf, stored, writtenBy, written}

@@ -1,2 +1,4 @@
 pub mod Laws
 pub mod Samples
+pub mod HexLaws
+pub mod HexSamples

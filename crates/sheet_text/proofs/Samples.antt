@@ -8,8 +8,8 @@ use Rattle.fields.specs.declared.Fault.the-variants.{Clear}
 use Rattle.table.specs.Table.{tableFault, Accepted}
 use Rattle.table_laws.specs.Samples.{bareTable}
 use Rattle.table_laws.proofs.Samples.{bare-accepted, bare-sheet}
-use Rattle.printed.specs.Printed.{newline, printedSheet}
-use Rattle.printed.proofs.Samples as printed
+use Rattle.sheet_text.specs.Printed.{newline, printedSheet}
+use Rattle.sheet_text.proofs.HexSamples as printed
 use Rattle.sheet_write.specs.Written.{sheetOf}
 use Rattle.sheet_text.specs.Text.{textBy, tableText, programText}
 

@@ -1,1 +1,4 @@
 pub mod Text
+pub mod Printed
+pub mod Stored
+pub mod Laws

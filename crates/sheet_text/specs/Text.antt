@@ -11,7 +11,7 @@ use Rattle.fields.specs.Field.{u16At}
 use Rattle.fields.specs.Refusals.{numberOf}
 use Rattle.table.specs.Table.{tableFault}
 use Rattle.sheet_write.specs.Written.{sheetOf}
-use Rattle.printed.specs.Printed.{lineCount, printedSheet, printedRefusal}
+use Rattle.sheet_text.specs.Printed.{lineCount, printedSheet, printedRefusal}
 
 -- ---- a table and a glyph count
 

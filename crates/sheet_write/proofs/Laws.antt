@@ -18,7 +18,7 @@ use Rattle.meaning.specs.Sheet.{write}
 use Rattle.table.specs.Table.{headerFault, directionFault, tableFault}
 use Rattle.table.specs.Means.{meaningOf}
 use Rattle.table.proofs.Laws.{short, few-glyphs}
-use Rattle.side_write.specs.Side.{sideBytes, Ready as Ready-side}
+use Rattle.write_direction.specs.Side.{sideBytes, Ready as Ready-side}
 use Rattle.sheet_write.specs.Written.{sheetOf, refused, bytes, lengthBy, sheetLength, stored, writtenBy, written, Draft}
 
 -- ---- the sheet

@@ -44,14 +44,14 @@ fn put_sheet(table: &[u8], glyphs: usize, room: &mut [u8]) -> usize
 {
     fields::put_u32(room, 0, glyphs as u32);
     let first = fields::u16_at(table, 6);
-    let end = side_write::put_side(table, glyphs, first, room, 4);
+    let end = write_direction::put_side(table, glyphs, first, room, 4);
     let second = fields::u16_at(table, 8);
     // directions at one offset are written alike
     if first == second {
         put_copy(room, 4, end);
         return end + (end - 4);
     }
-    side_write::put_side(table, glyphs, second, room, end)
+    write_direction::put_side(table, glyphs, second, room, end)
 }
 
 // The length of the sheet of an accepted table: where it ends in a room of no length.

@@ -6,12 +6,12 @@ use mathlib.Core.List.{List, []}
 use lib.ListN.{getD, replicate}
 use lib.Dec.{eqb}
 use Rattle.fields.specs.Field.{u16At}
-use Rattle.lists.specs.Upto.{upto}
-use Rattle.parts.specs.declared.Entry.{Entry}
-use Rattle.parts.specs.declared.Pair.{Pair}
+use Rattle.encoding.specs.Upto.{upto}
+use Rattle.types.specs.declared.Entry.{Entry}
+use Rattle.types.specs.declared.Pair.{Pair}
 use Rattle.machine.specs.Cells.{classCount, classAt, entryAt, stateArray}
 use Rattle.machine.specs.Rows.{rowCount}
-use Rattle.values.specs.Values.{clusterOf, listOf}
+use Rattle.lookup_targets.specs.Values.{clusterOf, listOf}
 use Rattle.meaning.specs.Meaning.{Machine, Action, Side, emptySide, Meaning}
 use Rattle.table.specs.Table.{machineOffset, widthOffset, actionOffset, widthLookup}
 
@@ -25,7 +25,7 @@ machineAt t n here =
     record {
       rows = rowCount t here;
       classes = classCount t here;
-      kinds = upto (classAt t here) n;
+      columns = upto (classAt t here) n;
       cells = upto (cellBy t here) (rowCount t here * classCount t here);
     }
 

@@ -12,8 +12,8 @@ use Rattle.fields.specs.declared.Refusal.the-variants.{TableLength, GlyphCount,
 use Rattle.fields.specs.Field.{u16At, u32At}
 use Rattle.fields.specs.Faults.{_then_, rule, inside}
 use Rattle.machine.specs.Machine.{machineFault}
-use Rattle.values.specs.declared.Kind.the-variants.{Clusters, Lists}
-use Rattle.values.specs.Values.{valuesFault}
+use Rattle.lookup_targets.specs.declared.Kind.the-variants.{Clusters, Lists}
+use Rattle.lookup_targets.specs.Values.{valuesFault}
 
 -- a part at offset 0 is absent, and has no fault
 unfoldable pub present : ℕ → Fault → Fault

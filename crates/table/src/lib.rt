@@ -6,12 +6,12 @@ ghost use lib.ListN.{length};
 ghost use Rattle.answers.specs.Says.{checkedBy};
 ghost use Rattle.fields.specs.Field.{u16At};
 ghost use Rattle.fields.specs.Faults.{_then_};
-ghost use Rattle.values.specs.Values.{Judged};
+ghost use Rattle.lookup_targets.specs.Values.{Judged};
 ghost use Rattle.table.specs.Table.{headerFault, offsetsFault, machinePart, actionPart, directionFault, tableFault};
 use answers::Checked;
 use fields::Fault;
 use fields::Refusal;
-use values::Kind;
+use lookup_targets::Kind;
 
 // The machine at an offset, 0 for none.
 fn machine_part(table: &[u8], glyphs: usize, offset: usize) -> Fault
@@ -33,7 +33,7 @@ fn action_part(table: &[u8], glyphs: usize, offset: usize, judged: &mut [u8]) ->
     if offset == 0 {
         return Fault::Clear;
     }
-    values::values_fault(table, glyphs, Kind::Lists, offset, offset, judged)
+    lookup_targets::values_fault(table, glyphs, Kind::Lists, offset, offset, judged)
 }
 
 // The three offsets of the direction at `at`.
@@ -47,7 +47,7 @@ fn offsets_fault(table: &[u8], at: usize) -> Fault
     fields::then(machine_in, fields::then(widths_in, actions_in))
 }
 
-// The first fault of the direction at `at`, 0 for none. What was found without fault is marked in `judged`.
+// The first fault of the direction at `at`, 0 for none. What was found without fault is noted in `judged`.
 fn direction_fault(table: &[u8], glyphs: usize, at: usize, judged: &mut [u8]) -> Fault
     requires { ⌜ (at < 2 ^ 16) × (glyphs < 2 ^ 16) ⌝ }
     requires { ⌜ Judged (now table) glyphs (now judged) ⌝ }
@@ -65,7 +65,7 @@ fn direction_fault(table: &[u8], glyphs: usize, at: usize, judged: &mut [u8]) ->
         return machine;
     }
     let base = fields::u16_at(table, at + 2);
-    let widths = values::values_fault(table, glyphs, Kind::Clusters, at + 6, base, judged);
+    let widths = lookup_targets::values_fault(table, glyphs, Kind::Clusters, at + 6, base, judged);
     if let Fault::Bad { refusal: _, at: _ } = widths {
         return widths;
     }
@@ -106,7 +106,7 @@ fn directions_fault(table: &[u8], glyphs: usize, judged: &mut [u8]) -> Fault
     direction_fault(table, glyphs, second, judged)
 }
 
-// The first fault of a table read with a glyph count, by marks that are lent: one for each position of the table, blank or left
+// The first fault of a table read with a glyph count, by notes that are lent: one for each position of the table, blank or left
 // by judging the same table with the same count. Where there are fewer, more is judged twice.
 fn fault_by(table: &[u8], count: u32, judged: &mut [u8]) -> Fault
     requires { ⌜ Judged (now table) count (now judged) ⌝ }
@@ -123,7 +123,7 @@ fn fault_by(table: &[u8], count: u32, judged: &mut [u8]) -> Fault
 pub fn table_fault(table: &[u8], count: u32) -> Fault
     ensures { λ r. ⌜ r ≡ tableFault (now (table .entry)) count ⌝ }
 {
-    // A mark for each position of the table, which has at most 32,768 bytes if its length is not refused.
+    // A note for each position of the table, which has at most 32,768 bytes if its length is not refused.
     if table.len() <= 512 {
         let mut judged = [0u8; 512];
         return fault_by(table, count, &mut judged);

@@ -9,16 +9,16 @@ use native.Mathlib.Omega.{arith}
 use lib.Dec.{eqb}
 use lib.ListN.{replicate}
 use borrow.Author.Tests.{eq-eqb}
-use Rattle.lists.specs.Upto.{from, upto}
-use Rattle.parts.specs.declared.Direction.{Direction}
-use Rattle.parts.specs.declared.Direction.the-variants.{Horizontal, Vertical}
+use Rattle.encoding.specs.Upto.{from, upto}
+use Rattle.types.specs.declared.Direction.{Direction}
+use Rattle.types.specs.declared.Direction.the-variants.{Horizontal, Vertical}
 use Rattle.meaning.specs.Meaning.{Meaning, emptySide}
 use Rattle.meaning.specs.Ask.{Question, ask}
 use Rattle.meaning.specs.Sheet.{write}
 use Rattle.lookup.specs.declared.Found.the-variants.{Nothing}
 use Rattle.lookup.specs.Find.{valueOf}
-use Rattle.values.specs.declared.Kind.the-variants.{Clusters}
-use Rattle.values.specs.Values.{spotOf, clusterHere, clusterOf, listOf}
+use Rattle.lookup_targets.specs.declared.Kind.the-variants.{Clusters}
+use Rattle.lookup_targets.specs.Values.{spotOf, clusterHere, clusterOf, listOf}
 use Rattle.table.specs.Table.{machineOffset, widthOffset, actionOffset, widthLookup}
 use Rattle.table.specs.Means.{machineOf, listsOf, sideAt, directionOf, meaningOf}
 use Rattle.table_laws.specs.Absent.{EmptyDirection, offsetOf, other}

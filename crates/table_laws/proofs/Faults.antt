@@ -19,8 +19,8 @@ use Rattle.fields.specs.Faults.{_then_, rule}
 use Rattle.fields.specs.Laws.{then-assoc, then-clear, then-first, then-second, then-stop, then-go, rule-holds, rule-clear, rule-fails}
 use Rattle.fields.specs.Walk.{walk, each}
 use Rattle.lookup.specs.Lookup.{lookupFault}
-use Rattle.values.specs.declared.Kind.{Kind}
-use Rattle.values.specs.Values.{glyphFault, valuesFault}
+use Rattle.lookup_targets.specs.declared.Kind.{Kind}
+use Rattle.lookup_targets.specs.Values.{glyphFault, valuesFault}
 use Rattle.answers.specs.declared.Checked.the-variants as checked
 use Rattle.answers.specs.Says.{checkedBy}
 use Rattle.table.specs.Table.{present, headerFault, offsetsFault, directionFault, tableFault, Accepted}

@@ -6,9 +6,9 @@ use mathlib.Core.List.{List, [], _∷_, _++_}
 use native.Mathlib.Omega.{arith}
 use native.Mathlib.Decide.{ℕ-discrete}
 use lib.ListN.{length, length-append}
-use Rattle.lists.specs.Codes.{All}
-use Rattle.lists.specs.Distinct.{index, distinct}
-use Rattle.lists.proofs.DistinctLaws.{index-le, index-append, index-new}
+use Rattle.encoding.specs.Codes.{All}
+use Rattle.encoding.specs.Distinct.{index, distinct}
+use Rattle.encoding.proofs.DistinctLaws.{index-le, index-append, index-new}
 
 module _ {A : Type 0} (eq : Discrete A) where
   -- 1 where x is not among those seen

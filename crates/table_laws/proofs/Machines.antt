@@ -8,10 +8,10 @@ use lib.Arith.{digits-lt}
 use lib.ListN.{length, getD}
 use Rattle.fields.specs.declared.Fault.the-variants.{Clear}
 use Rattle.fields.specs.Field.{Bytes}
-use Rattle.lists.specs.Distinct.{distinct}
-use Rattle.lists.specs.Upto.{upto}
-use Rattle.lists.proofs.UptoLaws.{length-from, getD-upto, all-upto}
-use Rattle.parts.specs.declared.Entry.{Entry}
+use Rattle.encoding.specs.Distinct.{distinct}
+use Rattle.encoding.specs.Upto.{upto}
+use Rattle.encoding.proofs.UptoLaws.{length-from, getD-upto, all-upto}
+use Rattle.types.specs.declared.Entry.{Entry}
 use Rattle.machine.specs.Cells.{classCount, stateArray, classAt, entryAt, cellAt}
 use Rattle.machine.specs.Rows.{rowCount}
 use Rattle.machine.specs.Machine.{machineFault}
@@ -64,8 +64,8 @@ module _ (t : List ℕ) (n here : ℕ) (w : Bytes t) (e : machineFault t n here 
         few-rows = rows-most t n here e;
         some-classes = classes-least t n here e;
         few-classes = classes-most t n here e;
-        kind-count = length-from (classAt t here) n 0;
-        kinds = all-upto (classAt t here) (λ (c : ℕ). c < classCount t here) n (class-below t n here e);
+        column-count = length-from (classAt t here) n 0;
+        columns = all-upto (classAt t here) (λ (c : ℕ). c < classCount t here) n (class-below t n here e);
         cell-count = length-from (cellBy t here) (rowCount t here * classCount t here) 0;
         cells = all-upto (cellBy t here) (OkEntry (rowCount t here)) (rowCount t here * classCount t here) entry-ok;
         least = least-ok;

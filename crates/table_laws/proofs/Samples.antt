@@ -14,7 +14,7 @@ use Rattle.fields.specs.Field.{u16At, u32At, be32}
 use Rattle.fields.specs.Faults.{_then_, rule, inside}
 use Rattle.fields.specs.Walk.{walk, each}
 use Rattle.fields.specs.Laws.{then-clear, then-go}
-use Rattle.parts.specs.declared.Direction.the-variants.{Horizontal}
+use Rattle.types.specs.declared.Direction.the-variants.{Horizontal}
 use Rattle.meaning.specs.Sheet.{write}
 use Rattle.meaning.proofs.SheetLaws.{empty-sheet}
 use Rattle.lookup.specs.declared.Found.{Found}
@@ -22,8 +22,8 @@ use Rattle.lookup.specs.declared.Found.the-variants.{Nothing}
 use Rattle.lookup.specs.Units.{unitSize}
 use Rattle.lookup.specs.Find.{unitsValue, hasUnits, unitCount, valueFrom, valueOf}
 use Rattle.lookup.specs.Lookup.{countedFault, formatFault, lookupFault}
-use Rattle.values.specs.declared.Kind.the-variants.{Clusters}
-use Rattle.values.specs.Values.{spotOf, spotFault, glyphFault, valuesFault}
+use Rattle.lookup_targets.specs.declared.Kind.the-variants.{Clusters}
+use Rattle.lookup_targets.specs.Values.{spotOf, spotFault, glyphFault, valuesFault}
 use Rattle.table.specs.Table.{present, offsetsFault, machinePart, actionPart, directionFault, tableFault, Accepted}
 use Rattle.meaning.specs.Meaning.{emptySide}
 use Rattle.table.specs.Means.{directionOf, meaningOf}

@@ -8,8 +8,8 @@ use Rattle.fields.specs.Faults.{_then_, rule, inside}
 use Rattle.fields.specs.Walk.{walk}
 use Rattle.units.specs.Fixed.{fixedSize}
 use Rattle.units.specs.Flags.{widthFlags}
-use Rattle.lists.specs.Upto.{from}
-use Rattle.parts.specs.declared.Direction.the-variants.{Horizontal}
+use Rattle.encoding.specs.Upto.{from}
+use Rattle.types.specs.declared.Direction.the-variants.{Horizontal}
 use Rattle.meaning.specs.Ask.{sizes, class, cell, width, action, along, nothing, number, both, entry, pair, askSide, ask}
 use Rattle.lookup.specs.Units.{unitSize, firstOf, singleFault, unitFault}
 use Rattle.lookup.specs.Find.{covers, unitValue, unitsValue, hasUnits, unitCount, valueFrom, valueOf}
@@ -20,7 +20,7 @@ use Rattle.actions.specs.Faults.{listFault}
 use Rattle.machine.specs.Cells.{classAt, entryAt, cellAt}
 use Rattle.machine.specs.Rows.{entryFault, cellFault, rowFault, raised, raisedBy, faultFrom, countFrom, unless, rowCount}
 use Rattle.machine.specs.Machine.{headFault, classFault, classTableFault, machineFault}
-use Rattle.values.specs.Values.{glyphFault, valuesFault, clusterOf, listOf}
+use Rattle.lookup_targets.specs.Values.{glyphFault, valuesFault, clusterOf, listOf}
 use Rattle.table.specs.Table.{present, headerFault, offsetsFault, machinePart, actionPart, directionFault, tableFault, Accepted}
 use Rattle.table.specs.Means.{cellBy, machineAt, machineOf, listsOf, sideAt, directionOf, meaningOf}
 use Rattle.table_laws.specs.Samples.{zeroTable, machineTable}

@@ -12,10 +12,10 @@ use Rattle.fields.specs.Field.{u16At, Bytes}
 use Rattle.fields.specs.Faults.{_then_}
 use Rattle.fields.specs.Walk.{walk-each}
 use Rattle.fields.specs.Laws.{then-first, then-second}
-use Rattle.lists.specs.Codes.{All}
-use Rattle.lists.specs.Upto.{upto}
-use Rattle.lists.proofs.ListLaws.{all-replicate}
-use Rattle.lists.proofs.UptoLaws.{length-from, all-upto}
+use Rattle.encoding.specs.Codes.{All}
+use Rattle.encoding.specs.Upto.{upto}
+use Rattle.encoding.proofs.ListLaws.{all-replicate}
+use Rattle.encoding.proofs.UptoLaws.{length-from, all-upto}
 use Rattle.meaning.specs.Limits.{OkMaybe, OkCluster, OkActions, OkSide, Valid}
 use Rattle.meaning.specs.Sheet.{write, IsSheet}
 use Rattle.meaning.proofs.SheetLaws.{empty-ok, is-sheet}
@@ -25,9 +25,9 @@ use Rattle.cluster.proofs.Laws.{cluster-ok}
 use Rattle.actions.specs.declared.Spot.{Spot}
 use Rattle.actions.specs.declared.Spot.the-variants.{At, Nowhere}
 use Rattle.actions.proofs.Laws.{list-ok}
-use Rattle.values.specs.declared.Kind.{Kind}
-use Rattle.values.specs.declared.Kind.the-variants.{Clusters, Lists}
-use Rattle.values.specs.Values.{spotOf, spotFault, glyphFault, valuesFault, clusterHere, listHere, clusterOf, listOf}
+use Rattle.lookup_targets.specs.declared.Kind.{Kind}
+use Rattle.lookup_targets.specs.declared.Kind.the-variants.{Clusters, Lists}
+use Rattle.lookup_targets.specs.Values.{spotOf, spotFault, glyphFault, valuesFault, clusterHere, listHere, clusterOf, listOf}
 use Rattle.table.specs.Table.{machineOffset, widthOffset, actionOffset, widthLookup, present, offsetsFault, machinePart, actionPart, directionFault, tableFault, Accepted}
 use Rattle.meaning.specs.Meaning.{emptySide}
 use Rattle.table.specs.Means.{machineAt, machineOf, listsOf, sideAt, directionOf, meaningOf}

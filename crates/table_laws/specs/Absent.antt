@@ -4,11 +4,11 @@ use mathlib.Core.Path.{_≡_}
 use mathlib.Core.Logic.{_⊎_}
 use mathlib.Core.List.{List, []}
 use Rattle.fields.specs.Field.{u16At}
-use Rattle.parts.specs.declared.Direction.{Direction}
-use Rattle.parts.specs.declared.Direction.the-variants.{Horizontal, Vertical}
+use Rattle.types.specs.declared.Direction.{Direction}
+use Rattle.types.specs.declared.Direction.the-variants.{Horizontal, Vertical}
 use Rattle.lookup.specs.declared.Found.the-variants.{Nothing}
 use Rattle.lookup.specs.Find.{valueOf}
-use Rattle.values.specs.Values.{listOf}
+use Rattle.lookup_targets.specs.Values.{listOf}
 use Rattle.table.specs.Table.{machineOffset, actionOffset, widthLookup}
 
 -- a direction with no machine, no width value at any glyph, and no action lookup or one that leads to no action

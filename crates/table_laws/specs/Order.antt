@@ -10,8 +10,8 @@ use Rattle.fields.specs.declared.Fault.{Fault}
 use Rattle.fields.specs.declared.Fault.the-variants.{Clear, Bad}
 use Rattle.fields.specs.Field.{u16At, u32At}
 use Rattle.fields.specs.Faults.{inside}
-use Rattle.values.specs.declared.Kind.the-variants.{Clusters}
-use Rattle.values.specs.Values.{valuesFault}
+use Rattle.lookup_targets.specs.declared.Kind.the-variants.{Clusters}
+use Rattle.lookup_targets.specs.Values.{valuesFault}
 use Rattle.table.specs.Table.{headerFault, machineOffset, widthOffset, actionOffset, widthLookup, machinePart, actionPart, directionFault}
 
 -- one of the faults is the refusal r at `at`, and those ahead of it are clear

@@ -15,7 +15,7 @@ use mir.ValLaws.{toZ-ofZ}
 use borrow.Author.Tests.{ltb-true, ltb-false, eq-eqb, ne-eqb}
 use Rattle.units.specs.Fixed.{fixedOf, farOut, factorOf}
 use Rattle.units.proofs.Rounding.{turned, above-factor, below-factor, not-below, fixed-near, negative-near}
-use Rattle.verdict.specs.Verdict.{below, above, reaches, lower, upper, threshold, grows, breaks, adds, substitutes, stretches, kindFires}
+use Rattle.verdict.specs.Verdict.{below, above, reaches, lower, upper, threshold, grows, breaks, adds, substitutes, stretches, typeFires}
 use Rattle.verdict.specs.declared.Fires.{Fires}
 use Rattle.verdict.specs.declared.Fires.the-variants.{No, Plain, Substitutes}
 
@@ -174,30 +174,30 @@ module _ (test : ℤ → ℤ → ℕ → Bool) (g : ℤ) (s : ℕ) where
 -- ---- an action by its type
 
 module _ (content : List ℕ) (g : ℤ) (s : ℕ) where
-  pub kind-breaks : (k : ℕ) → k ≡ 0 → breaks content g s ≡ kindFires k content g s
-  unfolding kindFires
-  kind-breaks k e = sym (ap (λ (n : ℕ). kindFires n content g s) e)
+  pub type-breaks : (k : ℕ) → k ≡ 0 → breaks content g s ≡ typeFires k content g s
+  unfolding typeFires
+  type-breaks k e = sym (ap (λ (n : ℕ). typeFires n content g s) e)
 
-  pub kind-adds : (k : ℕ) → (k ≡ 1) ⊎ (k ≡ 5) → adds g ≡ kindFires k content g s
-  unfolding kindFires
-  kind-adds k e = ⊎-elim (λ f. sym (ap (λ (n : ℕ). kindFires n content g s) f)) (λ f. sym (ap (λ (n : ℕ). kindFires n content g s) f)) e
+  pub type-adds : (k : ℕ) → (k ≡ 1) ⊎ (k ≡ 5) → adds g ≡ typeFires k content g s
+  unfolding typeFires
+  type-adds k e = ⊎-elim (λ f. sym (ap (λ (n : ℕ). typeFires n content g s) f)) (λ f. sym (ap (λ (n : ℕ). typeFires n content g s) f)) e
 
-  pub kind-substitutes : (k : ℕ) → k ≡ 2 → substitutes content g s ≡ kindFires k content g s
-  unfolding kindFires
-  kind-substitutes k e = sym (ap (λ (n : ℕ). kindFires n content g s) e)
+  pub type-substitutes : (k : ℕ) → k ≡ 2 → substitutes content g s ≡ typeFires k content g s
+  unfolding typeFires
+  type-substitutes k e = sym (ap (λ (n : ℕ). typeFires n content g s) e)
 
-  pub kind-stretches : (k : ℕ) → k < 5 → (k ≡ 0 → ⊥) → ((k ≡ 1) ⊎ (k ≡ 5) → ⊥) → (k ≡ 2 → ⊥) → stretches g ≡ kindFires k content g s
-  unfolding kindFires
-  kind-stretches zero h a b c = absurd (a refl)
-  kind-stretches (suc zero) h a b c = absurd (b (inl refl))
-  kind-stretches (suc (suc zero)) h a b c = absurd (c refl)
-  kind-stretches (suc (suc (suc zero))) h a b c = refl
-  kind-stretches (suc (suc (suc (suc zero)))) h a b c = refl
-  kind-stretches (suc (suc (suc (suc (suc k))))) h a b c = absurd (omega arith)
+  pub type-stretches : (k : ℕ) → k < 5 → (k ≡ 0 → ⊥) → ((k ≡ 1) ⊎ (k ≡ 5) → ⊥) → (k ≡ 2 → ⊥) → stretches g ≡ typeFires k content g s
+  unfolding typeFires
+  type-stretches zero h a b c = absurd (a refl)
+  type-stretches (suc zero) h a b c = absurd (b (inl refl))
+  type-stretches (suc (suc zero)) h a b c = absurd (c refl)
+  type-stretches (suc (suc (suc zero))) h a b c = refl
+  type-stretches (suc (suc (suc (suc zero)))) h a b c = refl
+  type-stretches (suc (suc (suc (suc (suc k))))) h a b c = absurd (omega arith)
 
-  pub kind-none : (k : ℕ) → 5 ≤ k → ((k ≡ 1) ⊎ (k ≡ 5) → ⊥) → No ≡ kindFires k content g s
-  unfolding kindFires
-  kind-none k h b =
+  pub type-none : (k : ℕ) → 5 ≤ k → ((k ≡ 1) ⊎ (k ≡ 5) → ⊥) → No ≡ typeFires k content g s
+  unfolding typeFires
+  type-none k h b =
       simp (
         ne-eqb k 0 (λ e. omega arith),
         ne-eqb k 1 (λ e. omega arith),

@@ -6,7 +6,7 @@ use mathlib.Core.List.{List, [], _∷_, _++_, map}
 use lib.IntN.{ℤ, pos, negℤ}
 use Rattle.fields.specs.Field.{be16, be32, u16At, u32At}
 use Rattle.meaning.specs.Meaning.{Action}
-use Rattle.verdict.specs.Verdict.{breaks, adds, substitutes, stretches, kindFires, firesOf}
+use Rattle.verdict.specs.Verdict.{breaks, adds, substitutes, stretches, typeFires, firesOf}
 use Rattle.verdict.specs.declared.Fires.{Fires}
 use Rattle.verdict.specs.declared.Fires.the-variants.{No, Plain, Substitutes}
 
@@ -17,13 +17,13 @@ pub record Sample : Type 0 where
 
 -- a ligature with its two limits, and a glyph that is added past a threshold, all as the bits of Fixed numbers
 abbrev ligature : ℕ → ℕ → Action
-ligature lower upper = record { class = 7; kind = 0; content = be32 lower ++ be32 upper ++ be16 0 ++ be16 1 ++ be16 3 }
+ligature lower upper = record { class = 7; ty = 0; content = be32 lower ++ be32 upper ++ be16 0 ++ be16 1 ++ be16 3 }
 
 abbrev added : ℕ → Action
-added threshold = record { class = 7; kind = 2; content = be32 threshold ++ be16 3 ++ be16 4 }
+added threshold = record { class = 7; ty = 2; content = be32 threshold ++ be16 3 ++ be16 4 }
 
 abbrev other : ℕ → ℕ → Action
-other class kind = record { class = class; kind = kind; content = be16 3 }
+other class ty = record { class = class; ty = ty; content = be16 3 }
 
 abbrev sample : Action → ℤ → Fires → Sample
 sample action growth fires = record { action = action; growth = growth; fires = fires }
@@ -57,5 +57,5 @@ samples =
     ∷ []
 
 pub worked-out : map (λ (s : Sample). firesOf (s .action) 7 (s .growth) 786432) samples ≡ map (λ (s : Sample). s .fires) samples
-unfolding u16At u32At breaks adds substitutes stretches kindFires firesOf
+unfolding u16At u32At breaks adds substitutes stretches typeFires firesOf
 worked-out = refl

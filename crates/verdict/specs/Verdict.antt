@@ -56,13 +56,13 @@ unfoldable pub stretches : ℤ → Fires
 stretches g = cond (eqb (natAbs g) 0) No Plain
 
 -- no other type fires
-unfoldable pub kindFires : ℕ → List ℕ → ℤ → ℕ → Fires
-kindFires kind content g s =
-    cond (eqb kind 0) (breaks content g s) (
-    cond (eqb kind 1 || eqb kind 5) (adds g) (
-    cond (eqb kind 2) (substitutes content g s) (
-    cond (eqb kind 3 || eqb kind 4) (stretches g) No)))
+unfoldable pub typeFires : ℕ → List ℕ → ℤ → ℕ → Fires
+typeFires ty content g s =
+    cond (eqb ty 0) (breaks content g s) (
+    cond (eqb ty 1 || eqb ty 5) (adds g) (
+    cond (eqb ty 2) (substitutes content g s) (
+    cond (eqb ty 3 || eqb ty 4) (stretches g) No)))
 
 -- an action of another class than the glyph's does not fire
 unfoldable pub firesOf : Action → ℕ → ℤ → ℕ → Fires
-firesOf a class g s = cond (eqb (a .class) class) (kindFires (a .kind) (a .content) g s) No
+firesOf a class g s = cond (eqb (a .class) class) (typeFires (a .ty) (a .content) g s) No

@@ -4,7 +4,7 @@ use units::Units;
 ghost use mathlib.Core.Path.{_≡_};
 ghost use Rattle.fields.specs.Field.{u32At};
 ghost use Rattle.units.specs.Fixed.{fixedOf};
-ghost use Rattle.verdict.specs.Verdict.{below, above, breaks, adds, substitutes, stretches, kindFires};
+ghost use Rattle.verdict.specs.Verdict.{below, above, breaks, adds, substitutes, stretches, typeFires};
 
 // What an action does at a growth. Only type 2 substitutes.
 pub enum Fires {
@@ -87,10 +87,10 @@ fn stretches_at(growth: Units) -> Fires
 }
 
 // Whether an action of this type and data fires for a glyph of its class.
-pub fn kind_fires(kind: u16, content: &[u8], growth: Units, size: u32) -> Fires
-    ensures { λ r. ⌜ r ≡ kindFires kind (now (content .entry)) (growth .0) size ⌝ }
+pub fn type_fires(ty: u16, content: &[u8], growth: Units, size: u32) -> Fires
+    ensures { λ r. ⌜ r ≡ typeFires ty (now (content .entry)) (growth .0) size ⌝ }
 {
-    match kind {
+    match ty {
         0 => breaks_at(content, growth, size),
         1 | 5 => adds_at(growth),
         2 => substitutes_at(content, growth, size),

@@ -84,14 +84,14 @@ pub struct Pair {
 #[repr(C)]
 pub struct Action {
     pub class: u16,
-    pub kind: u16,
+    pub ty: u16,
     pub size: u32,
     pub bytes: [u8; 76],
 }
 
 impl Default for Action {
     fn default() -> Action {
-        Action { class: 0, kind: 0, size: 0, bytes: [0; 76] }
+        Action { class: 0, ty: 0, size: 0, bytes: [0; 76] }
     }
 }
 

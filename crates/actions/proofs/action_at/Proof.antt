@@ -36,13 +36,13 @@ returns : tie.Need-returns
 unfolding actionAt
 returns c =
     let a = c .before .before .before .before .before .args in
-    let kind = c .before .before .u16-at2 .ensures .0 in
+    let ty = c .before .before .u16-at2 .ensures .0 in
     λ i.
     record {
       class = c .before .before .before .u16-at .ensures .0 i;
-      kind = kind i;
-      size = (c .before .content-size .ensures .0 ∙ ap (λ (k : ℕ). length (take 76 (contentAt (now (a .table)) (a .at) k))) kind) i;
-      bytes = (c .content-at .ensures ∙ ap (λ (k : ℕ). padded (take 76 (contentAt (now (a .table)) (a .at) k))) kind) i;
+      ty = ty i;
+      size = (c .before .content-size .ensures .0 ∙ ap (λ (k : ℕ). length (take 76 (contentAt (now (a .table)) (a .at) k))) ty) i;
+      bytes = (c .content-at .ensures ∙ ap (λ (k : ℕ). padded (take 76 (contentAt (now (a .table)) (a .at) k))) ty) i;
     }
 
 pub action-at-spec : {M : Type 1} → statement M

@@ -1,5 +1,5 @@
 -- `actions::actions_are_clear` meets its contract.
-use Rattle.actions.proofs.Marks.{both-passing, fewer-clear}
+use Rattle.actions.proofs.Notes.{both-passing, fewer-clear}
 use mathlib.Core.Bool.{true≢false}
 use mathlib.Core.Path.{sym}
 use denote.Ref.{now}
@@ -25,8 +25,8 @@ returns-2 c = (λ e. fewer-clear (now (c .before .before .before .before .before
 step-through-requires-2 : tie.Need-step-through-requires-2
 step-through-requires-2 c κs = search needs
 
-mark-ahead-requires : tie.Need-mark-ahead-requires
-mark-ahead-requires c κs = search needs
+note-ahead-requires : tie.Need-note-ahead-requires
+note-ahead-requires c κs = search needs
 
 same-length-3 : tie.Need-same-length-3
 same-length-3 c = search needs
@@ -34,7 +34,7 @@ same-length-3 c = search needs
 returns-3 : tie.Need-returns-3
 returns-3 c = (
   λ e. fewer-clear (now (c .before .before .before .before .before .before .before .before .before .before .before .before .before .before .before .before .before .before .args .table)) (c .before .before .before .before .before .before .before .before .before .before .before .before .before .before .before .before .before .before .args .glyphs) (c .before .before .before .before .before .before .before .before .before .before .before .before .before .before .before .before .before .before .args .count) _ (c .before .before .before .before .before .before .before .before .before .before .before .before .before .before .before .before .before .before .args .first) (c .before .before .before .before .before .before .before .before .before .before .if1 .left) (c .before .before .before .before .before .before .before .before .before .before .before .before .before .before .step-through .ensures .0),
-  both-passing (c .before .before .before .before .before .before .before .before .before .before .before .before .before .before .step-through .ensures .1) (both-passing (c .before .before .before .before .before .before .step-through2 .ensures .1) (c .before .before .mark-ahead .ensures)),
+  both-passing (c .before .before .before .before .before .before .before .before .before .before .before .before .before .before .step-through .ensures .1) (both-passing (c .before .before .before .before .before .before .step-through2 .ensures .1) (c .before .before .note-ahead .ensures)),
 )
 
 pub actions-are-clear-spec : {M : Type 1} → statement M
@@ -47,6 +47,6 @@ actions-are-clear-spec =
     same-length-2
     returns-2
     step-through-requires-2
-    mark-ahead-requires
+    note-ahead-requires
     same-length-3
     returns-3)

@@ -1,5 +1,5 @@
 -- `actions::copied` meets its contract.
-use Rattle.lists.specs.Upto.{from}
+use Rattle.encoding.specs.Upto.{from}
 use borrow.Author.Needs.{needs}
 use mathlib.Core.Path.{_≡_, refl, _∙_}
 use native.Mathlib.Omega.{arith}

@@ -2,7 +2,7 @@
 use mathlib.Core.Path.{sym, _∙_}
 use native.Mathlib.Omega.{arith}
 use Rattle.fields.specs.Laws.{then-stop, inside-holds}
-use Rattle.actions.proofs.Marks.{none-passing}
+use Rattle.actions.proofs.Notes.{none-passing}
 use Rattle.actions.proofs.Steps.{list-many, list-few}
 use Rattle.actions.specs.Faults.{listFault}
 use borrow.Author.Needs.{needs}

@@ -1,7 +1,7 @@
 -- `actions::step_through` meets its contract.
-use Rattle.actions.proofs.Marks.{none-passing, both-passing, one-passing, known-clear, known-all, none-yet, passed-all, passed-next}
+use Rattle.actions.proofs.Notes.{none-passing, both-passing, one-passing, known-clear, known-all, none-yet, passed-all, passed-next}
 use Rattle.actions.proofs.Steps.{action-begins}
-use Rattle.actions.specs.Marks.{Passing}
+use Rattle.actions.specs.Notes.{Passing}
 use Rattle.actions.specs.Faults.{actionsFault}
 use native.Mathlib.Omega.{arith}
 use mathlib.Core.Path.{_≡_, refl, ap, _∙_}

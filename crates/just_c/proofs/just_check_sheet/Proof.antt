@@ -1,7 +1,7 @@
 -- `just_c::just_check_sheet` meets its contract.
 use denote.Ref.{now}
 use Rattle.answers.specs.declared.Checked.the-variants.{Accepted, Refused}
-use Rattle.sheet_read.specs.Check.{SheetChecked}
+use Rattle.sheet_check.specs.Check.{SheetChecked}
 use mathlib.Core.Path.{_≡_, refl, sym, ap, subst, _∙_}
 use borrow.Author.Needs.{needs}
 use Rattle.just_c.proofs.just_check_sheet.Statement.{statement}

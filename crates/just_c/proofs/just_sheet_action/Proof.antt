@@ -1,7 +1,7 @@
 -- `just_c::just_sheet_action` meets its contract.
 use denote.Ref.{now}
-use Rattle.parts.specs.declared.Direction.{Direction}
-use Rattle.sheet_calls.specs.Calls.{SheetReply}
+use Rattle.types.specs.declared.Direction.{Direction}
+use Rattle.sheet_ask.specs.Calls.{SheetReply}
 use Rattle.just_c.proofs.Laws.{action-given}
 use Rattle.meaning.specs.Ask.{along, action}
 use Rattle.answers.specs.Says.{saysAction}

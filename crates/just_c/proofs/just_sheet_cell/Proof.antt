@@ -1,7 +1,7 @@
 -- `just_c::just_sheet_cell` meets its contract.
 use denote.Ref.{now}
-use Rattle.parts.specs.declared.Direction.{Direction}
-use Rattle.sheet_calls.specs.Calls.{SheetReply}
+use Rattle.types.specs.declared.Direction.{Direction}
+use Rattle.sheet_ask.specs.Calls.{SheetReply}
 use Rattle.meaning.specs.Ask.{along, sizes, class, cell, width}
 use Rattle.answers.specs.Says.{saysCell}
 use mathlib.Core.Path.{_≡_, refl, sym, ap, subst, _∙_}

@@ -1,7 +1,7 @@
 -- `just_c::just_table_components` meets its contract.
 use denote.Ref.{now}
-use Rattle.table_parts.specs.Components.{componentsOf}
-use Rattle.parts.specs.declared.Direction.{Direction}
+use Rattle.table_ask.specs.Components.{componentsOf}
+use Rattle.types.specs.declared.Direction.{Direction}
 use native.Mathlib.Omega.{arith}
 use Prim.Native.Nat.{ℕ, _-_}
 use Rattle.just_c.specs.InC.{stretchIn}

@@ -1,8 +1,8 @@
 -- `just_c::just_table_units` meets its contract.
-use Rattle.table_values.specs.ValuesInC.{unitsOut}
-use Rattle.table_values.specs.Values.{unitsAsked}
-use Rattle.values.specs.declared.Kind.{Kind}
-use Rattle.parts.specs.declared.Direction.{Direction}
+use Rattle.table_find.specs.ValuesInC.{unitsOut}
+use Rattle.table_find.specs.Values.{unitsAsked}
+use Rattle.lookup_targets.specs.declared.Kind.{Kind}
+use Rattle.types.specs.declared.Direction.{Direction}
 use mathlib.Core.Path.{ap, ap₂, _∙_}
 use borrow.Author.Needs.{needs}
 use Rattle.just_c.proofs.just_table_units.Statement.{statement}

@@ -1,8 +1,8 @@
 -- `just_c::just_table_value` meets its contract.
-use Rattle.table_values.specs.ValuesInC.{valueIn}
-use Rattle.table_values.specs.Values.{valueAsked}
-use Rattle.values.specs.declared.Kind.{Kind}
-use Rattle.parts.specs.declared.Direction.{Direction}
+use Rattle.table_find.specs.ValuesInC.{valueIn}
+use Rattle.table_find.specs.Values.{valueAsked}
+use Rattle.lookup_targets.specs.declared.Kind.{Kind}
+use Rattle.types.specs.declared.Direction.{Direction}
 use mathlib.Core.Path.{ap, ap₂, _∙_}
 use borrow.Author.Needs.{needs}
 use Rattle.just_c.proofs.just_table_value.Statement.{statement}

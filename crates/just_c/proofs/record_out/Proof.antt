@@ -1,6 +1,6 @@
 -- `just_c::record_out` meets its contract.
 use mathlib.Core.Bool.{false}
-use Rattle.parts.specs.declared.Pair.{Pair}
+use Rattle.types.specs.declared.Pair.{Pair}
 use Prim.Native.Nat.{ℕ}
 use Rattle.answers.specs.declared.RecordAnswer.{RecordAnswer}
 use Rattle.answers.specs.Says.{saysRecord}

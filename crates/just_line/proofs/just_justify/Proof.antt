@@ -1,4 +1,4 @@
--- `just_justify` meets its contract: a walk of its MIR, with no branch and no loop. `shape_in` and `line_out` are covered; `records::justify` has every lent
+-- `just_justify` meets its contract: a walk of its MIR, with no branch and no loop. `shape_in` and `line_out` are covered; `line_justify::justify` has every lent
 -- slice for good.
 use mathlib.Core.Path.{_≡_, refl}
 use Prim.Native.Nat.{ℕ, _<_, _^_}
@@ -41,26 +41,26 @@ use denote.Triple.Clauses.{ensured, lasts}
 use denote.Triple.Table.{entered, cited}
 use denote.Triple.Walked.{says, Stays, stay-none-slice, stay-none, gave-slice, walkOf, goes-none-slice, goes-none, goes-gave-slice, Walks, ends-at, walked, walk-meets}
 use denote.Exit.{yes}
-use Rattle.parts.specs.declared.Verdict.{Verdict}
-use Rattle.parts.proofs.Verdict as T
-use Rattle.lines.specs.declared.LineShape.{LineShape}
-use Rattle.lines.proofs.LineShape as L
-use Rattle.lines.proofs.LineShape.Laws as L′
-use Rattle.line.specs.declared.LineAnswer.{LineAnswer}
-use Rattle.line.specs.Justified.{justified}
-use Rattle.line.specs.Settle.{lineBy, lentBy}
-use Rattle.line.proofs.LineAnswer as N
-use Rattle.line.proofs.LineAnswer.Laws as N′
-use Rattle.records.specs.Outcome.{outcomeIs}
+use Rattle.types.specs.declared.Verdict.{Verdict}
+use Rattle.types.proofs.Verdict as T
+use Rattle.line_rule.specs.declared.LineShape.{LineShape}
+use Rattle.line_rule.proofs.LineShape as L
+use Rattle.line_rule.proofs.LineShape.Laws as L′
+use Rattle.line_call.specs.declared.LineAnswer.{LineAnswer}
+use Rattle.line_call.specs.Justified.{justified}
+use Rattle.line_call.specs.Settle.{lineBy, lentBy}
+use Rattle.line_call.proofs.LineAnswer as N
+use Rattle.line_call.proofs.LineAnswer.Laws as N′
+use Rattle.line_justify.specs.Outcome.{outcomeIs}
 use Rattle.just_line.specs.declared.JustLine.{JustLine}
 use Rattle.just_line.specs.LineInC.{shapeIn, lineIn}
 use Rattle.just_line.proofs.Called.{called}
 use Rattle.just_line.proofs.JustLine as J
 use Rattle.just_line.proofs.JustLine.Laws as J′
-use Rattle.records.proofs.justify as justify
-use Rattle.records.proofs.justify.Symbol as justify-def
-use Rattle.records.proofs.justify.Symbol.{name as #records·justify}
-use Rattle.records.proofs.justify.Met as justify-thm
+use Rattle.line_justify.proofs.justify as justify
+use Rattle.line_justify.proofs.justify.Symbol as justify-def
+use Rattle.line_justify.proofs.justify.Symbol.{name as #line-justify·justify}
+use Rattle.line_justify.proofs.justify.Met as justify-thm
 use Rattle.just_line.proofs.shape_in as shape
 use Rattle.just_line.proofs.shape_in.Symbol as shape-def
 use Rattle.just_line.proofs.shape_in.Symbol.{name as #just-line·shape-in}
@@ -170,7 +170,7 @@ module _ {M : Type 1} (𝓤 : URA M) (H : Heap 𝓤) (A : Atoms 𝓤) (W : Given
     goes-out : (r₀ : LineAnswer) (w : Val) → ent 𝓤 (⋆ 𝓤 H A (‵ (N.the-row .own r₀ (w ∷ [])) ∷ [])) (Out 𝓤 H A mem run .pre (to-out r₀ w))
     goes-out r₀ w = qed W (‵ (N.the-row .own r₀ (w ∷ [])) ∷ []) ∵ nothing ! $ move ! (1 ∷ 0 ∷ []) $ fjoin ! $ nothing ! $ join ! $ frame ! $ done !
 
-    module _ (C : Calls 𝓤 H) (Λ : Loops 𝓤 H) (fm : FmC 𝓤 H (W .laws) C) (known-shape : Triple 𝓤 (C #just-line·shape-in) (Shape 𝓤 H A mem run)) (known-justify : Triple 𝓤 (C #records·justify) (Justify 𝓤 H A mem run)) (known-out : Triple 𝓤 (C #just-line·line-out) (Out 𝓤 H A mem run)) where
+    module _ (C : Calls 𝓤 H) (Λ : Loops 𝓤 H) (fm : FmC 𝓤 H (W .laws) C) (known-shape : Triple 𝓤 (C #just-line·shape-in) (Shape 𝓤 H A mem run)) (known-justify : Triple 𝓤 (C #line-justify·justify) (Justify 𝓤 H A mem run)) (known-out : Triple 𝓤 (C #just-line·line-out) (Out 𝓤 H A mem run)) where
       walk : ent 𝓤 (onEntry 𝓤 H A call.signature (κ, (κ′, tt)) (q, (q′, tt)) args vals) (WpFn 𝓤 H C Λ code.function (sp ∷ vint w32 cn ∷ vint w32 nd ∷ vbool st ∷ vbool en ∷ vint w32 sz ∷ sg ∷ sa ∷ vint w32 (ofZ w32 tg) ∷ sc ∷ sd ∷ sf ∷ s ∷ []) Post)
       walk =
           qed W ((‵ (flft κ q) ⊛ ‵ (flft κ′ q′) ⊛ ‵ ftrue) ∷ ‵ (owns (ShrSlice (named 0) κ u8 ∷ u32 ∷ u32 ∷ bool ∷ bool ∷ u32 ∷ ShrSlice (named 0) κ u16 ∷ ShrSlice (named 0) κ i32 ∷ i32 ∷ MutSlice (named 0) κ u8 ∷ MutSlice (named 0) κ i32 ∷ MutSlice (named 0) κ i32 ∷ MutSlice (named 1) κ′ T.the-row ∷ []) args vals) ∷ []) ∵ enter ! C Λ code.function (sp ∷ vint w32 cn ∷ vint w32 nd ∷ vbool st ∷ vbool en ∷ vint w32 sz ∷ sg ∷ sa ∷ vint w32 (ofZ w32 tg) ∷ sc ∷ sd ∷ sf ∷ s ∷ []) _ $
@@ -211,7 +211,7 @@ module _ {M : Type 1} (𝓤 : URA M) (H : Heap 𝓤) (A : Atoms 𝓤) (W : Given
           keep ! (0 ∷ 1 ∷ 2 ∷ 3 ∷ 4 ∷ 5 ∷ 6 ∷ 7 ∷ 8 ∷ []) $ by ! (exits sh r₀ r u (ls .1 .1 .1 .1 .1 .0) (ls .1 .1 .1 .1 .1 .1 .0) (ls .1 .1 .1 .1 .1 .1 .1 .0) (ls .1 .1 .1 .1 .1 .1 .1 .1 .0) es e eo lc ld lf lz))))))))))))))))))))))))))))))))))))))))))
 
 module _ {M : Type 1} (𝓤 : URA M) (H : Heap 𝓤) (A : Atoms 𝓤) (W : Given 𝓤 H A) (mem : Memory → SProp 𝓤) (run : Routine → Fun 𝓤) where
-  call-walks : (C : Calls 𝓤 H) (Λ : Loops 𝓤 H) → FmC 𝓤 H (W .laws) C → Triple 𝓤 (C #just-line·shape-in) (Shape 𝓤 H A mem run) → Triple 𝓤 (C #records·justify) (Justify 𝓤 H A mem run) → Triple 𝓤 (C #just-line·line-out) (Out 𝓤 H A mem run)
+  call-walks : (C : Calls 𝓤 H) (Λ : Loops 𝓤 H) → FmC 𝓤 H (W .laws) C → Triple 𝓤 (C #just-line·shape-in) (Shape 𝓤 H A mem run) → Triple 𝓤 (C #line-justify·justify) (Justify 𝓤 H A mem run) → Triple 𝓤 (C #just-line·line-out) (Out 𝓤 H A mem run)
       → Walks 𝓤 H A call.ended stayed (WpFn 𝓤 H C Λ code.function) (call.clauses 𝓤 H A mem run)
   call-walks C Λ fm known-shape known-justify known-out = walked 𝓤 H A call.ended stayed (call.clauses 𝓤 H A mem run) (WpFn 𝓤 H C Λ code.function)
       (λ κs. (slice-vals, (uint-vals w32, (uint-vals w32, (bool-vals, (bool-vals, (uint-vals w32, (slice-vals, (slice-vals, (sint-vals w32, (slice-vals, (slice-vals, (slice-vals, (slice-vals, tt))))))))))))))
@@ -220,7 +220,7 @@ module _ {M : Type 1} (𝓤 : URA M) (H : Heap 𝓤) (A : Atoms 𝓤) (W : Given
       (are .0 .0 .1) (are .1 .0 .1) (are .1 .1 .0 .1) (are .1 .1 .1 .1 .1 .0 .1) (are .1 .1 .1 .1 .1 .1 .0 .0 .1) (are .1 .1 .1 .1 .1 .1 .1 .0 .0 .1) (are .1 .1 .1 .1 .1 .1 .1 .1 .0 .1) (are .1 .1 .1 .1 .1 .1 .1 .1 .1 .0 .0 .1) (are .1 .1 .1 .1 .1 .1 .1 .1 .1 .1 .0 .0 .1) (are .1 .1 .1 .1 .1 .1 .1 .1 .1 .1 .1 .0 .0 .1) (are .1 .1 .1 .1 .1 .1 .1 .1 .1 .1 .1 .1 .0 .0 .1) C Λ fm known-shape known-justify known-out))
 
 call-meets : {M : Type 1} (𝓤 : URA M) (H : Heap 𝓤) (A : Atoms 𝓤) → Given 𝓤 H A → (mem : Memory → SProp 𝓤) (run : Routine → Fun 𝓤) (𝓣 : Tables 𝓤 H)
-    → Triple 𝓤 (𝓣 .C #just-line·shape-in) (Shape 𝓤 H A mem run) → Triple 𝓤 (𝓣 .C #records·justify) (Justify 𝓤 H A mem run) → Triple 𝓤 (𝓣 .C #just-line·line-out) (Out 𝓤 H A mem run)
+    → Triple 𝓤 (𝓣 .C #just-line·shape-in) (Shape 𝓤 H A mem run) → Triple 𝓤 (𝓣 .C #line-justify·justify) (Justify 𝓤 H A mem run) → Triple 𝓤 (𝓣 .C #just-line·line-out) (Out 𝓤 H A mem run)
     → Meets 𝓤 H A call.signature (WpFn 𝓤 H (𝓣 .C) (𝓣 .Λ) code.function) (call.spec 𝓤 H A mem run)
 call-meets 𝓤 H A W mem run 𝓣 known-shape known-justify known-out =
     walk-meets 𝓤 H A call.ended stayed W (goes-none-slice 𝓤 H A W 2 (0 ∷ []) tt (plain (λ _. u8)) yes, (goes-none 𝓤 H A W 2 (λ _. u32) yes (λ κs x f. refl), (goes-none 𝓤 H A W 2 (λ _. u32) yes (λ κs x f. refl), (goes-none 𝓤 H A W 2 (λ _. bool) yes (λ κs x f. refl), (goes-none 𝓤 H A W 2 (λ _. bool) yes (λ κs x f. refl), (goes-none 𝓤 H A W 2 (λ _. u32) yes (λ κs x f. refl), (goes-none-slice 𝓤 H A W 2 (0 ∷ []) tt (plain (λ _. u16)) yes, (goes-none-slice 𝓤 H A W 2 (0 ∷ []) tt (plain (λ _. i32)) yes, (goes-none 𝓤 H A W 2 (λ _. i32) yes (λ κs x f. refl), (goes-gave-slice 𝓤 H A W 2 0 tt (plain (λ _. u8)), (goes-gave-slice 𝓤 H A W 2 0 tt (plain (λ _. i32)), (goes-gave-slice 𝓤 H A W 2 0 tt (plain (λ _. i32)), (goes-gave-slice 𝓤 H A W 2 1 tt (plain (λ _. T.the-row)), tt))))))))))))) (call.clauses 𝓤 H A mem run)
@@ -233,5 +233,5 @@ just-justify-spec 𝓤 H 𝓜 𝓖 𝓡 =
     (tables 𝓤 H 𝓜 𝓡 code.env .C) (tables 𝓤 H 𝓜 𝓡 code.env .Λ) #just-line·just-justify code.function (code.unfolded 𝓤 H 𝓜 𝓡)
     (call-meets 𝓤 H (𝓖 .A) (givenOf 𝓤 H 𝓜 𝓖) (𝓜 .mem) (𝓡 .run) (tablesOf 𝓤 H 𝓜 (tables 𝓤 H 𝓜 𝓡 code.env))
     (cited 𝓤 H (Shape 𝓤 H (𝓖 .A) (𝓜 .mem) (𝓡 .run)) 𝓜 𝓡 code.env #just-line·shape-in shape-def.routine code.calls-just-line·shape-in (shape-thm.met 𝓤 H 𝓜 𝓖 𝓡))
-    (cited 𝓤 H (Justify 𝓤 H (𝓖 .A) (𝓜 .mem) (𝓡 .run)) 𝓜 𝓡 code.env #records·justify justify-def.routine code.calls-records·justify (justify-thm.met 𝓤 H 𝓜 𝓖 𝓡))
+    (cited 𝓤 H (Justify 𝓤 H (𝓖 .A) (𝓜 .mem) (𝓡 .run)) 𝓜 𝓡 code.env #line-justify·justify justify-def.routine code.calls-line-justify·justify (justify-thm.met 𝓤 H 𝓜 𝓖 𝓡))
     (cited 𝓤 H (Out 𝓤 H (𝓖 .A) (𝓜 .mem) (𝓡 .run)) 𝓜 𝓡 code.env #just-line·line-out out-def.routine code.calls-just-line·line-out (out-thm.met 𝓤 H 𝓜 𝓖 𝓡)))

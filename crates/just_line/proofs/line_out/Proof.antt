@@ -4,7 +4,7 @@ use lib.IntN.{ℤ}
 use mir.Syntax.{w32}
 use mir.ValLaws.{toZ-ofZ}
 use borrow.Author.Needs.{needs}
-use Rattle.line.specs.declared.LineAnswer.the-variants.{Justified}
+use Rattle.line_call.specs.declared.LineAnswer.the-variants.{Justified}
 use Rattle.just_line.specs.LineInC.{refusedIn, lineIn}
 use Rattle.just_line.proofs.line_out.Statement.{statement}
 use Rattle.just_line.proofs.line_out.Tie as tie

@@ -4,8 +4,8 @@ use lib.IntN.{ℤ}
 use mir.Syntax.{w32}
 use mir.ValLaws.{toZ-ofZ}
 use borrow.Author.Needs.{needs}
-use Rattle.parts.specs.declared.Direction.{Direction}
-use Rattle.lines.specs.declared.LineShape.{LineShape}
+use Rattle.types.specs.declared.Direction.{Direction}
+use Rattle.line_rule.specs.declared.LineShape.{LineShape}
 use Rattle.just_line.proofs.shape_in.Statement.{statement}
 use Rattle.just_line.proofs.shape_in.Tie as tie
 

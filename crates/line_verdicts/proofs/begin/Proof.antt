@@ -1,5 +1,5 @@
 -- `line_verdicts::begin` meets its contract.
-use Rattle.table_parts.proofs.Steps.{list-found, lists-sound}
+use Rattle.table_ask.proofs.Steps.{list-found, lists-sound}
 use Rattle.line_verdicts.proofs.Laws.{begins-there, begins-none, spot-below}
 use native.Mathlib.Omega.{arith}
 use mathlib.Core.Path.{sym, _∙_}

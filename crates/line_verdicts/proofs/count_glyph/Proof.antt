@@ -7,7 +7,7 @@ use lib.ListN.{getD}
 use Rattle.actions.specs.declared.Spot.the-variants.{Nowhere}
 use Rattle.meaning.specs.Ask.{sideOf}
 use Rattle.table.specs.Means.{meaningOf}
-use Rattle.table_parts.proofs.Steps.{list-found, lists-sound}
+use Rattle.table_ask.proofs.Steps.{list-found, lists-sound}
 use Rattle.line_verdicts.proofs.Laws.{list-here, begins-there, spot-below, places, count-there, count-none}
 use borrow.Author.Needs.{needs}
 use Rattle.line_verdicts.proofs.count_glyph.Statement.{statement}

@@ -6,7 +6,7 @@ use lib.ListN.{length}
 use borrow.Author.Needs.{needs}
 use Rattle.meaning.specs.Ask.{sideOf}
 use Rattle.table.specs.Means.{meaningOf}
-use Rattle.lines.specs.Line.{verdictsFrom}
+use Rattle.line_rule.specs.Line.{verdictsFrom}
 use Rattle.line_verdicts.specs.Cursor.{moved, verdictsAt}
 use Rattle.line_verdicts.proofs.Laws.{lists-few, verdicts-few, count-all, count-next, count-past}
 use Rattle.line_verdicts.proofs.count_verdicts.Statement.{statement}

@@ -20,28 +20,28 @@ add-u16-in c = search needs
 u16-in-requires-2 : tie.Need-u16-in-requires-2
 u16-in-requires-2 c κs = search needs
 
-cast-kind : tie.Need-cast-kind
-cast-kind c = search needs
+cast-ty : tie.Need-cast-ty
+cast-ty c = search needs
 
-add-kind-fires : tie.Need-add-kind-fires
-add-kind-fires c = search needs
+add-type-fires : tie.Need-add-type-fires
+add-type-fires c = search needs
 
-sub-kind-fires : tie.Need-sub-kind-fires
-sub-kind-fires c = search needs
+sub-type-fires : tie.Need-sub-type-fires
+sub-type-fires c = search needs
 
-part-kind-fires-start : tie.Need-part-kind-fires-start
-part-kind-fires-start c = search needs
+part-type-fires-start : tie.Need-part-type-fires-start
+part-type-fires-start c = search needs
 
-part-kind-fires-end : tie.Need-part-kind-fires-end
-part-kind-fires-end c = search needs
+part-type-fires-end : tie.Need-part-type-fires-end
+part-type-fires-end c = search needs
 
-kind-fires-requires : tie.Need-kind-fires-requires
-kind-fires-requires c κs = search needs
+type-fires-requires : tie.Need-type-fires-requires
+type-fires-requires c κs = search needs
 
 returns-2 : tie.Need-returns-2
 returns-2 c =
     let a = c .before .before .before .before .before .before .args in
-    own-class (a .table .now) (a .at) (a .class) (a .growth .0) (a .size) (c .kind-fires .ensures) (sym (c .before .before .before .before .u16-in .ensures .0) ∙ c .before .before .before .if1 .left) (c .before .before .u16-in2 .ensures .0)
+    own-class (a .table .now) (a .at) (a .class) (a .growth .0) (a .size) (c .type-fires .ensures) (sym (c .before .before .before .before .u16-in .ensures .0) ∙ c .before .before .before .if1 .left) (c .before .before .u16-in2 .ensures .0)
     (rest-whole (a .table .now) (a .at + 8))
 
 pub fires-here-spec : {M : Type 1} → statement M
@@ -52,10 +52,10 @@ fires-here-spec =
     returns
     add-u16-in
     u16-in-requires-2
-    cast-kind
-    add-kind-fires
-    sub-kind-fires
-    part-kind-fires-start
-    part-kind-fires-end
-    kind-fires-requires
+    cast-ty
+    add-type-fires
+    sub-type-fires
+    part-type-fires-start
+    part-type-fires-end
+    type-fires-requires
     returns-2)

@@ -13,16 +13,16 @@ use Rattle.share.proofs.give.Statement.{statement}
 use Rattle.share.proofs.give.Tie as tie
 
 abbrev Inv-loop : tie.InvT-loop
-Inv-loop amount over stage marks first second before₀ after₀ run₀ i₀ before after run i = (i ≤ length marks) × Giving amount over stage marks first second before₀ after₀ run before after i
+Inv-loop amount over stage priorities first second before₀ after₀ run₀ i₀ before after run i = (i ≤ length priorities) × Giving amount over stage priorities first second before₀ after₀ run before after i
 
 abbrev μ-loop : tie.MeasureT-loop
-μ-loop amount over stage marks first second before₀ after₀ run₀ i₀ before after run i = length marks - i
+μ-loop amount over stage priorities first second before₀ after₀ run₀ i₀ before after run i = length priorities - i
 
 returns : tie.Need-returns Inv-loop μ-loop
 returns c = let a = c .before .before .before .before .before .before .args in
     let p = c .before .before .before .before .before .before .pre in
-    let f = factorsAt (a .stage) (a .marks .now) (a .first .now) (a .second .now) in
-    moved-nothing (length (a .marks .now)) (shares (a .amount) f) (a .before .now) (a .after .now) (no-shares (a .amount) f (omega arith))
+    let f = factorsAt (a .stage) (a .priorities .now) (a .first .now) (a .second .now) in
+    moved-nothing (length (a .priorities .now)) (shares (a .amount) f) (a .before .now) (a .after .now) (no-shares (a .amount) f (omega arith))
     (length-shares (a .amount) f ∙ length-factorsAt (a .stage) (p .0 .0)) (p .0 .1 .before) (p .0 .1 .after)
 
 start-requires : tie.Need-start-requires Inv-loop μ-loop
@@ -30,7 +30,7 @@ start-requires c κs = omega arith
 
 loop-holds : tie.Need-loop-holds Inv-loop μ-loop
 loop-holds c = let a = c .before .before .before .before .before .before .before .args in
-    (omega arith, giving-start (a .amount) (a .over) (a .stage) (a .marks .now) (a .first .now) (a .second .now) (a .before .now) (a .after .now) (c .before .before .before .before .before .before .before .pre .1 .1) (c .start .ensures))
+    (omega arith, giving-start (a .amount) (a .over) (a .stage) (a .priorities .now) (a .first .now) (a .second .now) (a .before .now) (a .after .now) (c .before .before .before .before .before .before .before .pre .1 .1) (c .start .ensures))
 
 shared-slice-read-if2 : tie.Need-shared-slice-read-if2 Inv-loop μ-loop
 shared-slice-read-if2 c = omega arith
@@ -45,7 +45,7 @@ next-share-requires : tie.Need-next-share-requires Inv-loop μ-loop
 next-share-requires c κs = let a = c .before .before .before .before .before .before .before .before .before .before .before .before .args in
     let l = c .before .before .before .before .loop in
     let p = c .before .before .before .before .before .before .before .before .before .before .before .before .pre in
-    ready-first (l .inv .1) (rest-hit (a .stage) (a .marks .now) (a .first .now) (a .second .now) (l .i) (omega arith) (omega arith) (omega arith) (c .before .if2 .taken)) (p .1 .0 .small) (p .1 .2) (omega arith) (p .0 .0 .low-first (l .i))
+    ready-first (l .inv .1) (rest-hit (a .stage) (a .priorities .now) (a .first .now) (a .second .now) (l .i) (omega arith) (omega arith) (omega arith) (c .before .if2 .taken)) (p .1 .0 .small) (p .1 .2) (omega arith) (p .0 .0 .low-first (l .i))
 
 mul-next-share-2 : tie.Need-mul-next-share-2 Inv-loop μ-loop
 mul-next-share-2 c = omega arith
@@ -57,7 +57,7 @@ next-share-requires-2 : tie.Need-next-share-requires-2 Inv-loop μ-loop
 next-share-requires-2 c κs = let a = c .before .before .before .before .before .before .before .before .before .before .before .before .before .before .before .args in
     let l = c .before .before .before .before .before .before .before .loop in
     let p = c .before .before .before .before .before .before .before .before .before .before .before .before .before .before .before .pre in
-    ready-second (l .inv .1) (rest-hit (a .stage) (a .marks .now) (a .first .now) (a .second .now) (l .i) (omega arith) (omega arith) (omega arith) (c .before .before .before .before .if2 .taken)) (c .before .before .next-share .ensures) (p .1 .0 .small) (p .1 .2) (omega arith) (p .0 .0 .low-second (l .i))
+    ready-second (l .inv .1) (rest-hit (a .stage) (a .priorities .now) (a .first .now) (a .second .now) (l .i) (omega arith) (omega arith) (omega arith) (c .before .before .before .before .if2 .taken)) (c .before .before .next-share .ensures) (p .1 .0 .small) (p .1 .2) (omega arith) (p .0 .0 .low-second (l .i))
 
 mul-before : tie.Need-mul-before Inv-loop μ-loop
 mul-before c = let t = c .before .before .before .before .before .before .before .loop-test .taken in
@@ -76,7 +76,7 @@ add-before : tie.Need-add-before Inv-loop μ-loop
 add-before c = let a = c .before .before .before .before .before .before .before .before .before .before .before .before .before .before .before .before .before .before .args in
     let l = c .before .before .before .before .before .before .before .before .before .before .loop in
     let p = c .before .before .before .before .before .before .before .before .before .before .before .before .before .before .before .before .before .before .pre in
-    let f = first-fits (l .inv .1) (rest-hit (a .stage) (a .marks .now) (a .first .now) (a .second .now) (l .i) (omega arith) (omega arith) (omega arith) (c .before .before .before .before .before .before .before .if2 .taken)) (c .before .before .before .before .before .next-share .ensures) (omega arith) (p .1 .0 .before) in
+    let f = first-fits (l .inv .1) (rest-hit (a .stage) (a .priorities .now) (a .first .now) (a .second .now) (l .i) (omega arith) (omega arith) (omega arith) (c .before .before .before .before .before .before .before .if2 .taken)) (c .before .before .before .before .before .next-share .ensures) (omega arith) (p .1 .0 .before) in
     omega arith
 
 slice-write-before : tie.Need-slice-write-before Inv-loop μ-loop
@@ -103,7 +103,7 @@ add-after : tie.Need-add-after Inv-loop μ-loop
 add-after c = let a = c .before .before .before .before .before .before .before .before .before .before .before .before .before .before .before .before .before .before .before .before .args in
     let l = c .before .before .before .before .before .before .before .before .before .before .before .before .loop in
     let p = c .before .before .before .before .before .before .before .before .before .before .before .before .before .before .before .before .before .before .before .before .pre in
-    let f = second-fits (l .inv .1) (rest-hit (a .stage) (a .marks .now) (a .first .now) (a .second .now) (l .i) (omega arith) (omega arith) (omega arith) (c .before .before .before .before .before .before .before .before .before .if2 .taken)) (c .before .before .before .before .before .before .before .next-share .ensures) (c .before .before .before .before .next-share2 .ensures) (omega arith) (p .1 .0 .after) in
+    let f = second-fits (l .inv .1) (rest-hit (a .stage) (a .priorities .now) (a .first .now) (a .second .now) (l .i) (omega arith) (omega arith) (omega arith) (c .before .before .before .before .before .before .before .before .before .if2 .taken)) (c .before .before .before .before .before .before .before .next-share .ensures) (c .before .before .before .before .next-share2 .ensures) (omega arith) (p .1 .0 .after) in
     omega arith
 
 slice-write-after : tie.Need-slice-write-after Inv-loop μ-loop
@@ -129,7 +129,7 @@ loop-again c = let a = c .before .before .before .before .before .before .before
     let l = c .before .before .before .before .before .before .before .before .before .before .before .before .before .loop in
     let s = l .inv .1 .before .same in
     let u = l .inv .1 .after .same in
-    (omega arith, giving-on (l .inv .1) (rest-hit (a .stage) (a .marks .now) (a .first .now) (a .second .now) (l .i) (omega arith) (omega arith) (omega arith) (c .before .before .before .before .before .before .before .before .before .before .if2 .taken)) (c .before .before .before .before .before .before .before .before .next-share .ensures) (c .before .before .before .before .before .next-share2 .ensures) (omega arith) (omega arith))
+    (omega arith, giving-on (l .inv .1) (rest-hit (a .stage) (a .priorities .now) (a .first .now) (a .second .now) (l .i) (omega arith) (omega arith) (omega arith) (c .before .before .before .before .before .before .before .before .before .before .if2 .taken)) (c .before .before .before .before .before .before .before .before .next-share .ensures) (c .before .before .before .before .before .next-share2 .ensures) (omega arith) (omega arith))
 
 add-i-2 : tie.Need-add-i-2 Inv-loop μ-loop
 add-i-2 c = omega arith
@@ -142,7 +142,7 @@ loop-again-2 c = let a = c .before .before .before .before .before .before .befo
     let l = c .before .before .before .loop in
     let s = l .inv .1 .before .same in
     let u = l .inv .1 .after .same in
-    (omega arith, giving-none (l .inv .1) (rest-miss (a .stage) (a .marks .now) (a .first .now) (a .second .now) (l .i) (omega arith) (omega arith) (omega arith) (c .if2 .left)) (omega arith) (omega arith))
+    (omega arith, giving-none (l .inv .1) (rest-miss (a .stage) (a .priorities .now) (a .first .now) (a .second .now) (l .i) (omega arith) (omega arith) (omega arith) (c .if2 .left)) (omega arith) (omega arith))
 
 same-length : tie.Need-same-length Inv-loop μ-loop
 same-length c = let s = c .before .loop .inv .1 .before .same in omega arith
@@ -155,7 +155,7 @@ returns-2 c = let a = c .before .before .before .before .before .before .before 
     let l = c .before .loop in
     let s = l .inv .1 .before .same in
     let u = l .inv .1 .after .same in
-    moved-as (shares-over (a .amount) _ (c .before .before .before .before .before .before .before .before .before .pre .1 .1)) (giving-end (l .inv .1) (omega arith) (omega arith) (rest-end (a .stage) (a .marks .now) (a .first .now) (a .second .now) (l .i) (omega arith)))
+    moved-as (shares-over (a .amount) _ (c .before .before .before .before .before .before .before .before .before .pre .1 .1)) (giving-end (l .inv .1) (omega arith) (omega arith) (rest-end (a .stage) (a .priorities .now) (a .first .now) (a .second .now) (l .i) (omega arith)))
 
 pub give-spec : {M : Type 1} → statement M
 give-spec =

@@ -11,14 +11,14 @@ use Rattle.share.proofs.give_all.Statement.{statement}
 use Rattle.share.proofs.give_all.Tie as tie
 
 abbrev Inv-loop : tie.InvT-loop
-Inv-loop stage marks weights first second before₀ after₀ unlimited₀ i₀ before after unlimited i = (i ≤ length marks) × Filling stage marks first second before₀ after₀ before after i × (unlimited ≤ 255 * i) × (total (extrasAt stage marks weights) ≡ unlimited + total (extras stage marks weights i))
+Inv-loop stage priorities weights first second before₀ after₀ unlimited₀ i₀ before after unlimited i = (i ≤ length priorities) × Filling stage priorities first second before₀ after₀ before after i × (unlimited ≤ 255 * i) × (total (extrasAt stage priorities weights) ≡ unlimited + total (extras stage priorities weights i))
 
 abbrev μ-loop : tie.MeasureT-loop
-μ-loop stage marks weights first second before₀ after₀ unlimited₀ i₀ before after unlimited i = length marks - i
+μ-loop stage priorities weights first second before₀ after₀ unlimited₀ i₀ before after unlimited i = length priorities - i
 
 loop-holds : tie.Need-loop-holds Inv-loop μ-loop
 loop-holds c = let a = c .args in
-    (omega arith, filling-start (a .stage) (a .marks .now) (a .first .now) (a .second .now) (a .before .now) (a .after .now), omega arith, omega arith)
+    (omega arith, filling-start (a .stage) (a .priorities .now) (a .first .now) (a .second .now) (a .before .now) (a .after .now), omega arith, omega arith)
 
 shared-slice-read-if1 : tie.Need-shared-slice-read-if1 Inv-loop μ-loop
 shared-slice-read-if1 c = omega arith
@@ -38,7 +38,7 @@ slice-read-before c = let s = c .before .before .before .before .before .loop .i
 add-before : tie.Need-add-before Inv-loop μ-loop
 add-before c = let a = c .before .before .before .before .before .before .args in
     let l = c .before .before .before .before .before .loop in
-    let f = first-full (l .inv .1) (rest-hit (a .stage) (a .marks .now) (a .first .now) (a .second .now) (l .i) (omega arith) (omega arith) (omega arith) (c .before .before .if1 .taken)) (c .before .before .before .before .before .before .pre .1 .before) in
+    let f = first-full (l .inv .1) (rest-hit (a .stage) (a .priorities .now) (a .first .now) (a .second .now) (l .i) (omega arith) (omega arith) (omega arith) (c .before .before .if1 .taken)) (c .before .before .before .before .before .before .pre .1 .before) in
     omega arith
 
 slice-write-before : tie.Need-slice-write-before Inv-loop μ-loop
@@ -59,7 +59,7 @@ slice-read-after c = let s = c .before .before .before .before .before .before .
 add-after : tie.Need-add-after Inv-loop μ-loop
 add-after c = let a = c .before .before .before .before .before .before .before .before .args in
     let l = c .before .before .before .before .before .before .before .loop in
-    let f = second-full (l .inv .1) (rest-hit (a .stage) (a .marks .now) (a .first .now) (a .second .now) (l .i) (omega arith) (omega arith) (omega arith) (c .before .before .before .before .if1 .taken)) (c .before .before .before .before .before .before .before .before .pre .1 .after) in
+    let f = second-full (l .inv .1) (rest-hit (a .stage) (a .priorities .now) (a .first .now) (a .second .now) (l .i) (omega arith) (omega arith) (omega arith) (c .before .before .before .before .if1 .taken)) (c .before .before .before .before .before .before .before .before .pre .1 .after) in
     omega arith
 
 slice-write-after : tie.Need-slice-write-after Inv-loop μ-loop
@@ -85,9 +85,9 @@ loop-again c = let a = c .before .before .before .before .before .before .before
     let l = c .before .before .before .before .before .before .before .before .loop in
     let s = l .inv .1 .before .same in
     let u = l .inv .1 .after .same in
-    let e = ap total (extras-hit (a .stage) (a .marks .now) (a .extras .now) (l .i) (omega arith) (omega arith) (c .before .before .before .before .before .if1 .taken)) in
+    let e = ap total (extras-hit (a .stage) (a .priorities .now) (a .extras .now) (l .i) (omega arith) (omega arith) (c .before .before .before .before .before .if1 .taken)) in
     let k = c .shared-slice-known4 .given (l .i) in
-    (omega arith, filling-on (l .inv .1) (rest-hit (a .stage) (a .marks .now) (a .first .now) (a .second .now) (l .i) (omega arith) (omega arith) (omega arith) (c .before .before .before .before .before .if1 .taken)) (omega arith) (omega arith), omega arith, omega arith)
+    (omega arith, filling-on (l .inv .1) (rest-hit (a .stage) (a .priorities .now) (a .first .now) (a .second .now) (l .i) (omega arith) (omega arith) (omega arith) (c .before .before .before .before .before .if1 .taken)) (omega arith) (omega arith), omega arith, omega arith)
 
 add-i-2 : tie.Need-add-i-2 Inv-loop μ-loop
 add-i-2 c = omega arith
@@ -100,8 +100,8 @@ loop-again-2 c = let a = c .before .before .before .before .args in
     let l = c .before .before .before .loop in
     let s = l .inv .1 .before .same in
     let u = l .inv .1 .after .same in
-    let e = ap total (extras-miss (a .stage) (a .marks .now) (a .extras .now) (l .i) (omega arith) (omega arith) (c .if1 .left)) in
-    (omega arith, filling-none (l .inv .1) (rest-miss (a .stage) (a .marks .now) (a .first .now) (a .second .now) (l .i) (omega arith) (omega arith) (omega arith) (c .if1 .left)) (omega arith) (omega arith), omega arith, omega arith)
+    let e = ap total (extras-miss (a .stage) (a .priorities .now) (a .extras .now) (l .i) (omega arith) (omega arith) (c .if1 .left)) in
+    (omega arith, filling-none (l .inv .1) (rest-miss (a .stage) (a .priorities .now) (a .first .now) (a .second .now) (l .i) (omega arith) (omega arith) (omega arith) (c .if1 .left)) (omega arith) (omega arith), omega arith, omega arith)
 
 same-length : tie.Need-same-length Inv-loop μ-loop
 same-length c = let s = c .before .loop .inv .1 .before .same in omega arith
@@ -114,8 +114,8 @@ returns c = let a = c .before .before .args in
     let l = c .before .loop in
     let s = l .inv .1 .before .same in
     let u = l .inv .1 .after .same in
-    let e = ap total (extras-end (a .stage) (a .marks .now) (a .extras .now) (l .i) (omega arith)) in
-    ((omega arith, omega arith), filling-end (l .inv .1) (omega arith) (omega arith) (rest-end (a .stage) (a .marks .now) (a .first .now) (a .second .now) (l .i) (omega arith)))
+    let e = ap total (extras-end (a .stage) (a .priorities .now) (a .extras .now) (l .i) (omega arith)) in
+    ((omega arith, omega arith), filling-end (l .inv .1) (omega arith) (omega arith) (rest-end (a .stage) (a .priorities .now) (a .first .now) (a .second .now) (l .i) (omega arith)))
 
 pub give-all-spec : {M : Type 1} → statement M
 give-all-spec =

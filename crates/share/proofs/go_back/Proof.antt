@@ -11,19 +11,19 @@ use Rattle.share.proofs.go_back.Statement.{statement}
 use Rattle.share.proofs.go_back.Tie as tie
 
 abbrev Inv-loop : tie.InvT-loop
-Inv-loop left totals marks first second before₀ after₀ stage₀ before after stage = (stage ≤ stageCount) × Backing marks first second left before₀ after₀ stage before after
+Inv-loop left totals priorities first second before₀ after₀ stage₀ before after stage = (stage ≤ stageCount) × Backing priorities first second left before₀ after₀ stage before after
 
 abbrev μ-loop : tie.MeasureT-loop
-μ-loop left totals marks first second before₀ after₀ stage₀ before after stage = stageCount - stage
+μ-loop left totals priorities first second before₀ after₀ stage₀ before after stage = stageCount - stage
 
 returns : tie.Need-returns Inv-loop μ-loop
 returns c = let a = c .before .before .before .before .before .before .args in
     let p = c .before .before .before .before .before .before .pre in
-    back-none (a .marks .now) (a .first .now) (a .second .now) (a .before .now) (a .after .now) (p .0 .0) (p .0 .1) (c .if1 .taken)
+    back-none (a .priorities .now) (a .first .now) (a .second .now) (a .before .now) (a .after .now) (p .0 .0) (p .0 .1) (c .if1 .taken)
 
 loop-holds : tie.Need-loop-holds Inv-loop μ-loop
 loop-holds c = let a = c .before .before .before .before .before .before .args in
-    (omega arith, backing-start (a .marks .now) (a .first .now) (a .second .now) (a .left) (a .before .now) (a .after .now))
+    (omega arith, backing-start (a .priorities .now) (a .first .now) (a .second .now) (a .left) (a .before .now) (a .after .now))
 
 total-of-requires : tie.Need-total-of-requires Inv-loop μ-loop
 total-of-requires c κs = omega arith

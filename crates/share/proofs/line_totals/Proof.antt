@@ -7,13 +7,13 @@ use Rattle.share.proofs.line_totals.Statement.{statement}
 use Rattle.share.proofs.line_totals.Tie as tie
 
 abbrev Inv-loop : tie.InvT-loop
-Inv-loop marks first second sums₀ i₀ sums i = (i ≤ length marks) × Sums marks first second i sums
+Inv-loop priorities first second sums₀ i₀ sums i = (i ≤ length priorities) × Sums priorities first second i sums
 
 abbrev μ-loop : tie.MeasureT-loop
-μ-loop marks first second sums₀ i₀ sums i = length marks - i
+μ-loop priorities first second sums₀ i₀ sums i = length priorities - i
 
 loop-holds : tie.Need-loop-holds Inv-loop μ-loop
-loop-holds c = let a = c .args in (omega arith, sums-start (a .marks .now) (a .first .now) (a .second .now))
+loop-holds c = let a = c .args in (omega arith, sums-start (a .priorities .now) (a .first .now) (a .second .now))
 
 shared-slice-read-stage : tie.Need-shared-slice-read-stage Inv-loop μ-loop
 shared-slice-read-stage c = omega arith
@@ -47,7 +47,7 @@ array-read-sums c = omega (arith, c .before .before .before .before .before .loo
 add-sums-2 : tie.Need-add-sums-2 Inv-loop μ-loop
 add-sums-2 c = let l = c .before .before .before .before .before .loop in
     let p = c .before .before .before .before .before .before .pre .0 in
-    omega (arith, p .low-first (l .i), p .low-second (l .i), l .inv .1 .at (getD (c .before .before .before .before .before .before .args .marks .now) (l .i) 0) (omega (arith, c .before .before .if1 .taken)) .low)
+    omega (arith, p .low-first (l .i), p .low-second (l .i), l .inv .1 .at (getD (c .before .before .before .before .before .before .args .priorities .now) (l .i) 0) (omega (arith, c .before .before .if1 .taken)) .low)
 
 array-write-sums : tie.Need-array-write-sums Inv-loop μ-loop
 array-write-sums c = omega (arith, c .before .before .before .before .before .loop .inv .1 .each, c .before .before .if1 .taken)
@@ -62,7 +62,7 @@ loop-again : tie.Need-loop-again Inv-loop μ-loop
 loop-again c = let a = c .before .before .before .before .before .before .args in
     let p = c .before .before .before .before .before .before .pre .0 in
     let l = c .before .before .before .before .before .loop in
-    (omega arith, sums-on (a .marks .now) (a .first .now) (a .second .now) (l .inv .1) (omega arith) (omega arith) (omega arith) (omega (arith, c .before .before .if1 .taken)) (p .low-first (l .i)) (p .low-second (l .i)))
+    (omega arith, sums-on (a .priorities .now) (a .first .now) (a .second .now) (l .inv .1) (omega arith) (omega arith) (omega arith) (omega (arith, c .before .before .if1 .taken)) (p .low-first (l .i)) (p .low-second (l .i)))
 
 add-i-2 : tie.Need-add-i-2 Inv-loop μ-loop
 add-i-2 c = omega arith
@@ -73,11 +73,11 @@ loop-less-2 c = omega arith
 loop-again-2 : tie.Need-loop-again-2 Inv-loop μ-loop
 loop-again-2 c = let a = c .before .before .before .before .args in
     let l = c .before .before .before .loop in
-    (omega arith, sums-past (a .marks .now) (a .first .now) (a .second .now) (l .inv .1) (omega arith) (omega arith) (omega arith) (omega (arith, c .if1 .left)))
+    (omega arith, sums-past (a .priorities .now) (a .first .now) (a .second .now) (l .inv .1) (omega arith) (omega arith) (omega arith) (omega (arith, c .if1 .left)))
 
 returns : tie.Need-returns Inv-loop μ-loop
 returns c = let a = c .before .before .args in
-    sums-end (a .marks .now) (a .first .now) (a .second .now) (c .before .loop .inv .1) (omega arith)
+    sums-end (a .priorities .now) (a .first .now) (a .second .now) (c .before .loop .inv .1) (omega arith)
 
 pub line-totals-spec : {M : Type 1} → statement M
 line-totals-spec =

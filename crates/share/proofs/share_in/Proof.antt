@@ -12,7 +12,7 @@ use Rattle.share.proofs.share_in.Tie as tie
 
 share-sizes-requires : tie.Need-share-sizes-requires
 share-sizes-requires c κs = let p = c .before .before .before .before .before .before .before .before .pre in
-    let n = length (c .before .before .before .before .before .before .before .before .args .marks .now) in
+    let n = length (c .before .before .before .before .before .before .before .before .args .priorities .now) in
     let xl = ap length (p .1 .0 .0) ∙ length-replicate n 0 in
     let yl = ap length (p .1 .0 .1) ∙ length-replicate n 0 in
     let xt = ap total (p .1 .0 .0) ∙ total-zeros n in
@@ -22,9 +22,9 @@ share-sizes-requires c κs = let p = c .before .before .before .before .before .
 copy-signed-requires : tie.Need-copy-signed-requires
 copy-signed-requires c κs = let a = c .before .before .before .before .before .before .before .before .before .before .before .before .before .before .before .args in
     let p = c .before .before .before .before .before .before .before .before .before .before .before .before .before .before .before .pre in
-    let n = length (a .marks .now) in
+    let n = length (a .priorities .now) in
     let z = from-zeros (p .0 .0) (a .gap) (p .1 .0 .0) (p .1 .0 .1) (c .before .before .before .before .before .before .share-sizes .ensures .1) in
-    let s = sides-small (a .marks .now) (a .extras .now) (a .first .now) (a .second .now) (a .gap) in
+    let s = sides-small (a .priorities .now) (a .extras .now) (a .first .now) (a .second .now) (a .gap) in
     let k = c .before .before .before .before .before .before .share-sizes .kept in
     let xl = ap length (p .1 .0 .0) ∙ length-replicate n 0 in
     let t = ap total (z .0) in
@@ -33,9 +33,9 @@ copy-signed-requires c κs = let a = c .before .before .before .before .before .
 copy-signed-requires-2 : tie.Need-copy-signed-requires-2
 copy-signed-requires-2 c κs = let a = c .before .before .before .before .before .before .before .before .before .before .before .before .before .before .before .before .before .before .before .args in
     let p = c .before .before .before .before .before .before .before .before .before .before .before .before .before .before .before .before .before .before .before .pre in
-    let n = length (a .marks .now) in
+    let n = length (a .priorities .now) in
     let z = from-zeros (p .0 .0) (a .gap) (p .1 .0 .0) (p .1 .0 .1) (c .before .before .before .before .before .before .before .before .before .before .share-sizes .ensures .1) in
-    let s = sides-small (a .marks .now) (a .extras .now) (a .first .now) (a .second .now) (a .gap) in
+    let s = sides-small (a .priorities .now) (a .extras .now) (a .first .now) (a .second .now) (a .gap) in
     let k = c .before .before .before .before .before .before .before .before .before .before .share-sizes .kept in
     let yl = ap length (p .1 .0 .1) ∙ length-replicate n 0 in
     let t = ap total (z .1) in

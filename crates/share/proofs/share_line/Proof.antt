@@ -15,19 +15,19 @@ array-borrow-prefix-befores : tie.Need-array-borrow-prefix-befores
 array-borrow-prefix-befores c = search needs
 
 slice-aggregate-share-in : tie.Need-slice-aggregate-share-in
-slice-aggregate-share-in c = zeros-length 128 (length (c .before .before .before .before .before .before .args .marks .now)) (c .before .if1 .taken)
+slice-aggregate-share-in c = zeros-length 128 (length (c .before .before .before .before .before .before .args .priorities .now)) (c .before .if1 .taken)
 
 array-borrow-prefix-afters : tie.Need-array-borrow-prefix-afters
 array-borrow-prefix-afters c = search needs
 
 slice-aggregate-share-in-2 : tie.Need-slice-aggregate-share-in-2
-slice-aggregate-share-in-2 c = zeros-length 128 (length (c .before .before .before .before .before .before .before .args .marks .now)) (c .before .before .if1 .taken)
+slice-aggregate-share-in-2 c = zeros-length 128 (length (c .before .before .before .before .before .before .before .args .priorities .now)) (c .before .before .if1 .taken)
 
 share-in-requires : tie.Need-share-in-requires
 share-in-requires c κs =
     let a = c .before .before .before .before .before .before .before .before .before .args in
     let p = c .before .before .before .before .before .before .before .before .before .pre in
-    let z = zeros-take 128 (length (a .marks .now)) (c .before .before .before .before .if1 .taken) in (
+    let z = zeros-take 128 (length (a .priorities .now)) (c .before .before .before .before .if1 .taken) in (
       (p .0, p .1 .1 .0, fit (p .1 .1 .1) (sym (fits-is (lent-parts (p .0)) (a .extras .now) (p .0 .extras)) ∙ p .1 .1 .2)),
       ((z, z), p .1 .0),
     )
@@ -50,19 +50,19 @@ array-borrow-prefix-befores-2 : tie.Need-array-borrow-prefix-befores-2
 array-borrow-prefix-befores-2 c = search needs
 
 slice-aggregate-share-in-3 : tie.Need-slice-aggregate-share-in-3
-slice-aggregate-share-in-3 c = zeros-length 1024 (length (c .before .before .before .before .before .before .args .marks .now)) (c .before .before .before .before .before .before .pre .0 .short)
+slice-aggregate-share-in-3 c = zeros-length 1024 (length (c .before .before .before .before .before .before .args .priorities .now)) (c .before .before .before .before .before .before .pre .0 .short)
 
 array-borrow-prefix-afters-2 : tie.Need-array-borrow-prefix-afters-2
 array-borrow-prefix-afters-2 c = search needs
 
 slice-aggregate-share-in-4 : tie.Need-slice-aggregate-share-in-4
-slice-aggregate-share-in-4 c = zeros-length 1024 (length (c .before .before .before .before .before .before .before .args .marks .now)) (c .before .before .before .before .before .before .before .pre .0 .short)
+slice-aggregate-share-in-4 c = zeros-length 1024 (length (c .before .before .before .before .before .before .before .args .priorities .now)) (c .before .before .before .before .before .before .before .pre .0 .short)
 
 share-in-requires-2 : tie.Need-share-in-requires-2
 share-in-requires-2 c κs =
     let a = c .before .before .before .before .before .before .before .before .before .args in
     let p = c .before .before .before .before .before .before .before .before .before .pre in
-    let z = zeros-take 1024 (length (a .marks .now)) (c .before .before .before .before .before .before .before .before .before .pre .0 .short) in (
+    let z = zeros-take 1024 (length (a .priorities .now)) (c .before .before .before .before .before .before .before .before .before .pre .0 .short) in (
       (p .0, p .1 .1 .0, fit (p .1 .1 .1) (sym (fits-is (lent-parts (p .0)) (a .extras .now) (p .0 .extras)) ∙ p .1 .1 .2)),
       ((z, z), p .1 .0),
     )

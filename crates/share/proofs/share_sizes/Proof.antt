@@ -15,7 +15,7 @@ go-back-requires c κs = let a = c .before .before .before .before .before .befo
     let e = c .before .before .before .before .before .before .share-stages .ensures in
     let k = c .before .before .before .before .before .before .share-stages .kept in
     let d = p .0 .1 in
-    ((lent-parts (p .0 .0), record { before = omega arith; after = omega arith }), (staged-holds (a .marks .now) (a .extras .now) (a .first .now) (a .second .now) (a .gap) (a .before .now) (a .after .now) (e .0) (e .1) (p .1 .0), p .1 .1))
+    ((lent-parts (p .0 .0), record { before = omega arith; after = omega arith }), (staged-holds (a .priorities .now) (a .extras .now) (a .first .now) (a .second .now) (a .gap) (a .before .now) (a .after .now) (e .0) (e .1) (p .1 .0), p .1 .1))
 
 same-length : tie.Need-same-length
 same-length c = search needs
@@ -27,7 +27,7 @@ returns : tie.Need-returns
 returns c = let a = c .before .before .before .before .before .before .before .before .before .before .before .before .before .before .before .before .before .before .before .before .args in
     let e = c .before .before .before .before .before .before .before .before .before .before .before .share-stages .ensures in
     let b = c .before .before .before .before .go-back .ensures in
-    whole (a .marks .now) (a .extras .now) (a .first .now) (a .second .now) (a .gap) (e .0) (e .1) (b .0) (b .1)
+    whole (a .priorities .now) (a .extras .now) (a .first .now) (a .second .now) (a .gap) (e .0) (e .1) (b .0) (b .1)
 
 pub share-sizes-spec : {M : Type 1} → statement M
 share-sizes-spec =

@@ -23,7 +23,7 @@ same-length-2 c = search needs
 
 returns-2 : tie.Need-returns-2
 returns-2 c = let a = c .before .before .before .before .before .before .before .before .before .before .before .before .before .before .before .args in
-    stage-within (a .left) (factorsAt (a .stage) (a .marks .now) (a .first .now) (a .second .now)) (extrasAt (a .stage) (a .marks .now) (a .extras .now)) (c .before .before .before .before .before .before .before .before .before .before .before .before .before .before .before .pre .1 .1) (c .before .before .before .before .before .before .before .if2 .taken) (c .before .before .before .before .give .ensures)
+    stage-within (a .left) (factorsAt (a .stage) (a .priorities .now) (a .first .now) (a .second .now)) (extrasAt (a .stage) (a .priorities .now) (a .extras .now)) (c .before .before .before .before .before .before .before .before .before .before .before .before .before .before .before .pre .1 .1) (c .before .before .before .before .before .before .before .if2 .taken) (c .before .before .before .before .give .ensures)
 
 give-all-requires : tie.Need-give-all-requires
 give-all-requires c κs = search needs
@@ -33,7 +33,7 @@ sub-share-extra c = search needs
 
 share-extra-requires : tie.Need-share-extra-requires
 share-extra-requires c κs = let a = c .before .before .before .before .before .before .before .before .before .before .before .before .before .before .before .before .args in
-    let m = moved-total {m = factorsAt (a .stage) (a .marks .now) (a .first .now) (a .second .now)} (c .before .before .before .before .before .give-all .ensures .1) in
+    let m = moved-total {m = factorsAt (a .stage) (a .priorities .now) (a .first .now) (a .second .now)} (c .before .before .before .before .before .give-all .ensures .1) in
     search needs
 
 same-length-3 : tie.Need-same-length-3

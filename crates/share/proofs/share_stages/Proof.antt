@@ -9,14 +9,14 @@ use Rattle.share.proofs.share_stages.Statement.{statement}
 use Rattle.share.proofs.share_stages.Tie as tie
 
 abbrev Inv-loop : tie.InvT-loop
-Inv-loop gap totals marks extras first second before₀ after₀ left₀ stage₀ before after left stage = (stage ≤ stageCount) × Staging (length marks) marks extras first second gap before₀ after₀ stage left before after
+Inv-loop gap totals priorities extras first second before₀ after₀ left₀ stage₀ before after left stage = (stage ≤ stageCount) × Staging (length priorities) priorities extras first second gap before₀ after₀ stage left before after
 
 abbrev μ-loop : tie.MeasureT-loop
-μ-loop gap totals marks extras first second before₀ after₀ left₀ stage₀ before after left stage = stageCount - stage
+μ-loop gap totals priorities extras first second before₀ after₀ left₀ stage₀ before after left stage = stageCount - stage
 
 loop-holds : tie.Need-loop-holds Inv-loop μ-loop
 loop-holds c = let a = c .before .before .before .before .before .before .args in
-    (omega arith, staging-start (a .marks .now) (a .extras .now) (a .first .now) (a .second .now) (a .gap) (c .before .before .before .before .before .before .pre .0 .1))
+    (omega arith, staging-start (a .priorities .now) (a .extras .now) (a .first .now) (a .second .now) (a .gap) (c .before .before .before .before .before .before .pre .0 .1))
 
 total-of-requires : tie.Need-total-of-requires Inv-loop μ-loop
 total-of-requires c κs = omega arith

@@ -2,9 +2,9 @@
 use Prim.Native.Nat.{ℕ, _+_, _-_, _*_, _≤_}
 use mathlib.Core.Path.{_≡_, subst}
 use native.Mathlib.Omega.{arith}
-use Rattle.lists.specs.Codes.{itemsAt}
-use Rattle.lists.proofs.DistinctLaws.{index-le}
-use Rattle.lists.proofs.ReadLaws.{items-length}
+use Rattle.encoding.specs.Codes.{itemsAt}
+use Rattle.encoding.proofs.DistinctLaws.{index-le}
+use Rattle.encoding.proofs.ReadLaws.{items-length}
 use Rattle.meaning.specs.Discrete.{Entry-discrete}
 use Rattle.sheet_cells.specs.Cells.{entryAt, OkEntries}
 use Rattle.sheet_cells.proofs.TurnLaws.{index-read, entries-more, entry-far, entry-twice}

@@ -2,8 +2,8 @@
 use Prim.Native.Nat.{ℕ, suc, _+_, _-_, _≤_}
 use mathlib.Core.Path.{_≡_, refl, sym, _∙_, subst}
 use native.Mathlib.Omega.{arith}
-use Rattle.lists.specs.Codes.{itemsAt}
-use Rattle.lists.specs.Distinct.{InOrder}
+use Rattle.encoding.specs.Codes.{itemsAt}
+use Rattle.encoding.specs.Distinct.{InOrder}
 use Rattle.sheet_cells.specs.Cells.{byteAt}
 use Rattle.sheet_cells.proofs.TurnLaws.{number-le, number-new, number-new⁻, number-old, number-old⁻}
 use borrow.Author.Needs.{needs}

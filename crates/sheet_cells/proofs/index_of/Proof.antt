@@ -2,10 +2,10 @@
 use Prim.Native.Nat.{ℕ, suc, _+_, _-_, _*_, _≤_}
 use mathlib.Core.Path.{_≡_, refl, ap}
 use native.Mathlib.Omega.{arith}
-use Rattle.lists.specs.Codes.{itemsAt}
-use Rattle.lists.specs.Distinct.{index}
-use Rattle.section.proofs.SectionLaws.{says-yes, says-no}
-use Rattle.parts.specs.declared.Entry.{Entry}
+use Rattle.encoding.specs.Codes.{itemsAt}
+use Rattle.encoding.specs.Distinct.{index}
+use Rattle.sheet_sections.proofs.SectionLaws.{says-yes, says-no}
+use Rattle.types.specs.declared.Entry.{Entry}
 use Rattle.meaning.specs.Discrete.{Entry-discrete}
 use Rattle.sheet_cells.specs.Cells.{entryAt}
 use Rattle.sheet_cells.proofs.TurnLaws.{index-here, index-next}

@@ -1,7 +1,7 @@
 -- `sheet_cells::is_entry` meets its contract, field by field. Assumes nothing.
 use mathlib.Core.Path.{ap, _∙_}
 use native.Mathlib.Omega.{arith}
-use Rattle.parts.specs.declared.Entry.{Entry}
+use Rattle.types.specs.declared.Entry.{Entry}
 use Rattle.sheet_cells.proofs.TurnLaws.{same-entry}
 use borrow.Author.Needs.{needs}
 use Rattle.sheet_cells.proofs.is_entry.Statement.{statement}

@@ -3,9 +3,9 @@ use Prim.Native.Nat.{ℕ}
 use mathlib.Core.Path.{subst}
 use native.Mathlib.Omega.{arith}
 use Rattle.fields.specs.Field.{Bytes}
-use Rattle.lists.specs.Codes.{counted, Found}
-use Rattle.lists.specs.Sections.{byte}
-use Rattle.section.specs.Section.{Parses}
+use Rattle.encoding.specs.Codes.{counted, Found}
+use Rattle.encoding.specs.Sections.{byte}
+use Rattle.sheet_sections.specs.Section.{Parses}
 use Rattle.meaning.specs.Sheet.{entryCode}
 use Rattle.sheet_cells.specs.Cells.{OkEntries, OkNumbers}
 use Rattle.sheet_cells.proofs.CellLaws.{cells-none, cells-parse}

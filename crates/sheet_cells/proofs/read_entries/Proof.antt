@@ -3,9 +3,9 @@ use Prim.Native.Nat.{ℕ, _+_, _*_}
 use mathlib.Core.Path.{_≡_, sym, subst}
 use native.Mathlib.Omega.{arith}
 use Rattle.fields.specs.Field.{u32At, Bytes}
-use Rattle.lists.specs.Codes.{counted, Found, itemsAt}
-use Rattle.section.specs.Section.{Room}
-use Rattle.section.proofs.SectionLaws.{failed, passed}
+use Rattle.encoding.specs.Codes.{counted, Found, itemsAt}
+use Rattle.sheet_sections.specs.Section.{Room}
+use Rattle.sheet_sections.proofs.SectionLaws.{failed, passed}
 use Rattle.meaning.specs.Sheet.{entryCode}
 use Rattle.sheet_cells.specs.Cells.{entryAt, OkEntries}
 use Rattle.sheet_cells.proofs.CellLaws.{entries-outside, entries-many, entries-good, entries-bad}

@@ -3,10 +3,10 @@ use mathlib.Core.Path.{_≡_, _∙_}
 use Prim.Native.Nat.{_+_}
 use native.Mathlib.Omega.{arith}
 use Rattle.fields.specs.Field.{u32At, Bytes}
-use Rattle.lists.specs.Codes.{itemsAt}
-use Rattle.lists.specs.Distinct.{InOrder}
-use Rattle.section.specs.Section.{Room}
-use Rattle.section.proofs.SectionLaws.{failed, passed}
+use Rattle.encoding.specs.Codes.{itemsAt}
+use Rattle.encoding.specs.Distinct.{InOrder}
+use Rattle.sheet_sections.specs.Section.{Room}
+use Rattle.sheet_sections.proofs.SectionLaws.{failed, passed}
 use Rattle.sheet_cells.specs.Cells.{byteAt}
 use Rattle.sheet_cells.proofs.CellLaws.{numbers-outside, numbers-other, numbers-wrong, numbers-good}
 use borrow.Author.Needs.{needs}

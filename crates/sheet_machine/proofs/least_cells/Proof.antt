@@ -4,7 +4,7 @@ use mathlib.Core.Path.{_≡_, sym, subst}
 use native.Mathlib.Omega.{arith}
 use lib.ListN.{drop}
 use Rattle.fields.specs.Field.{u32At, Bytes}
-use Rattle.lists.specs.Tests.{Says}
+use Rattle.encoding.specs.Tests.{Says}
 use Rattle.sheet_machine.specs.Machine.{LeastBy, rowAt, Readable}
 use Rattle.sheet_machine.proofs.StandLaws.{cells-room, cells-readable, least-says}
 use borrow.Author.Needs.{needs}

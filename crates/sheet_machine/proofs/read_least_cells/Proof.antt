@@ -3,9 +3,9 @@ use Prim.Native.Nat.{_*_}
 use mathlib.Core.Bool.{Bool}
 use mathlib.Core.Path.{subst}
 use native.Mathlib.Omega.{arith}
-use Rattle.lists.specs.Codes.{Found}
-use Rattle.lists.specs.Sections.{numbered}
-use Rattle.section.specs.Section.{Parses}
+use Rattle.encoding.specs.Codes.{Found}
+use Rattle.encoding.specs.Sections.{numbered}
+use Rattle.sheet_sections.specs.Section.{Parses}
 use Rattle.meaning.specs.Discrete.{Entry-discrete}
 use Rattle.meaning.specs.Sheet.{entryCode}
 use Rattle.sheet_cells.specs.Cells.{OkCells}

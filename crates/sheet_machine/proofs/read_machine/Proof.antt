@@ -3,7 +3,7 @@ use Prim.Native.Nat.{ℕ, _+_}
 use mathlib.Core.Path.{sym, subst}
 use native.Mathlib.Omega.{arith}
 use Rattle.fields.specs.Field.{u32At, Bytes}
-use Rattle.section.proofs.SectionLaws.{says-yes, says-no, failed, passed}
+use Rattle.sheet_sections.proofs.SectionLaws.{says-yes, says-no, failed, passed}
 use Rattle.sheet_machine.specs.Machine.{Sizes, NoMachine, OneMachine}
 use Rattle.sheet_machine.proofs.MachineLaws.{machine-none, machine-absent, machine-parse}
 use borrow.Author.Needs.{needs}

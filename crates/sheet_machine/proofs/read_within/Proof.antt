@@ -1,9 +1,9 @@
 -- `sheet_machine::read_within` meets its contract: the cells read after the classes. Assumes nothing.
 use mathlib.Core.Path.{subst}
-use Rattle.lists.specs.Codes.{Found}
-use Rattle.lists.specs.Sections.{runSection}
-use Rattle.section.specs.RunSection.{Below}
-use Rattle.section.specs.Section.{Parses}
+use Rattle.encoding.specs.Codes.{Found}
+use Rattle.encoding.specs.Sections.{runSection}
+use Rattle.sheet_sections.specs.RunSection.{Below}
+use Rattle.sheet_sections.specs.Section.{Parses}
 use Rattle.sheet_machine.proofs.MachineLaws.{within-none, within-parse}
 use borrow.Author.Needs.{needs}
 use Rattle.sheet_machine.proofs.read_within.Statement.{statement}
@@ -12,8 +12,8 @@ use Rattle.sheet_machine.proofs.read_within.Tie as tie
 read-runs-requires : tie.Need-read-runs-requires
 read-runs-requires c κs = search needs
 
-enum-known-kinds : tie.Need-enum-known-kinds
-enum-known-kinds c = search needs
+enum-known-columns : tie.Need-enum-known-columns
+enum-known-columns c = search needs
 
 read-least-cells-requires : tie.Need-read-least-cells-requires
 read-least-cells-requires c κs = search needs
@@ -26,9 +26,9 @@ returns c =
     let a = c .before .before .before .before .before .before .args in
     let s = a .bytes .now in
     let p = c .before .before .before .before .before .before .pre in
-    let q = c .before .before .kinds .given .0 .0 in
+    let q = c .before .before .columns .given .0 .0 in
     let f : Found (runSection 1) (Below (a .glyphs) (a .classes)) s (a .at) q =
-    subst (Parses (runSection 1) (Below (a .glyphs) (a .classes)) s (a .at)) (c .before .before .kinds .given .1) (c .before .before .before .before .read-runs .ensures) in
+    subst (Parses (runSection 1) (Below (a .glyphs) (a .classes)) s (a .at)) (c .before .before .columns .given .1) (c .before .before .before .before .read-runs .ensures) in
     within-parse (a .glyphs) (a .rows) (a .classes) (p .0) (p .1 .few-classes) s (a .at) q f (c .read-least-cells .result) (c .read-least-cells .ensures)
 
 returns-2 : tie.Need-returns-2
@@ -44,7 +44,7 @@ read-within-spec =
     tie.close
     (tie.spec
     read-runs-requires
-    enum-known-kinds
+    enum-known-columns
     read-least-cells-requires
     enum-told
     returns

@@ -1,9 +1,9 @@
 -- `sheet_pools::read_item` meets its contract. Each sort has its reader. Assumes nothing.
 use mathlib.Core.Path.{sym, subst}
 use borrow.Author.Needs.{needs}
-use Rattle.section.specs.Section.{Parses}
-use Rattle.sorts.specs.declared.Sort.{Sort}
-use Rattle.sorts.specs.Items.{itemCode, SomeItem}
+use Rattle.sheet_sections.specs.Section.{Parses}
+use Rattle.sheet_items.specs.declared.Sort.{Sort}
+use Rattle.sheet_items.specs.Items.{itemCode, SomeItem}
 use Rattle.sheet_pools.proofs.read_item.Statement.{statement}
 use Rattle.sheet_pools.proofs.read_item.Tie as tie
 

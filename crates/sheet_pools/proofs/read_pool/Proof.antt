@@ -2,12 +2,12 @@
 use mathlib.Core.Path.{subst}
 use native.Mathlib.Omega.{arith}
 use Rattle.fields.specs.Field.{Bytes}
-use Rattle.lists.specs.Codes.{counted, Found}
-use Rattle.section.specs.Section.{Parses}
-use Rattle.pool.specs.Pool.{Items}
-use Rattle.pool.proofs.PoolLaws.{no-items, few-items, both-parse}
-use Rattle.sorts.specs.Items.{noItem, item-discrete, itemCode, OkItem, SomeItem}
-use Rattle.sorts.proofs.Laws.{some-free, none-ok, some→, some←}
+use Rattle.encoding.specs.Codes.{counted, Found}
+use Rattle.sheet_sections.specs.Section.{Parses}
+use Rattle.sheet_sections.specs.Pool.{Items}
+use Rattle.sheet_sections.proofs.PoolLaws.{no-items, few-items, both-parse}
+use Rattle.sheet_items.specs.Items.{noItem, item-discrete, itemCode, OkItem, SomeItem}
+use Rattle.sheet_items.proofs.Laws.{some-free, none-ok, some→, some←}
 use borrow.Author.Needs.{needs}
 use Rattle.sheet_pools.proofs.read_pool.Statement.{statement}
 use Rattle.sheet_pools.proofs.read_pool.Tie as tie

@@ -4,7 +4,7 @@ use lib.ListN.{length}
 use lib.Seq.{length-take-le}
 use Rattle.sheet_print.specs.declared.Input.{Input}
 use Rattle.sheet_print.specs.Within.{Within}
-use Rattle.printed.specs.Laws.{printed-part}
+use Rattle.sheet_text.specs.Laws.{printed-part}
 use borrow.Author.Needs.{needs}
 use Rattle.sheet_print.proofs.main.Statement.{statement}
 use Rattle.sheet_print.proofs.main.Tie as tie

@@ -3,7 +3,7 @@ use native.Mathlib.Omega.{arith}
 use mathlib.Core.Path.{sym, subst}
 use Prim.Native.Nat.{ℕ}
 use mathlib.Core.List.{List}
-use Rattle.printed.specs.Stored.{Printed}
+use Rattle.sheet_text.specs.Stored.{Printed}
 use Rattle.sheet_text.proofs.Laws.{text-short, text-long, text-table}
 use borrow.Author.Needs.{needs}
 use Rattle.sheet_text.proofs.print_input.Statement.{statement}

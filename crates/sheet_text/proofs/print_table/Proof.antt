@@ -4,7 +4,7 @@ use Prim.Native.Nat.{ℕ}
 use mathlib.Core.Path.{subst}
 use mathlib.Core.List.{List}
 use lib.ListN.{length-take}
-use Rattle.printed.specs.Stored.{Printed}
+use Rattle.sheet_text.specs.Stored.{Printed}
 use Rattle.sheet_text.proofs.Laws.{wrote-text, wrote-fits, refused-text, text-room}
 use borrow.Author.Needs.{needs}
 use Rattle.sheet_text.proofs.print_table.Statement.{statement}

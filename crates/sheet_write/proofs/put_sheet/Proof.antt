@@ -4,7 +4,7 @@ use mathlib.Core.Path.{_≡_, ap, _∙_}
 use native.Mathlib.Omega.{arith}
 use lib.Seq.{sets}
 use lib.ListN.{length}
-use Rattle.side_write.specs.Side.{sideBytes}
+use Rattle.write_direction.specs.Side.{sideBytes}
 use Rattle.sheet_write.proofs.Laws.{parts-length, parts-stored, put-twice, first-ready, second-ready, glyphs-few}
 use borrow.Author.Needs.{needs}
 use Rattle.sheet_write.proofs.put_sheet.Statement.{statement}

@@ -1,5 +1,5 @@
 -- `table::table_fault` meets its contract.
-use Rattle.values.proofs.Laws.{none-judged}
+use Rattle.lookup_targets.proofs.Laws.{none-judged}
 use borrow.Author.Needs.{needs}
 use Rattle.table.proofs.table_fault.Statement.{statement}
 use Rattle.table.proofs.table_fault.Tie as tie

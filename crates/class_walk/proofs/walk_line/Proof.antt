@@ -1,0 +1,240 @@
+-- `class_walk::walk_line` meets its contract. Assumes nothing.
+use Prim.Native.Nat.{ℕ, _+_, _-_, _*_, _≤_, _<_, _^_}
+use mathlib.Core.Bool.{cond}
+use mathlib.Core.Path.{_≡_, refl, sym, ap, _∙_}
+use native.Mathlib.Omega.{arith}
+use lib.ListN.{length}
+use borrow.Author.Needs.{needs}
+use Rattle.class_walk.proofs.Line.{fits-of}
+use Rattle.class_walk.proofs.Loop.{Keeps, Entered, entered, keeps-first, keeps-stays, keeps-moves, keeps-stops, keeps-never, count-small, stops-true, stops-false, met-flags, met-base}
+use Rattle.class_walk.proofs.Theory.{column-low}
+use Rattle.types.specs.declared.Entry.{Entry}
+use Rattle.machine.specs.Cells.{cellAt, classCount}
+use Rattle.class_walk.specs.Line.{machineAt, lineOf, rowPlace, Sound, Columns}
+use Rattle.class_walk.specs.Walk.{Machine, Line, Fits, columnAt}
+use Rattle.units.specs.Flags.{stays}
+use Rattle.class_walk.proofs.walk_line.Statement.{statement}
+use Rattle.class_walk.proofs.walk_line.Tie as tie
+
+-- the row at hand is known by where it stands, and the class at the place is at hand
+abbrev Inv-loop : tie.InvT-loop
+Inv-loop table here columns starts ends classes₀ entries base₀ place₀ column₀ mark₀ spent₀ count₀ classes base place column mark spent count =
+    (row : ℕ) × ((base ≡ rowPlace table here row) × (base < 2 ^ 34)) × Keeps (machineAt table here) (lineOf columns starts ends) row place mark spent count classes × (column ≡ columnAt columns ends place)
+
+abbrev μ-loop : tie.MeasureT-loop
+μ-loop table here columns starts ends classes₀ entries base₀ place₀ column₀ mark₀ spent₀ count₀ classes base place column mark spent count =
+    (length columns + 1 - place) * 257 + (256 - spent)
+
+-- ---- a turn of the loop: what it knows of its arguments
+
+abbrev machineOf : tie.In-loop Inv-loop μ-loop → Machine
+machineOf i = let a = i .before .before .before .before .before .before .before .args in machineAt (a .table .now) (a .here)
+
+abbrev lineIn : tie.In-loop Inv-loop μ-loop → Line
+lineIn i = let a = i .before .before .before .before .before .before .before .args in lineOf (a .columns .now) (a .starts) (a .ends)
+
+sound : (i : tie.In-loop Inv-loop μ-loop) → let a = i .before .before .before .before .before .before .before .args in Sound (a .table .now) (a .here)
+sound i = i .before .before .before .before .before .before .before .pre .0
+
+fit : (i : tie.In-loop Inv-loop μ-loop) → let a = i .before .before .before .before .before .before .before .args in Columns (a .table .now) (a .here) (a .columns .now)
+fit i = i .before .before .before .before .before .before .before .pre .1
+
+fitting : (i : tie.In-loop Inv-loop μ-loop) → Fits (machineOf i) (lineIn i)
+fitting i = let a = i .before .before .before .before .before .before .before .args in fits-of (a .starts) (a .ends) (sound i) (fit i)
+
+-- the row at hand
+abbrev row : tie.In-loop Inv-loop μ-loop → ℕ
+row i = i .before .loop .inv .0
+
+kept : (i : tie.In-loop Inv-loop μ-loop) → let l = i .before .loop in Keeps (machineOf i) (lineIn i) (row i) (l .place) (l .mark) (l .spent) (l .count) (l .classes)
+kept i = i .before .loop .inv .2
+
+few-entries : (i : tie.In-loop Inv-loop μ-loop) → i .before .loop .count ≤ 262400
+few-entries i =
+    let l = i .before .loop in
+    count-small (machineOf i) (lineIn i) (row i) (l .place) (l .mark) (l .spent) (l .count) (l .classes) (kept i) (fit i .short)
+
+-- ---- the entry that a turn meets
+
+abbrev in1 : tie.After-entry-by Inv-loop μ-loop → tie.In-loop Inv-loop μ-loop
+in1 c = c .before
+
+abbrev entryOf : tie.After-entry-by Inv-loop μ-loop → Entry
+entryOf c = let a = in1 c .before .before .before .before .before .before .before .args in cellAt (a .table .now) (a .here) (row (in1 c)) (in1 c .before .loop .column)
+
+column-fits : (i : tie.In-loop Inv-loop μ-loop) → let a = i .before .before .before .before .before .before .before .args in i .before .loop .column < classCount (a .table .now) (a .here)
+column-fits i = rw (i .before .loop .inv .3) (column-low (fitting i) (i .before .loop .place))
+
+flags-are : (c : tie.After-entry-by Inv-loop μ-loop) → c .entry-by .result .flags ≡ entryOf c .flags
+flags-are c =
+    let i = in1 c in
+    let a = i .before .before .before .before .before .before .before .args in
+    met-flags (a .table .now) (a .here) (row i) (i .before .loop .column) (i .before .before .before .before .u16-at .result) (i .before .before .before .before .u16-at .ensures .0) (i .before .loop .base) (i .before .loop .inv .1 .0)
+    (c .entry-by .result .flags) (c .entry-by .ensures .1)
+
+base-is : (c : tie.After-entry-by Inv-loop μ-loop) → let a = in1 c .before .before .before .before .before .before .before .args in c .entry-by .result .base ≡ rowPlace (a .table .now) (a .here) (entryOf c .row)
+base-is c =
+    let i = in1 c in
+    let a = i .before .before .before .before .before .before .before .args in
+    met-base (a .table .now) (a .here) (row i) (i .before .loop .column) (i .before .before .before .before .u16-at .result) (i .before .before .before .before .u16-at .ensures .0) (i .before .loop .base) (i .before .loop .inv .1 .0)
+    (sound i) (c .entry-by .result .base) (c .entry-by .ensures .0 .0) (kept i .stands .row-low) (column-fits i)
+
+-- the turn's entry, seen from its last call
+abbrev met : tie.After-stops Inv-loop μ-loop → tie.After-entry-by Inv-loop μ-loop
+met c = c .before .before .before .before .before
+
+-- the entry, as the calls leave it
+after-calls : (c : tie.After-stops Inv-loop μ-loop) →
+    let i = in1 (met c) in
+    let l = i .before .loop in
+    Entered (machineOf i) (lineIn i) (row i) (l .place) (l .mark) (l .classes)
+    (entryOf (met c)) (c .before .before .before .mark-after .result) (c .before .give-classes .last .0)
+after-calls c =
+    let i = in1 (met c) in
+    let l = i .before .loop in
+    entered (machineOf i) (lineIn i) (row i) (l .place) (l .mark) (l .classes)
+    (l .column) (c .before .before .before .before .glyph-at .result) (c .before .before .before .mark-after .result)
+    (entryOf (met c)) (met c .entry-by .result .flags) (c .before .give-classes .last .0)
+    (l .inv .3) refl (flags-are (met c))
+    (c .before .before .before .before .glyph-at .ensures) (c .before .before .before .mark-after .ensures) (c .before .give-classes .ensures)
+
+-- ---- what is asked
+
+add-u16-at : tie.Need-add-u16-at Inv-loop μ-loop
+add-u16-at c = omega (arith, c .before .before .pre .0 .near)
+
+u16-at-requires : tie.Need-u16-at-requires Inv-loop μ-loop
+u16-at-requires c κs = search needs
+
+add-entries : tie.Need-add-entries Inv-loop μ-loop
+add-entries c = omega (arith, c .before .before .before .pre .0 .near, c .u16-at .ensures .1)
+
+first-base-requires : tie.Need-first-base-requires Inv-loop μ-loop
+first-base-requires c κs = c .before .before .before .pre .0 .near
+
+column-at-requires : tie.Need-column-at-requires Inv-loop μ-loop
+column-at-requires c κs = search needs
+
+loop-holds : tie.Need-loop-holds Inv-loop μ-loop
+loop-holds c =
+    let a = c .before .before .before .before .before .args in
+    let p = c .before .before .before .before .before .pre in (
+      cond (a .starts) 0 1,
+      c .before .first-base .ensures,
+      keeps-first (machineAt (a .table .now) (a .here)) (lineOf (a .columns .now) (a .starts) (a .ends)) (fits-of (a .starts) (a .ends) (p .0) (p .1)) 1024 (cond (a .starts) 0 1) refl (p .1 .short)
+          refl,
+      c .column-at .ensures,
+    )
+
+add-entry-by : tie.Need-add-entry-by Inv-loop μ-loop
+add-entry-by c = omega (arith, c .before .loop .inv .1 .1, column-fits c, sound c .classes-high)
+
+entry-by-requires : tie.Need-entry-by-requires Inv-loop μ-loop
+entry-by-requires c κs = (sound c .near, omega (arith, sound c .near, c .before .before .before .before .u16-at .ensures .1))
+
+glyph-at-requires : tie.Need-glyph-at-requires Inv-loop μ-loop
+glyph-at-requires c κs = fit (in1 c) .short
+
+mark-after-requires : tie.Need-mark-after-requires Inv-loop μ-loop
+mark-after-requires c κs = search needs
+
+give-classes-requires : tie.Need-give-classes-requires Inv-loop μ-loop
+give-classes-requires c κs = search needs
+
+add-taken : tie.Need-add-taken Inv-loop μ-loop
+add-taken c = omega (arith, few-entries (c .before .before .before .before .before))
+
+stops-requires : tie.Need-stops-requires Inv-loop μ-loop
+stops-requires c κs = search needs
+
+returns : tie.Need-returns Inv-loop μ-loop
+returns c =
+    let d = c .before in
+    let i = in1 (met d) in
+    let l = i .before .loop in
+    let w = stops-true (stays (met d .entry-by .result .flags)) (length (i .before .before .before .before .before .before .before .args .columns .now)) (l .place) (sym (d .stops .ensures) ∙ c .if1 .taken) in
+    keeps-stops (machineOf i) (lineIn i) (fitting i) (row i) (l .place) (l .mark) (l .spent) (l .count) (l .classes)
+    (entryOf (met d)) (d .before .before .before .mark-after .result) (d .before .give-classes .last .0) (kept i) (omega (arith, i .loop-test .taken)) (after-calls d) (rw (flags-are (met d)) at (w .0)) (w .1)
+
+stays-put-requires : tie.Need-stays-put-requires Inv-loop μ-loop
+stays-put-requires c κs = search needs
+
+add-spent : tie.Need-add-spent Inv-loop μ-loop
+add-spent c = omega arith
+
+loop-less : tie.Need-loop-less Inv-loop μ-loop
+loop-less c = omega arith
+
+loop-again : tie.Need-loop-again Inv-loop μ-loop
+loop-again c =
+    let d = c .before .before .before in
+    let i = in1 (met d) in
+    let l = i .before .loop in
+    let s = sym (c .before .stays-put .ensures) ∙ c .if2 .taken in (
+      entryOf (met d) .row,
+      (base-is (met d), met d .entry-by .ensures .0 .1),
+      keeps-stays (machineOf i) (lineIn i) (fitting i) (row i) (l .place) (l .mark) (l .spent) (l .count) (l .classes)
+          (entryOf (met d)) (d .before .before .before .mark-after .result) (d .before .give-classes .last .0) (kept i) (omega (arith, i .loop-test .taken)) (after-calls d) (rw (flags-are (met d)) at s),
+      l .inv .3,
+    )
+
+add-place : tie.Need-add-place Inv-loop μ-loop
+add-place c = omega arith
+
+column-at-requires-2 : tie.Need-column-at-requires-2 Inv-loop μ-loop
+column-at-requires-2 c κs = search needs
+
+loop-less-2 : tie.Need-loop-less-2 Inv-loop μ-loop
+loop-less-2 c = omega arith
+
+loop-again-2 : tie.Need-loop-again-2 Inv-loop μ-loop
+loop-again-2 c =
+    let d = c .before .before .before .before in
+    let i = in1 (met d) in
+    let l = i .before .loop in
+    let s = sym (c .before .before .stays-put .ensures) ∙ c .before .if2 .left in (
+      entryOf (met d) .row,
+      (base-is (met d), met d .entry-by .ensures .0 .1),
+      keeps-moves (machineOf i) (lineIn i) (fitting i) (row i) (l .place) (l .mark) (l .spent) (l .count) (l .classes)
+          (entryOf (met d)) (d .before .before .before .mark-after .result) (d .before .give-classes .last .0) (kept i) (omega (arith, i .loop-test .taken)) (after-calls d) (rw (flags-are (met d)) at s)
+          (stops-false (stays (met d .entry-by .result .flags)) (length (i .before .before .before .before .before .before .before .args .columns .now)) (l .place) (sym (d .stops .ensures) ∙ c .before .before .before .if1 .left) s),
+      c .column-at2 .ensures,
+    )
+
+returns-2 : tie.Need-returns-2 Inv-loop μ-loop
+returns-2 c =
+    let a = c .before .before .before .before .before .before .before .args in
+    let p = c .before .before .before .before .before .before .before .pre in
+    let l = c .before .loop in
+    keeps-never (machineAt (a .table .now) (a .here)) (lineOf (a .columns .now) (a .starts) (a .ends)) (fits-of (a .starts) (a .ends) (p .0) (p .1))
+    (l .inv .0) (l .place) (l .mark) (l .spent) (l .count) (l .classes) 1024 (l .inv .2) (p .0 .rows-high) (omega (arith, c .loop-test .left)) refl
+
+pub walk-line-spec : {M : Type 1} → statement M
+walk-line-spec =
+    tie.close
+    (tie.spec
+    Inv-loop
+    μ-loop
+    add-u16-at
+    u16-at-requires
+    add-entries
+    first-base-requires
+    column-at-requires
+    loop-holds
+    add-entry-by
+    entry-by-requires
+    glyph-at-requires
+    mark-after-requires
+    give-classes-requires
+    add-taken
+    stops-requires
+    returns
+    stays-put-requires
+    add-spent
+    loop-less
+    loop-again
+    add-place
+    column-at-requires-2
+    loop-less-2
+    loop-again-2
+    returns-2)

@@ -1,0 +1,63 @@
+-- `line_call::gap_of` meets its contract.
+use mathlib.Core.Path.{sym, _∙_}
+use Rattle.line_call.proofs.Gaps.{plain, as-read, gap-unsummed, gap-negative, gap-far, gap-shrinks, gap-grows}
+use borrow.Author.Needs.{needs}
+use Rattle.line_call.proofs.gap_of.Statement.{statement}
+use Rattle.line_call.proofs.gap_of.Tie as tie
+
+sum-of-requires : tie.Need-sum-of-requires
+sum-of-requires c κs = search needs
+
+enum-known-sum : tie.Need-enum-known-sum
+enum-known-sum c = search needs
+
+enum-told : tie.Need-enum-told
+enum-told c = search needs
+
+returns : tie.Need-returns
+returns c =
+    let a = c .before .before .before .args in
+    gap-unsummed (a .advances .now) (a .target) (sym (c .before .before .sum-of .ensures) ∙ c .enum-told .given .1)
+
+returns-2 : tie.Need-returns-2
+returns-2 c =
+    let a = c .before .before .before .before .before .args in
+    gap-negative (a .advances .now) (a .target) (c .before .before .sum .given .0 .0) (sym (c .before .before .before .before .sum-of .ensures) ∙ c .before .before .sum .given .1) (as-read (a .target) (c .before .before .before .before .before .fits .target .sfits)) (c .if1 .taken)
+
+cast-aim : tie.Need-cast-aim
+cast-aim c =
+    let p = plain (c .before .before .before .before .before .args .target) (c .before .before .before .before .before .fits .target .sfits) (c .if1 .left) in
+    (p .sign, p .fits)
+
+returns-3 : tie.Need-returns-3
+returns-3 c =
+    let a = c .before .before .before .before .before .before .args in
+    gap-far (a .advances .now) (a .target) (c .before .before .before .sum .given .0 .0) (sym (c .before .before .before .before .before .sum-of .ensures) ∙ c .before .before .before .sum .given .1) (as-read (a .target) (c .before .before .before .before .before .before .fits .target .sfits)) (c .before .if1 .left) (c .if2 .taken)
+
+sub-t7 : tie.Need-sub-t7
+sub-t7 c = search needs
+
+returns-4 : tie.Need-returns-4
+returns-4 c =
+    let a = c .before .before .before .before .before .before .before .args in
+    gap-shrinks (a .advances .now) (a .target) (c .before .before .before .before .sum .given .0 .0) (sym (c .before .before .before .before .before .before .sum-of .ensures) ∙ c .before .before .before .before .sum .given .1) (as-read (a .target) (c .before .before .before .before .before .before .before .fits .target .sfits)) (c .before .before .if1 .left) (c .before .if2 .left) (c .if3 .taken)
+
+returns-5 : tie.Need-returns-5
+returns-5 c =
+    let a = c .before .before .before .before .before .before .before .args in
+    gap-grows (a .advances .now) (a .target) (c .before .before .before .before .sum .given .0 .0) (sym (c .before .before .before .before .before .before .sum-of .ensures) ∙ c .before .before .before .before .sum .given .1) (as-read (a .target) (c .before .before .before .before .before .before .before .fits .target .sfits)) (c .before .before .if1 .left) (c .before .if2 .left) (c .if3 .left)
+
+pub gap-of-spec : {M : Type 1} → statement M
+gap-of-spec =
+    tie.close
+    (tie.spec
+    sum-of-requires
+    enum-known-sum
+    enum-told
+    returns
+    returns-2
+    cast-aim
+    returns-3
+    sub-t7
+    returns-4
+    returns-5)

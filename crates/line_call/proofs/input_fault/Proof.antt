@@ -1,0 +1,56 @@
+-- `line_call::input_fault` meets its contract.
+use Rattle.line_call.specs.Steps.{inputFault}
+use mathlib.Core.Bool.{Bool}
+use mathlib.Core.Path.{ap, _∙_}
+use Rattle.fields.specs.declared.Refusal.the-variants.{UnequalLengths, PointSize}
+use Rattle.fields.specs.Faults.{rule}
+use Rattle.fields.specs.Laws.{then-of}
+use borrow.Author.Needs.{needs}
+use Rattle.line_call.proofs.input_fault.Statement.{statement}
+use Rattle.line_call.proofs.input_fault.Tie as tie
+
+table-fault-requires : tie.Need-table-fault-requires
+table-fault-requires c κs = search needs
+
+equal-lengths-requires : tie.Need-equal-lengths-requires
+equal-lengths-requires c κs = search needs
+
+ruled-requires : tie.Need-ruled-requires
+ruled-requires c κs = search needs
+
+ruled-requires-2 : tie.Need-ruled-requires-2
+ruled-requires-2 c κs = search needs
+
+good-size-requires : tie.Need-good-size-requires
+good-size-requires c κs = search needs
+
+ruled-requires-3 : tie.Need-ruled-requires-3
+ruled-requires-3 c κs = search needs
+
+then-requires : tie.Need-then-requires
+then-requires c κs = search needs
+
+then-requires-2 : tie.Need-then-requires-2
+then-requires-2 c κs = search needs
+
+then-requires-3 : tie.Need-then-requires-3
+then-requires-3 c κs = search needs
+
+returns : tie.Need-returns
+unfolding inputFault
+returns c = then-of (c .then3 .ensures) (c .before .before .before .before .before .before .before .before .table-fault .ensures) (then-of (c .before .then2 .ensures) (c .before .before .before .before .before .before .ruled .ensures ∙ ap (λ (b : Bool). rule b UnequalLengths 0) (c .before .before .before .before .before .before .before .equal-lengths .ensures)) (then-of (c .before .before .then .ensures) (c .before .before .before .before .before .ruled2 .ensures) (c .before .before .before .ruled3 .ensures ∙ ap (λ (b : Bool). rule b PointSize 0) (c .before .before .before .before .good-size .ensures))))
+
+pub input-fault-spec : {M : Type 1} → statement M
+input-fault-spec =
+    tie.close
+    (tie.spec
+    table-fault-requires
+    equal-lengths-requires
+    ruled-requires
+    ruled-requires-2
+    good-size-requires
+    ruled-requires-3
+    then-requires
+    then-requires-2
+    then-requires-3
+    returns)

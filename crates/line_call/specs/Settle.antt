@@ -1,0 +1,49 @@
+-- A line's call from its parameters, and all that it settles before the verdicts are stored (document 01, demand 2): the answer, how many verdicts there are to store,
+-- and what the lent classes and movements hold.
+use Prim.Native.Nat.{ℕ}
+use mathlib.Core.List.{List}
+use lib.IntN.{ℤ}
+use Rattle.types.specs.declared.Verdict.{Verdict}
+use Rattle.line_rule.specs.declared.LineShape.{LineShape}
+use Rattle.line_rule.specs.Line.{Line}
+use Rattle.line_call.specs.declared.LineAnswer.{LineAnswer}
+use Rattle.line_call.specs.declared.LineAnswer.the-variants.{Justified, Refused}
+use Rattle.line_call.specs.declared.Settled.{Settled}
+use Rattle.line_call.specs.Justified.{Lent, Outcome}
+
+-- the line and what is lent, as the call has them
+abbrev pub lineBy : LineShape → List ℕ → List ℤ → Line
+lineBy shape glyphs advances =
+    record {
+      direction = shape .direction;
+      starts = shape .starts;
+      ends = shape .ends;
+      size = shape .size;
+      glyphs = glyphs;
+      advances = advances;
+      target = shape .target;
+    }
+
+abbrev pub lentBy : List ℕ → List ℤ → List ℤ → List Verdict → Lent
+lentBy classes before after verdicts = record { classes = classes; before = before; after = after; verdicts = verdicts }
+
+-- the verdicts of an answer; a refusal has none
+abbrev pub storedIn : LineAnswer → ℕ
+storedIn (Justified remainder entries verdicts) = verdicts
+storedIn (Refused r) = 0
+
+-- what is settled
+pub record Settlement : Type 0 where
+  pub answer : LineAnswer
+  pub stored : ℕ
+  pub classes : List ℕ
+  pub before : List ℤ
+  pub after : List ℤ
+
+-- of an outcome, and as the code has it
+abbrev pub settlementIn : Outcome → Settlement
+settlementIn o =
+    record { answer = o .answer; stored = storedIn (o .answer); classes = o .lent .classes; before = o .lent .before; after = o .lent .after }
+
+abbrev pub settlementIs : Settled → List ℕ → List ℤ → List ℤ → Settlement
+settlementIs r classes before after = record { answer = r .answer; stored = r .stored; classes = classes; before = before; after = after }

@@ -1,0 +1,434 @@
+// One call for a line (document 01, demand 2): its classes, movements, remainder and verdicts, or the refusal.
+// Here: all of it but the storing of the verdicts, whose number `settle` answers beside the call's answer. Nothing
+// lent is written before every refusal is judged.
+ghost use mathlib.Core.Path.{_≡_};
+ghost use mathlib.Core.Bool.{_&&_, _||_};
+ghost use mathlib.Core.List.{List, [], _∷_};
+ghost use Prim.Native.Nat.{_≤_};
+ghost use lib.Dec.{eqb, leb, ltb};
+ghost use lib.ListN.{length};
+ghost use Rattle.fields.specs.declared.Fault.the-variants.{Clear};
+ghost use Rattle.types.specs.declared.Verdict.{Verdict};
+ghost use Rattle.meaning.specs.Ask.{sideOf};
+ghost use Rattle.table.specs.Table.{tableFault};
+ghost use Rattle.table.specs.Means.{meaningOf};
+ghost use Rattle.line_rule.specs.Line.{verdictsFrom};
+ghost use Rattle.line_call.specs.Justified.{allLong, allKnown, justified};
+ghost use Rattle.line_call.specs.Settle.{lineBy, lentBy, settlementIs, settlementIn};
+ghost use Rattle.line_call.specs.Steps.{measuredLine, sumIn, gapIn, inputFault, WorkedOut, Finished, SettledIn, Room};
+use fields::Fault;
+use fields::Refusal;
+use line_moves::Shared;
+use line_rule::LineShape;
+
+// What a line's call answers: the remainder in units, the count of entries that the class walk took, and the count
+// of verdicts; or the refusal alone.
+pub enum LineAnswer {
+    Justified {
+        remainder: i32,
+        entries: u32,
+        verdicts: u32,
+    },
+    Refused(Refusal),
+}
+
+// The answer of a line's call, and how many verdicts are still to be stored: none where it is a refusal.
+pub struct Settled {
+    pub answer: LineAnswer,
+    pub stored: usize,
+}
+
+// The sum of advances, or that they may not be.
+enum Sum {
+    Total(u64),
+    Unfit,
+}
+
+// A line's gap: whether the line shrinks, and the gap's size; or that advances and target may not be.
+enum Gap {
+    Of { shrinks: bool, size: u64 },
+    Unfit,
+}
+
+// What the classes and the movements of a line leave to say: the remainder and the entries taken; or the refusal.
+enum Worked {
+    Done { remainder: i32, entries: u32 },
+    Bad(Refusal),
+}
+
+// The most units that advances may sum to, and the most that a target may be.
+const MOST: u64 = 1073741823;
+
+// The most glyphs of a line.
+const LONGEST: usize = 1024;
+
+// Refusal 9's test.
+fn equal_lengths(
+    glyphs: usize,
+    advances: usize,
+    classes: usize,
+    before: usize,
+    after: usize,
+) -> bool
+    ensures { λ r. ⌜ r ≡ allLong glyphs (advances ∷ classes ∷ before ∷ after ∷ []) ⌝ }
+{
+    if advances != glyphs {
+        return false;
+    }
+    if classes != glyphs {
+        return false;
+    }
+    if before != glyphs {
+        return false;
+    }
+    after == glyphs
+}
+
+// Refusal 11's test.
+fn good_size(size: u32) -> bool
+    ensures { λ r. ⌜ r ≡ (leb 1 size && leb size 67108864) ⌝ }
+{
+    if size < 1 {
+        return false;
+    }
+    size <= 67108864
+}
+
+// The table's refusals, then 9 to 11.
+fn input_fault(
+    table: &[u8],
+    count: u32,
+    shape: LineShape,
+    glyphs: &[u16],
+    advances: &[i32],
+    classes: usize,
+    before: usize,
+    after: usize,
+) -> Fault
+    ensures { λ r. ⌜
+        r ≡ inputFault (now (table .entry)) count (lineBy shape (now (glyphs .entry)) (now (advances .entry)))
+        (classes ∷ before ∷ after ∷ [])
+        ⌝ }
+{
+    let n = glyphs.len();
+    let table_is = table::table_fault(table, count);
+    let equal = equal_lengths(n, advances.len(), classes, before, after);
+    let lengths = fields::ruled(equal, Refusal::UnequalLengths, 0);
+    let short = fields::ruled(n <= LONGEST, Refusal::LongLine, 0);
+    let sized = fields::ruled(good_size(shape.size), Refusal::PointSize, 0);
+    fields::then(table_is, fields::then(lengths, fields::then(short, sized)))
+}
+
+// The sum of advances of which none is negative, at most the most that it may be.
+fn sum_of(advances: &[i32]) -> Sum
+    ensures { λ r. ⌜ r ≡ sumIn (now (advances .entry)) ⌝ }
+{
+    let mut sum: u64 = 0;
+    let mut i = 0;
+    while i < advances.len() {
+        let advance = advances[i];
+        if advance < 0 {
+            return Sum::Unfit;
+        }
+        sum += advance as u64;
+        if MOST < sum {
+            return Sum::Unfit;
+        }
+        i += 1;
+    }
+    Sum::Total(sum)
+}
+
+// The gap, unless refusal 12 bars the line.
+fn gap_of(advances: &[i32], target: i32) -> Gap
+    ensures { λ r. ⌜ r ≡ gapIn (measuredLine (now (advances .entry)) target) ⌝ }
+{
+    let Sum::Total(sum) = sum_of(advances) else {
+        return Gap::Unfit;
+    };
+    if target < 0 {
+        return Gap::Unfit;
+    }
+    let aim = target as u64;
+    if MOST < aim {
+        return Gap::Unfit;
+    }
+    if aim < sum {
+        return Gap::Of {
+            shrinks: true,
+            size: sum - aim,
+        };
+    }
+    Gap::Of {
+        shrinks: false,
+        size: aim - sum,
+    }
+}
+
+// Whether a glyph is one of the font's, or deleted.
+fn known(count: u32, glyph: u16) -> bool
+    ensures { λ r. ⌜ r ≡ (ltb glyph count || eqb glyph 0xFFFF) ⌝ }
+{
+    if (glyph as u32) < count {
+        return true;
+    }
+    glyph == 0xFFFF
+}
+
+// Refusal 13's test.
+fn all_known(count: u32, glyphs: &[u16]) -> bool
+    ensures { λ r. ⌜ r ≡ allKnown count (now (glyphs .entry)) ⌝ }
+{
+    let mut i = 0;
+    while i < glyphs.len() {
+        if known(count, glyphs[i]) {
+            i += 1;
+        } else {
+            return false;
+        }
+    }
+    true
+}
+
+fn copy_classes(from: &[u8], to: &mut [u8])
+    requires { ⌜ length (now from) ≡ length (now to) ⌝ }
+    ensures { λ r. ⌜ now (to .exit) ≡ now (from .entry) ⌝ }
+{
+    let mut i = 0;
+    while i < from.len() {
+        to[i] = from[i];
+        i += 1;
+    }
+}
+
+fn copy_moves(from: &[i32], to: &mut [i32])
+    requires { ⌜ length (now from) ≡ length (now to) ⌝ }
+    ensures { λ r. ⌜ now (to .exit) ≡ now (from .entry) ⌝ }
+{
+    let mut i = 0;
+    while i < from.len() {
+        to[i] = from[i];
+        i += 1;
+    }
+}
+
+// Refusals 12 to 15; where nothing bars the line, `held` gets its classes, `befores` and `afters` its movements.
+fn work_out(
+    table: &[u8],
+    count: u32,
+    shape: LineShape,
+    glyphs: &[u16],
+    advances: &[i32],
+    held: &mut [u8],
+    befores: &mut [i32],
+    afters: &mut [i32],
+) -> Worked
+    requires { ⌜
+        (tableFault (now table) count ≡ Clear) × (length (now glyphs) ≤ 1024)
+        × Room (length (now glyphs)) (now held) (now befores) (now afters) × (shape .size ≤ 67108864)
+        ⌝ }
+    ensures { λ r. ⌜
+        WorkedOut (sideOf (shape .direction) (meaningOf (now (table .entry)) count)) count
+        (lineBy shape (now (glyphs .entry)) (now (advances .entry)))
+        r (now (held .exit)) (now (befores .exit)) (now (afters .exit))
+        ⌝ }
+{
+    let Gap::Of { shrinks, size: gap } = gap_of(advances, shape.target) else {
+        return Worked::Bad(Refusal::Advances);
+    };
+    if all_known(count, glyphs) {
+        let walked = line_moves::line_walk(table, count, shape, glyphs);
+        if walked.ends {
+            let classes = walked.classes;
+            let n = glyphs.len();
+            copy_classes(&classes[..n], held);
+            let shared = line_moves::share_glyphs(
+                table,
+                count,
+                shape,
+                shrinks,
+                gap,
+                glyphs,
+                held,
+                befores,
+                afters,
+            );
+            let Shared::Left(remainder) = shared else {
+                return Worked::Bad(Refusal::StageTotal);
+            };
+            return Worked::Done {
+                remainder,
+                entries: walked.count,
+            };
+        }
+        return Worked::Bad(Refusal::EndlessWalk);
+    }
+    Worked::Bad(Refusal::UnknownGlyph)
+}
+
+// Refusal 16; where there is room for the verdicts, classes and movements are copied out.
+fn finish<'a, 'b>(
+    table: &'a [u8],
+    count: u32,
+    shape: LineShape,
+    glyphs: &'a [u16],
+    remainder: i32,
+    entries: u32,
+    room: usize,
+    held: &'a [u8],
+    befores: &'a [i32],
+    afters: &'a [i32],
+    classes: &'b mut [u8],
+    before: &'b mut [i32],
+    after: &'b mut [i32],
+) -> Settled
+    requires { ⌜ (tableFault (now table) count ≡ Clear) × (length (now glyphs) ≤ 1024) ⌝ }
+    requires { ⌜
+        Room (length (now glyphs)) (now held) (now befores) (now afters)
+        × Room (length (now glyphs)) (now classes) (now before) (now after)
+        ⌝ }
+    ensures { λ r. ⌜
+        Finished room
+        (length (verdictsFrom (sideOf (shape .direction) (meaningOf (now (table .entry)) count)) (shape .size) 0
+        (now (glyphs .entry)) (now (held .entry)) (now (befores .entry)) (now (afters .entry))))
+        remainder entries
+        (now (held .entry)) (now (classes .entry)) (now (classes .exit))
+        (now (befores .entry)) (now (before .entry)) (now (before .exit))
+        (now (afters .entry)) (now (after .entry)) (now (after .exit))
+        r
+        ⌝ }
+{
+    let verdicts = line_verdicts::count_verdicts(
+        table,
+        count,
+        shape,
+        glyphs,
+        held,
+        befores,
+        afters,
+    );
+    if room < verdicts {
+        return Settled {
+            answer: LineAnswer::Refused(Refusal::ShortRoom),
+            stored: 0,
+        };
+    }
+    copy_classes(held, classes);
+    copy_moves(befores, before);
+    copy_moves(afters, after);
+    Settled {
+        answer: LineAnswer::Justified {
+            remainder,
+            entries,
+            verdicts: verdicts as u32,
+        },
+        stored: verdicts,
+    }
+}
+
+// Refusals 12 to 16, over room for the classes and movements.
+fn settle_in<'a, 'b>(
+    table: &'a [u8],
+    count: u32,
+    shape: LineShape,
+    glyphs: &'a [u16],
+    advances: &'a [i32],
+    room: usize,
+    held: &'a mut [u8],
+    befores: &'a mut [i32],
+    afters: &'a mut [i32],
+    classes: &'b mut [u8],
+    before: &'b mut [i32],
+    after: &'b mut [i32],
+) -> Settled
+    requires { ⌜ (tableFault (now table) count ≡ Clear) × (length (now glyphs) ≤ 1024) ⌝ }
+    requires { ⌜
+        Room (length (now glyphs)) (now held) (now befores) (now afters)
+        × Room (length (now glyphs)) (now classes) (now before) (now after) × (shape .size ≤ 67108864)
+        ⌝ }
+    ensures { λ r. ⌜
+        SettledIn (sideOf (shape .direction) (meaningOf (now (table .entry)) count)) count
+        (lineBy shape (now (glyphs .entry)) (now (advances .entry))) room
+        (now (classes .entry)) (now (before .entry)) (now (after .entry))
+        r (now (classes .exit)) (now (before .exit)) (now (after .exit))
+        ⌝ }
+{
+    let worked = work_out(table, count, shape, glyphs, advances, held, befores, afters);
+    match worked {
+        Worked::Bad(refusal) => Settled {
+            answer: LineAnswer::Refused(refusal),
+            stored: 0,
+        },
+        Worked::Done { remainder, entries } => finish(
+            table,
+            count,
+            shape,
+            glyphs,
+            remainder,
+            entries,
+            room,
+            held,
+            befores,
+            afters,
+            classes,
+            before,
+            after,
+        ),
+    }
+}
+
+// All of a line's call but the storing of its verdicts, for which there is `room`.
+pub fn settle<'a, 'b>(
+    table: &'a [u8],
+    count: u32,
+    shape: LineShape,
+    glyphs: &'a [u16],
+    advances: &'a [i32],
+    room: usize,
+    classes: &'b mut [u8],
+    before: &'b mut [i32],
+    after: &'b mut [i32],
+) -> Settled
+    ensures { λ r. ⌜
+        ((verdicts : List Verdict) → length verdicts ≡ room →
+        settlementIs r (now (classes .exit)) (now (before .exit)) (now (after .exit))
+        ≡ settlementIn (justified (now (table .entry)) count
+        (lineBy shape (now (glyphs .entry)) (now (advances .entry)))
+        (lentBy (now (classes .entry)) (now (before .entry)) (now (after .entry)) verdicts)))
+        ⌝ }
+{
+    let n = glyphs.len();
+    let fault = input_fault(
+        table,
+        count,
+        shape,
+        glyphs,
+        advances,
+        classes.len(),
+        before.len(),
+        after.len(),
+    );
+    if let Fault::Bad { refusal, at: _ } = fault {
+        return Settled {
+            answer: LineAnswer::Refused(refusal),
+            stored: 0,
+        };
+    }
+    let mut held = [0u8; 1024];
+    let mut befores = [0i32; 1024];
+    let mut afters = [0i32; 1024];
+    settle_in(
+        table,
+        count,
+        shape,
+        glyphs,
+        advances,
+        room,
+        &mut held[..n],
+        &mut befores[..n],
+        &mut afters[..n],
+        classes,
+        before,
+        after,
+    )
+}

@@ -1,0 +1,116 @@
+-- `line_moves::share_parts` meets its contract.
+use native.Mathlib.Omega.{arith}
+use mir.Syntax.{w32}
+use mir.ValLaws.{toZ-ofZ}
+use mathlib.Core.List.{List}
+use mathlib.Core.Path.{sym, ap, _∙_}
+use Rattle.share.specs.Line.{Glyph, lineLeft, signedOf}
+use Rattle.table.specs.Means.{meaningOf}
+use Rattle.meaning.specs.Ask.{sideOf}
+use Rattle.line_rule.specs.Line.{partsOf}
+use Rattle.line_moves.proofs.Parts.{parts-length, parts-narrow, record-limits}
+use Rattle.line_moves.proofs.Sharing.{laid-lent, laid-parts, laid-priorities, laid-glyphs, laid-fits, left-small, shared-left, shared-over}
+use borrow.Author.Needs.{needs}
+use Rattle.line_moves.proofs.share_parts.Statement.{statement}
+use Rattle.line_moves.proofs.share_parts.Tie as tie
+
+lay-parts-requires : tie.Need-lay-parts-requires
+lay-parts-requires c κs = search needs
+
+line-totals-requires : tie.Need-line-totals-requires
+line-totals-requires c κs = let w = c .before .before .before .before .before .before .before .before .before .before .before .lay-parts .ensures in
+    let a = c .before .before .before .before .before .before .before .before .before .before .before .before .before .before .before .before .before .before .before .before .before .before .before .args in
+    let nn = parts-narrow (sideOf (a .shape .direction) (meaningOf (a .table .now) (a .count))) (a .shrink) (a .shape .size) (record-limits (a .table .now) (a .count) (a .shape .direction) (λ i. c .before .before .before .before .before .before .before .before .before .before .before .before .before .before .before .before .before .before .before .before .before .before .shared-slice-known .given i .fits) (c .before .before .before .before .before .before .before .before .before .before .before .before .before .before .before .before .before .before .before .before .before .before .before .pre .0 .0)) (c .before .before .before .before .before .before .before .before .before .before .before .before .before .before .before .before .before .before .before .before .before .before .before .pre .1 .1 .4) (a .glyphs .now) (a .classes .now) in
+    let q = parts-length (sideOf (a .shape .direction) (meaningOf (a .table .now) (a .count))) (a .shrink) (a .shape .size) (a .glyphs .now) (a .classes .now) (c .before .before .before .before .before .before .before .before .before .before .before .before .before .before .before .before .before .before .before .before .before .before .before .pre .0 .1) in
+    let m = laid-priorities w in
+    (laid-parts w nn, omega (arith, c .before .before .before .before .before .before .before .before .before .before .before .before .before .before .before .before .before .before .before .before .before .before .before .pre .1 .1 .2))
+
+totals-fit-requires : tie.Need-totals-fit-requires
+totals-fit-requires c κs = search needs
+
+share-line-requires : tie.Need-share-line-requires
+share-line-requires c κs =
+    let a = c .before .before .before .before .before .before .before .before .before .before .before .before .before .before .before .before .before .before .before .before .before .before .before .before .before .before .before .before .before .before .before .before .args in
+    let nn = parts-narrow (sideOf (a .shape .direction) (meaningOf (a .table .now) (a .count))) (a .shrink) (a .shape .size) (record-limits (a .table .now) (a .count) (a .shape .direction) (λ i. c .before .before .before .before .before .before .before .before .before .before .before .before .before .before .before .before .before .before .before .before .before .before .before .before .before .before .before .before .before .before .before .shared-slice-known .given i .fits) (c .before .before .before .before .before .before .before .before .before .before .before .before .before .before .before .before .before .before .before .before .before .before .before .before .before .before .before .before .before .before .before .before .pre .0 .0)) (c .before .before .before .before .before .before .before .before .before .before .before .before .before .before .before .before .before .before .before .before .before .before .before .before .before .before .before .before .before .before .before .before .pre .1 .1 .4) (a .glyphs .now) (a .classes .now) in
+    let p = c .before .before .before .before .before .before .before .before .before .before .before .before .before .before .before .before .before .before .before .before .before .before .before .before .before .before .before .before .before .before .before .before .pre in
+    let w = c .before .before .before .before .before .before .before .before .before .before .before .before .before .before .before .before .before .before .before .before .lay-parts .ensures in
+    let q = parts-length (sideOf (a .shape .direction) (meaningOf (a .table .now) (a .count))) (a .shrink) (a .shape .size) (a .glyphs .now) (a .classes .now) (p .0 .1) in
+    let m = laid-priorities w in
+    let l = laid-lent w (omega (arith, p .1 .1 .2)) nn in
+    (l, ((omega (arith, p .1 .1 .0), omega (arith, p .1 .1 .1)), (p .1 .1 .3, c .before .before .before .before .before .before .before .before .line-totals .ensures, sym (c .before .before .before .before .before .before .before .totals-fit .ensures _ _ _ _ l (c .before .before .before .before .before .before .before .before .line-totals .ensures)) ∙ c .before .before .before .before .before .before .if1 .taken)))
+
+signed-requires : tie.Need-signed-requires
+signed-requires c κs =
+    let a = c .before .before .before .before .before .before .before .before .before .before .before .before .before .before .before .before .before .before .before .before .before .before .before .before .before .before .before .before .before .before .before .before .before .before .before .args in
+    let w = c .before .before .before .before .before .before .before .before .before .before .before .before .before .before .before .before .before .before .before .before .before .before .before .lay-parts .ensures in
+    let e = c .before .before .share-line .ensures .0 ∙ ap (λ (x : List Glyph). lineLeft x (a .gap)) (laid-glyphs w) in
+    omega (arith, c .before .before .before .before .before .before .before .before .before .before .before .before .before .before .before .before .before .before .before .before .before .before .before .before .before .before .before .before .before .before .before .before .before .before .before .pre .1 .1 .3, left-small (partsOf (sideOf (a .shape .direction) (meaningOf (a .table .now) (a .count))) (a .shrink) (a .shape .size) (a .glyphs .now) (a .classes .now)) (a .gap))
+
+same-length : tie.Need-same-length
+same-length c = search needs
+
+same-length-2 : tie.Need-same-length-2
+same-length-2 c = search needs
+
+same-length-3 : tie.Need-same-length-3
+same-length-3 c = search needs
+
+same-length-4 : tie.Need-same-length-4
+same-length-4 c = search needs
+
+same-length-5 : tie.Need-same-length-5
+same-length-5 c = search needs
+
+same-length-6 : tie.Need-same-length-6
+same-length-6 c = search needs
+
+returns : tie.Need-returns
+returns c =
+    let a = c .before .before .before .before .before .before .before .before .before .before .before .before .before .before .before .before .before .before .before .before .before .before .before .before .before .before .before .before .before .before .before .before .before .before .before .before .args in
+    let nn = parts-narrow (sideOf (a .shape .direction) (meaningOf (a .table .now) (a .count))) (a .shrink) (a .shape .size) (record-limits (a .table .now) (a .count) (a .shape .direction) (λ i. c .before .before .before .before .before .before .before .before .before .before .before .before .before .before .before .before .before .before .before .before .before .before .before .before .before .before .before .before .before .before .before .before .before .before .before .shared-slice-known .given i .fits) (c .before .before .before .before .before .before .before .before .before .before .before .before .before .before .before .before .before .before .before .before .before .before .before .before .before .before .before .before .before .before .before .before .before .before .before .before .pre .0 .0)) (c .before .before .before .before .before .before .before .before .before .before .before .before .before .before .before .before .before .before .before .before .before .before .before .before .before .before .before .before .before .before .before .before .before .before .before .before .pre .1 .1 .4) (a .glyphs .now) (a .classes .now) in
+    let w = c .before .before .before .before .before .before .before .before .before .before .before .before .before .before .before .before .before .before .before .before .before .before .before .before .lay-parts .ensures in
+    let q = parts-length (sideOf (a .shape .direction) (meaningOf (a .table .now) (a .count))) (a .shrink) (a .shape .size) (a .glyphs .now) (a .classes .now) (c .before .before .before .before .before .before .before .before .before .before .before .before .before .before .before .before .before .before .before .before .before .before .before .before .before .before .before .before .before .before .before .before .before .before .before .before .pre .0 .1) in
+    let e = c .before .before .before .share-line .ensures in
+    shared-left (a .shrink) (a .gap) _ _ (laid-glyphs w) (a .before .now) (a .after .now) (laid-fits w (c .before .before .before .before .before .before .before .before .before .before .before .totals-fit .ensures _ _ _ _ (laid-lent w (omega (arith, c .before .before .before .before .before .before .before .before .before .before .before .before .before .before .before .before .before .before .before .before .before .before .before .before .before .before .before .before .before .before .before .before .before .before .before .before .pre .1 .1 .2)) nn) (c .before .before .before .before .before .before .before .before .before .before .before .before .line-totals .ensures)) ∙ c .before .before .before .before .before .before .before .before .before .before .if1 .taken) (toZ-ofZ w32 (c .signed .result) (record { sfits = c .signed .ok }) ∙ c .signed .ensures ∙ ap (signedOf (a .shrink)) (e .0)) (e .1 .0) (e .1 .1)
+
+same-length-7 : tie.Need-same-length-7
+same-length-7 c = search needs
+
+same-length-8 : tie.Need-same-length-8
+same-length-8 c = search needs
+
+same-length-9 : tie.Need-same-length-9
+same-length-9 c = search needs
+
+same-length-10 : tie.Need-same-length-10
+same-length-10 c = search needs
+
+returns-2 : tie.Need-returns-2
+returns-2 c =
+    let a = c .before .before .before .before .before .before .before .before .before .before .before .before .before .before .before .before .before .before .before .before .before .before .before .before .before .before .args in
+    let nn = parts-narrow (sideOf (a .shape .direction) (meaningOf (a .table .now) (a .count))) (a .shrink) (a .shape .size) (record-limits (a .table .now) (a .count) (a .shape .direction) (λ i. c .before .before .before .before .before .before .before .before .before .before .before .before .before .before .before .before .before .before .before .before .before .before .before .before .before .shared-slice-known .given i .fits) (c .before .before .before .before .before .before .before .before .before .before .before .before .before .before .before .before .before .before .before .before .before .before .before .before .before .before .pre .0 .0)) (c .before .before .before .before .before .before .before .before .before .before .before .before .before .before .before .before .before .before .before .before .before .before .before .before .before .before .pre .1 .1 .4) (a .glyphs .now) (a .classes .now) in
+    let w = c .before .before .before .before .before .before .before .before .before .before .before .before .before .before .lay-parts .ensures in
+    let q = parts-length (sideOf (a .shape .direction) (meaningOf (a .table .now) (a .count))) (a .shrink) (a .shape .size) (a .glyphs .now) (a .classes .now) (c .before .before .before .before .before .before .before .before .before .before .before .before .before .before .before .before .before .before .before .before .before .before .before .before .before .before .pre .0 .1) in
+    shared-over (a .shrink) (a .gap) _ (a .before .now) (a .after .now) (laid-fits w (c .before .totals-fit .ensures _ _ _ _ (laid-lent w (omega (arith, c .before .before .before .before .before .before .before .before .before .before .before .before .before .before .before .before .before .before .before .before .before .before .before .before .before .before .pre .1 .1 .2)) nn) (c .before .before .line-totals .ensures)) ∙ c .if1 .left)
+
+pub share-parts-spec : {M : Type 1} → statement M
+share-parts-spec =
+    tie.close
+    (tie.spec
+    lay-parts-requires
+    line-totals-requires
+    totals-fit-requires
+    share-line-requires
+    signed-requires
+    same-length
+    same-length-2
+    same-length-3
+    same-length-4
+    same-length-5
+    same-length-6
+    returns
+    same-length-7
+    same-length-8
+    same-length-9
+    same-length-10
+    returns-2)

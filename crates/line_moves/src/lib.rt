@@ -1,0 +1,359 @@
+// What a line's call works out before its verdicts (document 01, "The class walk" and "Sharing the gap"), from an
+// accepted table: the classes of the line's glyphs, the part of each glyph, and the movements of its two sides.
+ghost use mathlib.Core.Path.{_≡_};
+ghost use mathlib.Core.Bool.{cond};
+ghost use Prim.Native.Nat.{_≤_};
+ghost use lib.IntN.{pos, natAbs};
+ghost use lib.ListN.{length};
+ghost use Rattle.fields.specs.declared.Fault.the-variants.{Clear};
+ghost use Rattle.units.specs.Flags.{isUnlimited};
+ghost use Rattle.meaning.specs.Ask.{sideOf};
+ghost use Rattle.cluster.specs.Pairs.{soughtPair};
+ghost use Rattle.table.specs.Table.{tableFault};
+ghost use Rattle.table.specs.Means.{meaningOf};
+ghost use Rattle.table_ask.specs.Places.{clustersIn, Readable};
+ghost use Rattle.class_walk.specs.Line.{handedOut};
+ghost use Rattle.line_rule.specs.Line.{walkOf, recordFor, unitsOf, stageOf, partBy, partOf, partsOf};
+ghost use Rattle.line_moves.specs.Parts.{Known, bareLine, Small, IsSize, PartOf, Laid, Room, SharedOut};
+use actions::Spot;
+use class_walk::Walked;
+use cluster::Sought;
+use line_rule::LineShape;
+use table_ask::Lookup;
+use types::Direction;
+use units::Ems;
+use units::Units;
+
+// A glyph's part in the sharing of the gap: its stage priority, 1 where it is unlimited and else 0, and the factors of
+// its before and its after side.
+struct Part {
+    pub priority: u8,
+    pub extra: u8,
+    pub before: Units,
+    pub after: Units,
+}
+
+// The remainder of a gap that was shared, with the gap's sign; or that a stage's total is above the most that it
+// may be.
+pub enum Shared {
+    Left(i32),
+    Over,
+}
+
+// The priority of a glyph that has no record, and takes no part: no stage.
+const APART: u8 = 255;
+
+// The walk of a line by the machine of a direction; with no machine, every class 0 and no entry taken.
+pub fn line_walk(table: &[u8], count: u32, shape: LineShape, glyphs: &[u16]) -> Walked
+    requires { ⌜ (tableFault (now table) count ≡ Clear) × (length (now glyphs) ≤ 1024) ⌝ }
+    requires { ⌜ Known count (now glyphs) ⌝ }
+    ensures { λ r. ⌜ r ≡ handedOut (walkOf (sideOf (shape .direction) (meaningOf (now (table .entry)) count) .machine) (bareLine (now (glyphs .entry)) (shape .starts) (shape .ends))) ⌝ }
+{
+    let direction = shape.direction;
+    let offset = table_ask::machine_in(table, direction);
+    if offset == 0 {
+        return Walked {
+            ends: true,
+            count: 0,
+            classes: [0u8; 1024],
+        };
+    }
+    let here = offset + 8;
+    let columns = class_walk::line_columns(table, here, glyphs);
+    let n = glyphs.len();
+    class_walk::walk_line(table, here, &columns[..n], shape.starts, shape.ends)
+}
+
+// The factor of a limit, which is a size.
+fn units_of(limit: Ems, size: u32) -> Units
+    requires { ⌜ IsSize (limit .0) ⌝ }
+    ensures { λ r. ⌜ r .0 ≡ pos (unitsOf (natAbs (limit .0)) size) ⌝ }
+{
+    units::factor(limit, size)
+}
+
+// The stage priority that grow or shrink flags give.
+fn stage_of(flags: u16) -> u8
+    ensures { λ r. ⌜ r ≡ stageOf flags ⌝ }
+{
+    units::priority(flags)
+}
+
+// 1 for unlimited flags.
+fn extra_of(flags: u16) -> u8
+    ensures { λ r. ⌜ r ≡ cond (isUnlimited flags) 1 0 ⌝ }
+{
+    if units::is_unlimited(flags) { 1 } else { 0 }
+}
+
+// A glyph's part by the flags and limits of one direction of the gap.
+fn part_by(size: u32, flags: u16, before: Ems, after: Ems) -> Part
+    requires { ⌜ IsSize (before .0) × IsSize (after .0) ⌝ }
+    ensures { λ r. ⌜ PartOf r (partBy size flags (natAbs (before .0)) (natAbs (after .0))) ⌝ }
+{
+    Part {
+        priority: stage_of(flags),
+        extra: extra_of(flags),
+        before: units_of(before, size),
+        after: units_of(after, size),
+    }
+}
+
+// The part of a glyph with this width record, or with none.
+fn part_of(shrink: bool, size: u32, sought: Sought) -> Part
+    requires { ⌜ Small (soughtPair sought) ⌝ }
+    ensures { λ r. ⌜ PartOf r (partOf shrink size (soughtPair sought)) ⌝ }
+{
+    let Sought::Record(pair) = sought else {
+        return Part {
+            priority: APART,
+            extra: 0,
+            before: Units(0),
+            after: Units(0),
+        };
+    };
+    if shrink {
+        part_by(
+            size,
+            pair.flags.shrink,
+            Ems(pair.before.shrink as i64),
+            Ems(pair.after.shrink as i64),
+        )
+    } else {
+        part_by(
+            size,
+            pair.flags.grow,
+            Ems(pair.before.grow as i64),
+            Ems(pair.after.grow as i64),
+        )
+    }
+}
+
+// A factor, which is not below 0, as the plain number that slices hold.
+fn plain(factor: Units) -> u64
+    requires { ⌜ factor .0 ≡ pos (natAbs (factor .0)) ⌝ }
+    ensures { λ r. ⌜ r ≡ natAbs (factor .0) ⌝ }
+{
+    factor.0 as u64
+}
+
+// A glyph's width record for its class, by the lookup of its direction's clusters.
+fn record_for(
+    table: &[u8],
+    count: u32,
+    direction: Direction,
+    clusters: Lookup,
+    glyph: u16,
+    class: u8,
+) -> Sought
+    requires { ⌜ tableFault (now table) count ≡ Clear ⌝ }
+    requires { ⌜ (clusters ≡ clustersIn (now table) direction) × Readable (now table) clusters ⌝ }
+    ensures { λ r. ⌜ (soughtPair r ≡ recordFor (sideOf direction (meaningOf (now (table .entry)) count)) glyph class) × Small (soughtPair r) ⌝ }
+{
+    match table_ask::cluster_by(table, count, clusters, glyph) {
+        Spot::At(at) => table_reader::record_by(table, at as u32, class),
+        Spot::Nowhere => Sought::Nothing,
+    }
+}
+
+// The parts of a line's glyphs, each of the four in a slice of its own.
+fn lay_parts(
+    table: &[u8],
+    count: u32,
+    shape: LineShape,
+    shrink: bool,
+    glyphs: &[u16],
+    classes: &[u8],
+    priorities: &mut [u8],
+    extras: &mut [u8],
+    first: &mut [u64],
+    second: &mut [u64],
+)
+    requires { ⌜ (tableFault (now table) count ≡ Clear) × (length (now classes) ≡ length (now glyphs)) ⌝ }
+    requires { ⌜ Room (length (now glyphs)) (now priorities) (now extras) (now first) (now second) ⌝ }
+    ensures { λ r. ⌜ Laid (partsOf (sideOf (shape .direction) (meaningOf (now (table .entry)) count)) shrink (shape .size) (now (glyphs .entry)) (now (classes .entry))) (now (priorities .exit)) (now (extras .exit)) (now (first .exit)) (now (second .exit)) ⌝ }
+{
+    let direction = shape.direction;
+    let clusters = table_ask::clusters_in(table, direction);
+    let mut i = 0;
+    while i < glyphs.len() {
+        let sought = record_for(table, count, direction, clusters, glyphs[i], classes[i]);
+        let part = part_of(shrink, shape.size, sought);
+        priorities[i] = part.priority;
+        extras[i] = part.extra;
+        first[i] = plain(part.before);
+        second[i] = plain(part.after);
+        i += 1;
+    }
+}
+
+// The gap, given as its size, shared over the sides of a line's glyphs, unless refusal 15 bars it; the first four
+// lent slices are room for the parts.
+fn share_parts(
+    table: &[u8],
+    count: u32,
+    shape: LineShape,
+    shrink: bool,
+    gap: u64,
+    glyphs: &[u16],
+    classes: &[u8],
+    priorities: &mut [u8],
+    extras: &mut [u8],
+    first: &mut [u64],
+    second: &mut [u64],
+    before: &mut [i32],
+    after: &mut [i32],
+) -> Shared
+    requires { ⌜ (tableFault (now table) count ≡ Clear) × (length (now classes) ≡ length (now glyphs)) ⌝ }
+    requires { ⌜ Room (length (now glyphs)) (now priorities) (now extras) (now first) (now second) ⌝ }
+    requires { ⌜ (length (now before) ≡ length (now glyphs)) × (length (now after) ≡ length (now glyphs)) × (length (now glyphs) ≤ 1024) × (gap ≤ 1073741823) × (shape .size ≤ 67108864) ⌝ }
+    ensures { λ r. ⌜ SharedOut shrink gap (partsOf (sideOf (shape .direction) (meaningOf (now (table .entry)) count)) shrink (shape .size) (now (glyphs .entry)) (now (classes .entry))) (now (before .entry)) (now (after .entry)) r (now (before .exit)) (now (after .exit)) ⌝ }
+{
+    lay_parts(
+        table,
+        count,
+        shape,
+        shrink,
+        glyphs,
+        classes,
+        priorities,
+        extras,
+        first,
+        second,
+    );
+    let totals = share::line_totals(priorities, first, second);
+    if share::totals_fit(totals) {
+        let left = share::share_line(
+            shrink,
+            gap,
+            totals,
+            priorities,
+            extras,
+            first,
+            second,
+            before,
+            after,
+        );
+        return Shared::Left(share::signed(shrink, left));
+    }
+    Shared::Over
+}
+
+// The same over a room of its own for 128 glyphs.
+fn share_short(
+    table: &[u8],
+    count: u32,
+    shape: LineShape,
+    shrink: bool,
+    gap: u64,
+    glyphs: &[u16],
+    classes: &[u8],
+    before: &mut [i32],
+    after: &mut [i32],
+) -> Shared
+    requires { ⌜ (tableFault (now table) count ≡ Clear) × (length (now classes) ≡ length (now glyphs)) ⌝ }
+    requires { ⌜ (length (now before) ≡ length (now glyphs)) × (length (now after) ≡ length (now glyphs)) × (length (now glyphs) ≤ 128) × (gap ≤ 1073741823) × (shape .size ≤ 67108864) ⌝ }
+    ensures { λ r. ⌜ SharedOut shrink gap (partsOf (sideOf (shape .direction) (meaningOf (now (table .entry)) count)) shrink (shape .size) (now (glyphs .entry)) (now (classes .entry))) (now (before .entry)) (now (after .entry)) r (now (before .exit)) (now (after .exit)) ⌝ }
+{
+    let n = glyphs.len();
+    let mut priorities = [0u8; 128];
+    let mut extras = [0u8; 128];
+    let mut first = [0u64; 128];
+    let mut second = [0u64; 128];
+    share_parts(
+        table,
+        count,
+        shape,
+        shrink,
+        gap,
+        glyphs,
+        classes,
+        &mut priorities[..n],
+        &mut extras[..n],
+        &mut first[..n],
+        &mut second[..n],
+        before,
+        after,
+    )
+}
+
+// The same over a room of its own for 1,024 glyphs.
+fn share_long(
+    table: &[u8],
+    count: u32,
+    shape: LineShape,
+    shrink: bool,
+    gap: u64,
+    glyphs: &[u16],
+    classes: &[u8],
+    before: &mut [i32],
+    after: &mut [i32],
+) -> Shared
+    requires { ⌜ (tableFault (now table) count ≡ Clear) × (length (now classes) ≡ length (now glyphs)) ⌝ }
+    requires { ⌜ (length (now before) ≡ length (now glyphs)) × (length (now after) ≡ length (now glyphs)) × (length (now glyphs) ≤ 1024) × (gap ≤ 1073741823) × (shape .size ≤ 67108864) ⌝ }
+    ensures { λ r. ⌜ SharedOut shrink gap (partsOf (sideOf (shape .direction) (meaningOf (now (table .entry)) count)) shrink (shape .size) (now (glyphs .entry)) (now (classes .entry))) (now (before .entry)) (now (after .entry)) r (now (before .exit)) (now (after .exit)) ⌝ }
+{
+    let n = glyphs.len();
+    let mut priorities = [0u8; 1024];
+    let mut extras = [0u8; 1024];
+    let mut first = [0u64; 1024];
+    let mut second = [0u64; 1024];
+    share_parts(
+        table,
+        count,
+        shape,
+        shrink,
+        gap,
+        glyphs,
+        classes,
+        &mut priorities[..n],
+        &mut extras[..n],
+        &mut first[..n],
+        &mut second[..n],
+        before,
+        after,
+    )
+}
+
+// The gap, given as its size, shared over the sides of a line's glyphs, unless refusal 15 bars it: the signed movements
+// of each glyph go into `before` and `after`. Most lines are short, and less room is sooner cleared.
+pub fn share_glyphs(
+    table: &[u8],
+    count: u32,
+    shape: LineShape,
+    shrink: bool,
+    gap: u64,
+    glyphs: &[u16],
+    classes: &[u8],
+    before: &mut [i32],
+    after: &mut [i32],
+) -> Shared
+    requires { ⌜ (tableFault (now table) count ≡ Clear) × (length (now classes) ≡ length (now glyphs)) ⌝ }
+    requires { ⌜ (length (now before) ≡ length (now glyphs)) × (length (now after) ≡ length (now glyphs)) × (length (now glyphs) ≤ 1024) × (gap ≤ 1073741823) × (shape .size ≤ 67108864) ⌝ }
+    ensures { λ r. ⌜ SharedOut shrink gap (partsOf (sideOf (shape .direction) (meaningOf (now (table .entry)) count)) shrink (shape .size) (now (glyphs .entry)) (now (classes .entry))) (now (before .entry)) (now (after .entry)) r (now (before .exit)) (now (after .exit)) ⌝ }
+{
+    if glyphs.len() <= 128 {
+        return share_short(
+            table,
+            count,
+            shape,
+            shrink,
+            gap,
+            glyphs,
+            classes,
+            before,
+            after,
+        );
+    }
+    share_long(
+        table,
+        count,
+        shape,
+        shrink,
+        gap,
+        glyphs,
+        classes,
+        before,
+        after,
+    )
+}

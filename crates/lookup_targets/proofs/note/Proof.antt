@@ -1,0 +1,43 @@
+-- `lookup_targets::note` meets its contract.
+use Rattle.lookup_targets.proofs.Laws.{noted-none, noted-one}
+use native.Mathlib.Omega.{arith}
+use borrow.Author.Needs.{needs}
+use Rattle.lookup_targets.proofs.note.Statement.{statement}
+use Rattle.lookup_targets.proofs.note.Tie as tie
+
+lower-requires : tie.Need-lower-requires
+lower-requires c κs = search needs
+
+u8-at-requires : tie.Need-u8-at-requires
+u8-at-requires c κs = search needs
+
+same-length : tie.Need-same-length
+same-length c = search needs
+
+returns : tie.Need-returns
+returns c = noted-none _ _ _
+
+cast-put-u8 : tie.Need-cast-put-u8
+cast-put-u8 c = search needs
+
+put-u8-requires : tie.Need-put-u8-requires
+put-u8-requires c κs = search needs
+
+same-length-2 : tie.Need-same-length-2
+same-length-2 c = search needs
+
+returns-2 : tie.Need-returns-2
+returns-2 c = rw (c .before .before .put-u8 .ensures) (noted-one (c .before .before .before .before .before .before .before .before .before .args .place) (c .before .before .before .before .before .before .before .before .before .args .count) _ (omega (arith, c .before .before .before .before .before .before .before .lower .ensures)))
+
+pub note-spec : {M : Type 1} → statement M
+note-spec =
+    tie.close
+    (tie.spec
+    lower-requires
+    u8-at-requires
+    same-length
+    returns
+    cast-put-u8
+    put-u8-requires
+    same-length-2
+    returns-2)

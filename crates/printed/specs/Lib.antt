@@ -1,3 +1,0 @@
-pub mod Printed
-pub mod Stored
-pub mod Laws

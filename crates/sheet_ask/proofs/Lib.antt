@@ -1,0 +1,5 @@
+pub mod MachineLaws
+pub mod RecordLaws
+pub mod ActionLaws
+pub mod PoolLaws
+pub mod ReplyLaws

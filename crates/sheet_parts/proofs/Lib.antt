@@ -1,4 +1,0 @@
-pub mod MachineLaws
-pub mod RecordLaws
-pub mod ActionLaws
-pub mod PoolLaws

@@ -1,0 +1,4 @@
+pub mod SectionLaws
+pub mod RunLaws
+pub mod NumberLaws
+pub mod PoolLaws

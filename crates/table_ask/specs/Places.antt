@@ -1,0 +1,97 @@
+-- Where the parts of a table's meaning stand in its bytes (document 01, "The table"): a direction's offsets, its machine, a glyph's cluster and a glyph's
+-- actions. Offset 0 is an absent direction, no machine, no actions. Fields are read as if zeros followed the table.
+use Prim.Native.Nat.{ℕ, _<_, _^_}
+use mathlib.Core.Path.{_≡_}
+use mathlib.Core.Bool.{cond}
+use mathlib.Core.List.{List}
+use lib.Dec.{eqb}
+use Rattle.fields.specs.Field.{u16At}
+use Rattle.types.specs.declared.Direction.{Direction}
+use Rattle.types.specs.declared.Direction.the-variants.{Horizontal, Vertical}
+use Rattle.meaning.specs.Ask.{Answer, nothing, number, both, entry, pair, act}
+use Rattle.fields.specs.declared.Fault.the-variants.{Clear}
+use Rattle.lookup.specs.Lookup.{lookupFault}
+use Rattle.lookup.specs.Find.{valueOf}
+use Rattle.lookup_find.specs.Halves.{headAt}
+use Rattle.actions.specs.declared.Spot.{Spot}
+use Rattle.actions.specs.declared.Spot.the-variants.{At, Nowhere}
+use Rattle.actions.specs.Actions.{actionAt, placeOf, clipped}
+use Rattle.lookup_targets.specs.declared.Kind.{Kind}
+use Rattle.lookup_targets.specs.declared.Kind.the-variants.{Clusters, Lists}
+use Rattle.lookup_targets.specs.Values.{spotOf}
+use Rattle.table_ask.specs.declared.Lookup.{Lookup}
+use Rattle.table_ask.specs.declared.Lookup.the-variants.{Absent, There}
+use Rattle.table.specs.Table.{machineOffset, widthOffset, actionOffset, widthLookup}
+
+-- where a direction's three offsets stand
+abbrev pub directionAt : List ℕ → Direction → ℕ
+directionAt t Horizontal = u16At t 6
+directionAt t Vertical = u16At t 8
+
+-- the offset of a direction's machine
+unfoldable pub machineIn : List ℕ → Direction → ℕ
+machineIn t d = cond (eqb (directionAt t d) 0) 0 (machineOffset t (directionAt t d))
+
+-- the lookup of a direction's clusters
+unfoldable pub clustersIn : List ℕ → Direction → Lookup
+clustersIn t d =
+    cond (eqb (directionAt t d) 0) Absent
+    (There (widthLookup (directionAt t d)) (widthOffset t (directionAt t d)) (headAt t (widthLookup (directionAt t d))))
+
+-- the lookup of a direction's action lists
+unfoldable pub listsIn : List ℕ → Direction → Lookup
+listsIn t d =
+    cond (eqb (directionAt t d) 0) Absent
+    (cond (eqb (actionOffset t (directionAt t d)) 0) Absent
+    (There (actionOffset t (directionAt t d)) (actionOffset t (directionAt t d)) (headAt t (actionOffset t (directionAt t d)))))
+
+-- what is kept of a lookup was read of this table
+abbrev pub Readable : List ℕ → Lookup → Type 0
+Readable t Absent = Unit {0}
+Readable t (There at base head) = (at < 2 ^ 32) × ((base < 2 ^ 16) × (head ≡ headAt t at))
+
+-- the lookup has no fault for a font of n glyphs
+abbrev pub Sound : List ℕ → ℕ → Lookup → Type 0
+Sound t n Absent = Unit {0}
+Sound t n (There at base head) = (lookupFault t n at ≡ Clear) × (n < 65536)
+
+-- where a glyph's cluster or list stands, by the lookup of that kind
+abbrev pub spotBy : List ℕ → ℕ → Kind → Lookup → ℕ → Spot
+spotBy t n kind Absent glyph = Nowhere
+spotBy t n kind (There at base head) glyph = spotOf kind base (valueOf t n at glyph)
+
+-- where a glyph's width records stand
+unfoldable pub clusterSpot : List ℕ → ℕ → Direction → ℕ → Spot
+clusterSpot t n d glyph =
+    cond (eqb (directionAt t d) 0) Nowhere
+    (spotOf Clusters (widthOffset t (directionAt t d)) (valueOf t n (widthLookup (directionAt t d)) glyph))
+
+-- where a glyph's actions stand
+unfoldable pub listSpot : List ℕ → ℕ → Direction → ℕ → Spot
+listSpot t n d glyph =
+    cond (eqb (directionAt t d) 0) Nowhere
+    (cond (eqb (actionOffset t (directionAt t d)) 0) Nowhere
+    (spotOf Lists (actionOffset t (directionAt t d)) (valueOf t n (actionOffset t (directionAt t d)) glyph)))
+
+-- where the action with a number stands, of the list at a spot
+abbrev pub numbered : List ℕ → ℕ → Spot → Spot
+numbered t k (At p) = placeOf t p k
+numbered t k Nowhere = Nowhere
+
+-- where an action stands, by glyph and number
+unfoldable pub actionSpot : List ℕ → ℕ → Direction → ℕ → ℕ → Spot
+actionSpot t n d glyph k = numbered t k (listSpot t n d glyph)
+
+-- what the action at a spot answers
+abbrev pub actionHere : List ℕ → Spot → Answer
+actionHere t (At p) = act (actionAt t p)
+actionHere t Nowhere = nothing
+
+-- an answer whose action has the first 76 bytes of its data; of an accepted table's answers each is as it was (`whole` of proofs/Laws.antt)
+abbrev pub cut : Answer → Answer
+cut (act a) = act (clipped a)
+cut nothing = nothing
+cut (number k) = number k
+cut (both s c) = both s c
+cut (entry e) = entry e
+cut (pair p) = pair p

@@ -1,0 +1,354 @@
+// The parts of a table's meaning (document 01, "The sheet"), asked for one at a time, and a component list as that
+// very stretch of the table ("The table"). What is named .._of reads a table that was accepted before, or any other
+// bytes as if they were one. What is named ask_.. judges the table first, and may refuse; a component list is never
+// refused, but empty.
+ghost use mathlib.Core.Path.{_≡_};
+ghost use Prim.Native.Nat.{_<_, _^_};
+ghost use Rattle.meaning.specs.Ask.{maybe, pair, recordOf, ask, glyphCount, sizes, class, cell, width, action, along};
+ghost use Rattle.answers.specs.Says.{given, unlessBad, saysCount, saysSizes, saysClass, saysCell, saysRecord, saysAction, roomAfter};
+ghost use Rattle.fields.specs.declared.Fault.the-variants.{Clear};
+ghost use Rattle.cluster.specs.Pairs.{clusterAt};
+ghost use Rattle.actions.specs.Actions.{Below};
+ghost use Rattle.lookup_targets.specs.declared.Kind.the-variants.{Clusters, Lists};
+ghost use Rattle.table.specs.Table.{tableFault};
+ghost use Rattle.table.specs.Means.{meaningOf};
+ghost use Rattle.table_ask.specs.Places.{directionAt, machineIn, clustersIn, listsIn, Readable, Sound, spotBy, clusterSpot, listSpot, actionSpot, cut};
+ghost use Rattle.table_ask.specs.Components.{componentsOf, stretch, placeIn};
+use actions::Spot;
+use actions::Stretch;
+use answers::ActionAnswer;
+use answers::CellAnswer;
+use answers::ClassAnswer;
+use answers::CountAnswer;
+use answers::RecordAnswer;
+use answers::SizesAnswer;
+use answers::Sought;
+use fields::Fault;
+use lookup_find::Head;
+use lookup_targets::Kind;
+use types::Direction;
+
+// A direction's lookup of one kind, read once: where it stands, what its values count from, and its head.
+pub enum Lookup {
+    Absent,
+    There { at: usize, base: usize, head: Head },
+}
+
+// Where a direction's offsets stand; 0 for an absent one.
+pub fn direction_at(table: &[u8], direction: Direction) -> usize
+    ensures { λ r. ⌜ (r ≡ directionAt (now (table .entry)) direction) × (r < 2 ^ 16) ⌝ }
+{
+    match direction {
+        Direction::Horizontal => fields::u16_at(table, 6),
+        Direction::Vertical => fields::u16_at(table, 8),
+    }
+}
+
+// The offset of a direction's machine; 0 for none.
+pub fn machine_in(table: &[u8], direction: Direction) -> usize
+    ensures { λ r. ⌜ (r ≡ machineIn (now (table .entry)) direction) × (r < 2 ^ 16) ⌝ }
+{
+    let at = direction_at(table, direction);
+    if at == 0 {
+        return 0;
+    }
+    fields::u16_at(table, at)
+}
+
+// The row count and the class count of a direction's machine.
+pub fn sizes_of(table: &[u8], count: u32, direction: Direction) -> SizesAnswer
+    ensures { λ r. ⌜ saysSizes r ≡ given (ask (meaningOf (now (table .entry)) count) (along direction sizes)) ⌝ }
+{
+    let offset = machine_in(table, direction);
+    if offset == 0 {
+        return SizesAnswer::Nothing;
+    }
+    let rows = machine::row_count(table, offset + 8);
+    let classes = fields::u16_at(table, offset + 8);
+    SizesAnswer::Sizes {
+        rows: rows as u16,
+        classes: classes as u16,
+    }
+}
+
+// The class of a glyph in a direction.
+pub fn class_of(table: &[u8], count: u32, direction: Direction, glyph: u16) -> ClassAnswer
+    ensures { λ r. ⌜ saysClass r ≡ given (ask (meaningOf (now (table .entry)) count) (along direction (class glyph))) ⌝ }
+{
+    if count <= glyph as u32 {
+        return ClassAnswer::Nothing;
+    }
+    let offset = machine_in(table, direction);
+    if offset == 0 {
+        return ClassAnswer::Nothing;
+    }
+    ClassAnswer::Class(machine::class_of(table, offset + 8, glyph))
+}
+
+// What the cell of a row and a class holds in a direction.
+pub fn cell_of(table: &[u8], count: u32, direction: Direction, row: u16, class: u16) -> CellAnswer
+    ensures { λ r. ⌜ saysCell r ≡ given (ask (meaningOf (now (table .entry)) count) (along direction (cell row class))) ⌝ }
+{
+    let offset = machine_in(table, direction);
+    if offset == 0 {
+        return CellAnswer::Nothing;
+    }
+    if machine::row_count(table, offset + 8) <= row as usize {
+        return CellAnswer::Nothing;
+    }
+    if fields::u16_at(table, offset + 8) <= class as usize {
+        return CellAnswer::Nothing;
+    }
+    CellAnswer::Cell(machine::cell(table, offset + 8, row as usize, class as usize))
+}
+
+// The lookup of a direction's clusters.
+pub fn clusters_in(table: &[u8], direction: Direction) -> Lookup
+    ensures { λ r. ⌜ (r ≡ clustersIn (now (table .entry)) direction) × Readable (now (table .entry)) r ⌝ }
+{
+    let at = direction_at(table, direction);
+    if at == 0 {
+        return Lookup::Absent;
+    }
+    Lookup::There {
+        at: at + 6,
+        base: fields::u16_at(table, at + 2),
+        head: lookup_find::head_at(table, at + 6),
+    }
+}
+
+// The lookup of a direction's action lists.
+pub fn lists_in(table: &[u8], direction: Direction) -> Lookup
+    ensures { λ r. ⌜ (r ≡ listsIn (now (table .entry)) direction) × Readable (now (table .entry)) r ⌝ }
+{
+    let at = direction_at(table, direction);
+    if at == 0 {
+        return Lookup::Absent;
+    }
+    let offset = fields::u16_at(table, at + 4);
+    if offset == 0 {
+        return Lookup::Absent;
+    }
+    Lookup::There {
+        at: offset,
+        base: offset,
+        head: lookup_find::head_at(table, offset),
+    }
+}
+
+// Where a glyph's width records stand, by the lookup of a direction's clusters.
+pub fn cluster_by(table: &[u8], count: u32, clusters: Lookup, glyph: u16) -> Spot
+    requires { ⌜ Readable (now table) clusters × Sound (now table) count clusters ⌝ }
+    ensures { λ r. ⌜ (r ≡ spotBy (now (table .entry)) count Clusters clusters glyph) × Below (2 ^ 17) r ⌝ }
+{
+    let Lookup::There { at, base, head } = clusters else {
+        return Spot::Nowhere;
+    };
+    if head.format == 2 {
+        let looked = lookup_find::find_units(table, 2, count as usize, at, head, glyph);
+        let found = looked.found;
+        return lookup_targets::spot_of(Kind::Clusters, base, found);
+    }
+    let looked = lookup_find::find_by(table, count as usize, at, head, glyph);
+    let found = looked.found;
+    lookup_targets::spot_of(Kind::Clusters, base, found)
+}
+
+// Where a glyph's actions stand, by the lookup of a direction's lists.
+pub fn list_by(table: &[u8], count: u32, lists: Lookup, glyph: u16) -> Spot
+    requires { ⌜ Readable (now table) lists × Sound (now table) count lists ⌝ }
+    ensures { λ r. ⌜ (r ≡ spotBy (now (table .entry)) count Lists lists glyph) × Below (2 ^ 17) r ⌝ }
+{
+    let Lookup::There { at, base, head } = lists else {
+        return Spot::Nowhere;
+    };
+    if head.format == 2 {
+        let looked = lookup_find::find_units(table, 2, count as usize, at, head, glyph);
+        let found = looked.found;
+        return lookup_targets::spot_of(Kind::Lists, base, found);
+    }
+    let looked = lookup_find::find_by(table, count as usize, at, head, glyph);
+    let found = looked.found;
+    lookup_targets::spot_of(Kind::Lists, base, found)
+}
+
+// Where a glyph's width records stand in a direction.
+pub fn cluster_spot(table: &[u8], count: u32, direction: Direction, glyph: u16) -> Spot
+    requires { ⌜ tableFault (now table) count ≡ Clear ⌝ }
+    ensures { λ r. ⌜ (r ≡ clusterSpot (now (table .entry)) count direction glyph) × Below (2 ^ 17) r ⌝ }
+{
+    let clusters = clusters_in(table, direction);
+    cluster_by(table, count, clusters, glyph)
+}
+
+// The width record of a class in the cluster at a position.
+fn record_at(table: &[u8], at: usize, class: u8) -> RecordAnswer
+    requires { ⌜ at < 2 ^ 17 ⌝ }
+    ensures { λ r. ⌜ saysRecord r ≡ given (maybe pair (recordOf class (clusterAt (now (table .entry)) at))) ⌝ }
+{
+    match cluster::record_of(table, at, class) {
+        cluster::Sought::Record(pair) => RecordAnswer::Record(pair),
+        cluster::Sought::Nothing => RecordAnswer::Nothing,
+    }
+}
+
+// The width record of a glyph and a class in a direction.
+pub fn record_of(
+    table: &[u8],
+    count: u32,
+    direction: Direction,
+    glyph: u16,
+    class: u8,
+) -> RecordAnswer
+    requires { ⌜ tableFault (now table) count ≡ Clear ⌝ }
+    ensures { λ r. ⌜ saysRecord r ≡ given (ask (meaningOf (now (table .entry)) count) (along direction (width glyph class))) ⌝ }
+{
+    match cluster_spot(table, count, direction, glyph) {
+        Spot::At(at) => record_at(table, at, class),
+        Spot::Nowhere => RecordAnswer::Nothing,
+    }
+}
+
+// Where a glyph's actions stand in a direction.
+pub fn list_spot(table: &[u8], count: u32, direction: Direction, glyph: u16) -> Spot
+    requires { ⌜ tableFault (now table) count ≡ Clear ⌝ }
+    ensures { λ r. ⌜ (r ≡ listSpot (now (table .entry)) count direction glyph) × Below (2 ^ 17) r ⌝ }
+{
+    let lists = lists_in(table, direction);
+    list_by(table, count, lists, glyph)
+}
+
+// Where the action of a glyph with a number stands in a direction.
+pub fn action_spot(table: &[u8], count: u32, direction: Direction, glyph: u16, number: u16) -> Spot
+    requires { ⌜ tableFault (now table) count ≡ Clear ⌝ }
+    ensures { λ r. ⌜ (r ≡ actionSpot (now (table .entry)) count direction glyph number) × Below (2 ^ 50) r ⌝ }
+{
+    match list_spot(table, count, direction, glyph) {
+        Spot::At(at) => actions::place_of(table, at, number),
+        Spot::Nowhere => Spot::Nowhere,
+    }
+}
+
+// The action of a glyph with a number in a direction. Data of more than 76 bytes, which no action of an accepted
+// table has, is cut there.
+pub fn action_of(
+    table: &[u8],
+    count: u32,
+    direction: Direction,
+    glyph: u16,
+    number: u16,
+) -> ActionAnswer
+    requires { ⌜ tableFault (now table) count ≡ Clear ⌝ }
+    ensures { λ r. ⌜ (saysAction r ≡ given (cut (ask (meaningOf (now (table .entry)) count) (along direction (action glyph number))))) × (r .action ≡ roomAfter (given (cut (ask (meaningOf (now (table .entry)) count) (along direction (action glyph number)))))) ⌝ }
+{
+    match action_spot(table, count, direction, glyph, number) {
+        Spot::At(at) => ActionAnswer {
+            sought: Sought::Found,
+            action: actions::action_at(table, at),
+        },
+        Spot::Nowhere => answers::no_action(Sought::Nothing),
+    }
+}
+
+// The glyph count of an accepted table.
+pub fn ask_count(table: &[u8], count: u32) -> CountAnswer
+    ensures { λ r. ⌜ saysCount r ≡ unlessBad (tableFault (now (table .entry)) count) (ask (meaningOf (now (table .entry)) count) glyphCount) ⌝ }
+{
+    match table::table_fault(table, count) {
+        Fault::Clear => CountAnswer::Count(count),
+        Fault::Bad { refusal, at: _ } => CountAnswer::Refused(refusal),
+    }
+}
+
+// The row count and the class count, of an accepted table.
+pub fn ask_sizes(table: &[u8], count: u32, direction: Direction) -> SizesAnswer
+    ensures { λ r. ⌜ saysSizes r ≡ unlessBad (tableFault (now (table .entry)) count) (ask (meaningOf (now (table .entry)) count) (along direction sizes)) ⌝ }
+{
+    match table::table_fault(table, count) {
+        Fault::Clear => sizes_of(table, count, direction),
+        Fault::Bad { refusal, at: _ } => SizesAnswer::Refused(refusal),
+    }
+}
+
+// The class of a glyph, of an accepted table.
+pub fn ask_class(table: &[u8], count: u32, direction: Direction, glyph: u16) -> ClassAnswer
+    ensures { λ r. ⌜ saysClass r ≡ unlessBad (tableFault (now (table .entry)) count) (ask (meaningOf (now (table .entry)) count) (along direction (class glyph))) ⌝ }
+{
+    match table::table_fault(table, count) {
+        Fault::Clear => class_of(table, count, direction, glyph),
+        Fault::Bad { refusal, at: _ } => ClassAnswer::Refused(refusal),
+    }
+}
+
+// What a cell holds, of an accepted table.
+pub fn ask_cell(table: &[u8], count: u32, direction: Direction, row: u16, class: u16) -> CellAnswer
+    ensures { λ r. ⌜ saysCell r ≡ unlessBad (tableFault (now (table .entry)) count) (ask (meaningOf (now (table .entry)) count) (along direction (cell row class))) ⌝ }
+{
+    match table::table_fault(table, count) {
+        Fault::Clear => cell_of(table, count, direction, row, class),
+        Fault::Bad { refusal, at: _ } => CellAnswer::Refused(refusal),
+    }
+}
+
+// The width record of a glyph and a class, of an accepted table.
+pub fn ask_record(
+    table: &[u8],
+    count: u32,
+    direction: Direction,
+    glyph: u16,
+    class: u8,
+) -> RecordAnswer
+    ensures { λ r. ⌜ saysRecord r ≡ unlessBad (tableFault (now (table .entry)) count) (ask (meaningOf (now (table .entry)) count) (along direction (width glyph class))) ⌝ }
+{
+    match table::table_fault(table, count) {
+        Fault::Clear => record_of(table, count, direction, glyph, class),
+        Fault::Bad { refusal, at: _ } => RecordAnswer::Refused(refusal),
+    }
+}
+
+// The action of a glyph with a number, of an accepted table.
+pub fn ask_action(
+    table: &[u8],
+    count: u32,
+    direction: Direction,
+    glyph: u16,
+    number: u16,
+) -> ActionAnswer
+    ensures { λ r. ⌜ (saysAction r ≡ unlessBad (tableFault (now (table .entry)) count) (ask (meaningOf (now (table .entry)) count) (along direction (action glyph number)))) × (r .action ≡ roomAfter (unlessBad (tableFault (now (table .entry)) count) (ask (meaningOf (now (table .entry)) count) (along direction (action glyph number))))) ⌝ }
+{
+    match table::table_fault(table, count) {
+        Fault::Clear => action_of(table, count, direction, glyph, number),
+        Fault::Bad { refusal, at: _ } => answers::no_action(Sought::Refused(refusal)),
+    }
+}
+
+// Where the component list stands that direction, glyph and number name; an empty stretch where that is no type 0
+// action of an accepted table.
+pub fn components_at(
+    table: &[u8],
+    count: u32,
+    direction: Direction,
+    glyph: u16,
+    number: u16,
+) -> Stretch
+    ensures { λ r. ⌜ r ≡ componentsOf (now (table .entry)) count direction glyph number ⌝ }
+{
+    let fault = table::table_fault(table, count);
+    if let Fault::Bad { refusal: _, at: _ } = fault {
+        return Stretch { from: 0, to: 0 };
+    }
+    match action_spot(table, count, direction, glyph, number) {
+        Spot::At(at) => actions::components_at(table, at),
+        Spot::Nowhere => Stretch { from: 0, to: 0 },
+    }
+}
+
+// That component list, as a part of the lent table.
+pub fn components(table: &[u8], count: u32, direction: Direction, glyph: u16, number: u16) -> &[u8]
+    ensures { λ r. ⌜ (now r ≡ stretch (now (table .entry)) (componentsOf (now (table .entry)) count direction glyph number)) × (r .ptr ≡ placeIn (table .entry .ptr) (componentsOf (now (table .entry)) count direction glyph number)) ⌝ }
+{
+    let list = components_at(table, count, direction, glyph, number);
+    let from = list.from;
+    let to = list.to;
+    &table[from..to]
+}

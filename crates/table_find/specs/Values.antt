@@ -1,0 +1,71 @@
+-- The value that a find gives a glyph in a direction's lookup of one kind, and how many units it looked at; how many units there are for a find,
+-- and the bound on its looks (document 02, 9/14).
+use Prim.Native.Nat.{ℕ, zero, suc, _+_, _^_}
+use mathlib.Core.List.{List}
+use mathlib.Core.Bool.{cond}
+use lib.Dec.{ltb}
+use Rattle.fields.specs.declared.Fault.{Fault}
+use Rattle.fields.specs.declared.Fault.the-variants.{Clear, Bad}
+use Rattle.types.specs.declared.Direction.{Direction}
+use Rattle.lookup.specs.declared.Found.{Found}
+use Rattle.lookup.specs.declared.Found.the-variants as found
+use Rattle.lookup.specs.Find.{valueOf}
+use Rattle.lookup_find.specs.Halves.{openCount, looksOf}
+use Rattle.lookup_targets.specs.declared.Kind.{Kind}
+use Rattle.lookup_targets.specs.declared.Kind.the-variants.{Clusters, Lists}
+use Rattle.table.specs.Table.{tableFault}
+use Rattle.table_ask.specs.declared.Lookup.{Lookup}
+use Rattle.table_ask.specs.declared.Lookup.the-variants.{Absent, There}
+use Rattle.table_find.specs.declared.ValueAnswer.{ValueAnswer}
+use Rattle.table_find.specs.declared.ValueAnswer.the-variants.{Value, Nothing, Refused}
+use Rattle.table_find.specs.declared.UnitsAnswer.{UnitsAnswer}
+use Rattle.table_find.specs.declared.UnitsAnswer.the-variants as units
+use Rattle.table_ask.specs.Places.{clustersIn, listsIn}
+
+abbrev pub lookupIn : List ℕ → Direction → Kind → Lookup
+lookupIn t d Clusters = clustersIn t d
+lookupIn t d Lists = listsIn t d
+
+-- a value, or none, and the looks
+abbrev pub withLooks : ℕ → Found → ValueAnswer
+withLooks looks (found.Value v) = Value v looks
+withLooks looks found.Nothing = Nothing looks
+
+-- what a find gives in a lookup; an absent one has no value, and takes no look
+abbrev pub foundIn : List ℕ → ℕ → Lookup → ℕ → ValueAnswer
+foundIn t n Absent glyph = Nothing 0
+foundIn t n (There at base head) glyph = withLooks (looksOf t at glyph) (valueOf t n at glyph)
+
+abbrev pub unlessRefused : Fault → ValueAnswer → ValueAnswer
+unlessRefused Clear a = a
+unlessRefused (Bad r at) a = Refused r
+
+unfoldable pub valueAsked : List ℕ → ℕ → Direction → Kind → ℕ → ValueAnswer
+valueAsked t n d kind glyph = unlessRefused (tableFault t n) (foundIn t n (lookupIn t d kind) glyph)
+
+-- how many units a find can look at in a lookup, the closing one left out
+abbrev pub unitsIn : List ℕ → Lookup → ℕ
+unitsIn t Absent = 0
+unitsIn t (There at base head) = openCount t at
+
+-- The least b, `from` or more, for which 2 to the power b exceeds n. It is at most n, so that n turns from 0 on are enough; `turns` counts them.
+unfoldable pub leastFrom : ℕ → ℕ → ℕ → ℕ
+leastFrom zero from n = from
+leastFrom (suc turns) from n = cond (ltb n (2 ^ from)) from (leastFrom turns (from + 1) n)
+
+abbrev pub leastOver : ℕ → ℕ
+leastOver n = leastFrom n 0 n
+
+-- the units of a lookup, and the bound on the looks of a find there
+abbrev pub unitsSaid : Fault → ℕ → UnitsAnswer
+unitsSaid Clear n = units.Units n (leastOver n)
+unitsSaid (Bad r at) n = units.Refused r
+
+unfoldable pub unitsAsked : List ℕ → ℕ → Direction → Kind → UnitsAnswer
+unitsAsked t n d kind = unitsSaid (tableFault t n) (unitsIn t (lookupIn t d kind))
+
+-- how many looks an answer reports; a refusal none
+abbrev pub looksSaid : ValueAnswer → ℕ
+looksSaid (Value v looks) = looks
+looksSaid (Nothing looks) = looks
+looksSaid (Refused r) = 0
