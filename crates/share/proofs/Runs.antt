@@ -19,6 +19,7 @@ module _ (r t w q m : ℕ) where
   carried-on p n l e h = record {
     carries = λ c s. record { quotient = up c s; remainder = over c s };
     share = λ c s. let a = up c s in let b = s .quotient in omega arith;
+    kept = e;
     below = l;
     rises = h;
   }

@@ -27,9 +27,11 @@ pub record Carriable (r t w q m : ℕ) : Type 0 where
   pub quotient : q ≤ farthest
 
 -- one side's step is right: whatever running total q and m are carried at, p and n are carried at that total and the side's weight, and the side's share by step 1's
--- formula is what the quotient rises by
+-- formula is what the quotient rises by. Where q and m are carried at no running total, `kept` and `below` still fix p and n: quotient and remainder, by t, of
+-- m + r × w + q × t
 pub record CarriedOn (r t w q m p n : ℕ) : Type 0 where
   pub carries : (c : ℕ) → Carries r t c q m → Carries r t (c + w) p n
   pub share : (c : ℕ) → Carries r t c q m → p - q ≡ shareAt r t c w
+  pub kept : n + p * t ≡ m + r * w + q * t
   pub below : n < t
   pub rises : q ≤ p
