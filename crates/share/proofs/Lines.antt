@@ -9,14 +9,14 @@ use native.Mathlib.Numerals.{add-one}
 use lib.Dec.{leb}
 use lib.IntN.{ℤ, pos, negℤ, _+ℤ_, negℤ-+ℤ}
 use lib.ListN.{length, drop, take, getD, replicate}
-use borrow.Author.Tests.{le-leb, lt-leb, leb-true}
+use borrow.Author.Tests.{leb-true}
 use Rattle.share.specs.Share.{total, still, plus, stages, goesBack, noPart, movements, remainder, most, within}
 use Rattle.share.specs.Line.{Glyph, apart, sideStages, sideFactors, sideExtras, evens, odds, lineMoves, beforeMoves, afterMoves, lineLeft, lineFits, signedOf, glyphsOf, Parts, Lent, nothingMoves, sumℤ}
 use Rattle.share.specs.Inner.{weave, factorsAt, lineOf, Moved, stageCount}
 use Rattle.share.proofs.Lists.{length-still}
 use Rattle.share.proofs.Theory.{sum-is-gap, length-movesBy, no-part-still, both, remainder-is}
 use Rattle.share.proofs.Halves.{total-halves, length-halves, getD-evens, getD-odds, length-weave}
-use Rattle.share.proofs.Stages.{at-stage, at-end}
+use Rattle.share.proofs.Stages.{at-stage}
 
 -- ---- the sides of listed glyphs
 
@@ -74,18 +74,6 @@ module _ (ks bs cs : List ℕ) where
   within-at : (s : ℕ) → s < stageCount → {b : Bool} → b ≡ within (weave ks ks) (weave bs cs) (drop s stages)
       → b ≡ (leb (total (factorsAt s ks bs cs)) most && within (weave ks ks) (weave bs cs) (drop (s + 1) stages))
   within-at s h e = e ∙ ap (within (weave ks ks) (weave bs cs)) (at-stage s h)
-
-  pub within-on : {s : ℕ} {b : Bool} → s < stageCount → total (factorsAt s ks bs cs) ≤ most → b ≡ within (weave ks ks) (weave bs cs) (drop s stages)
-      → b ≡ within (weave ks ks) (weave bs cs) (drop (s + 1) stages)
-  within-on {s} h l e =
-      within-at s h e ∙ ap (λ (t : Bool). t && within (weave ks ks) (weave bs cs) (drop (s + 1) stages)) (le-leb (total (factorsAt s ks bs cs)) most l)
-
-  pub within-over : {s : ℕ} {b : Bool} → s < stageCount → most < total (factorsAt s ks bs cs) → b ≡ within (weave ks ks) (weave bs cs) (drop s stages) → false ≡ b
-  within-over {s} h l e =
-      sym (within-at s h e ∙ ap (λ (t : Bool). t && within (weave ks ks) (weave bs cs) (drop (s + 1) stages)) (lt-leb (total (factorsAt s ks bs cs)) most l))
-
-  pub within-end : {s : ℕ} {b : Bool} → s ≡ stageCount → b ≡ within (weave ks ks) (weave bs cs) (drop s stages) → true ≡ b
-  within-end {s} h e = sym (e ∙ ap (within (weave ks ks) (weave bs cs)) (at-end s h))
 
   -- what the test says of each stage
   split : (s : ℕ) → s < stageCount → within (weave ks ks) (weave bs cs) (drop s stages) ≡ true

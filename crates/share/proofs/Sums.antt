@@ -1,18 +1,23 @@
 -- The totals of the stages: what the loop over the glyphs keeps of each, and what the totals that it finds say of a line.
 use mathlib.Core.Path.{_≡_, refl, sym, ap, _∙_, subst}
 use mathlib.Core.List.{List}
-use mathlib.Core.Bool.{Bool, true, false}
+use mathlib.Core.Bool.{Bool, true, false, _&&_}
 use Prim.Native.Nat.{ℕ, zero, suc, _+_, _*_, _≤_, _<_}
 use native.Mathlib.Omega.{arith}
 use native.Mathlib.Decide.{ℕ-discrete, decLt}
+use lib.Dec.{leb}
 use lib.ListN.{length, drop, replicate, getD, set, length-set}
 use lib.Seq.{getD-set-same, getD-set-other}
+use borrow.Author.Tests.{le-leb, lt-leb}
 use Rattle.share.specs.Share.{total, most, stages, within}
 use Rattle.share.specs.Carry.{widest}
-use Rattle.share.specs.Inner.{weave, factorsAt, stageCount, totalAt, TotalsOf, Fit}
+use Rattle.share.specs.Line.{Lent, glyphsOf, lineFits}
+use Rattle.share.specs.Inner.{weave, factorsAt, stageCount, totalAt, totalsWithin, TotalsOf, Fit}
 use Rattle.share.specs.declared.Totals.{Totals}
 use Rattle.share.proofs.Sides.{rest, rest-hit, rest-miss, rest-end}
-use Rattle.share.proofs.Lines.{within-on, within-over, fit-low}
+use Rattle.share.proofs.Steps.{lent-parts}
+use Rattle.share.proofs.Stages.{at-stage, at-end}
+use Rattle.share.proofs.Lines.{fits-is, fit-low}
 
 -- ---- the loop
 
@@ -83,14 +88,28 @@ module _ (ks bs cs : List ℕ) where
 
 -- ---- what they say
 
-module _ {ts : Totals} {ks bs cs : List ℕ} (w : TotalsOf ts ks bs cs) where
+module _ (ts : Totals) (s : ℕ) {b : Bool} (e : b ≡ totalsWithin ts (drop s stages)) where
   -- refusal 15's test goes on to the next stage, or fails
-  pub fits-on : (s : ℕ) {b : Bool} → s < stageCount → totalAt ts s ≤ most → b ≡ within (weave ks ks) (weave bs cs) (drop s stages)
-      → b ≡ within (weave ks ks) (weave bs cs) (drop (s + 1) stages)
-  fits-on s h l e = within-on ks bs cs {s = s} h (omega (arith, w .at s h)) e
+  totals-at : s < stageCount → b ≡ (leb (totalAt ts s) most && totalsWithin ts (drop (s + 1) stages))
+  totals-at h = e ∙ ap (totalsWithin ts) (at-stage s h)
 
-  pub fits-over : (s : ℕ) {b : Bool} → s < stageCount → most < totalAt ts s → b ≡ within (weave ks ks) (weave bs cs) (drop s stages) → false ≡ b
-  fits-over s h l e = within-over ks bs cs {s = s} h (omega (arith, w .at s h)) e
+  pub totals-on : s < stageCount → totalAt ts s ≤ most → b ≡ totalsWithin ts (drop (s + 1) stages)
+  totals-on h l = totals-at h ∙ ap (λ (t : Bool). t && totalsWithin ts (drop (s + 1) stages)) (le-leb (totalAt ts s) most l)
+
+  pub totals-over : s < stageCount → most < totalAt ts s → false ≡ b
+  totals-over h l = sym (totals-at h ∙ ap (λ (t : Bool). t && totalsWithin ts (drop (s + 1) stages)) (lt-leb (totalAt ts s) most l))
+
+  pub totals-end : s ≡ stageCount → true ≡ b
+  totals-end h = sym (e ∙ ap (totalsWithin ts) (at-end s h))
+
+module _ {ts : Totals} {ks bs cs : List ℕ} (w : TotalsOf ts ks bs cs) where
+  totals-within : totalsWithin ts stages ≡ within (weave ks ks) (weave bs cs) stages
+  unfolding stages
+  totals-within = rw (w .at 0 (omega arith), w .at 1 (omega arith), w .at 2 (omega arith), w .at 3 (omega arith))
+
+  -- of a line's totals the test is that of the line
+  pub totals-line : {us : List ℕ} → Lent (length ks) ks us bs cs → totalsWithin ts stages ≡ lineFits (glyphsOf ks us bs cs)
+  totals-line {us} l = totals-within ∙ sym (fits-is (lent-parts l) us (l .extras))
 
   pub fit : within (weave ks ks) (weave bs cs) stages ≡ true → Fit ts ks bs cs
   fit e = record { totals = w; low = λ s h. omega (arith, w .at s h, fit-low ks bs cs e s h) }

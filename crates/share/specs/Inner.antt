@@ -2,7 +2,9 @@
 -- what is added to the movements.
 use Prim.Native.Nat.{ℕ, _+_, _≤_, _<_, _^_}
 use mathlib.Core.Path.{_≡_}
+use mathlib.Core.Bool.{Bool, true, _&&_}
 use mathlib.Core.List.{List, [], _∷_}
+use lib.Dec.{leb}
 use lib.ListN.{length, getD}
 use Rattle.share.specs.Share.{total, still, plus, ofStage, shareAt, most}
 use Rattle.share.specs.Carry.{Carries, Carriable}
@@ -68,6 +70,11 @@ stageCount = 4
 
 abbrev pub totalAt : Totals → ℕ → ℕ
 totalAt ts s = getD (ts .sums) s 0
+
+-- every one of these stages has a total of at most what it may be
+abbrev pub totalsWithin : Totals → List ℕ → Bool
+totalsWithin ts [] = true
+totalsWithin ts (s ∷ ss) = leb (totalAt ts s) most && totalsWithin ts ss
 
 pub record TotalsOf (ts : Totals) (ks bs cs : List ℕ) : Type 0 where
   pub at : (s : ℕ) → s < stageCount → totalAt ts s ≡ total (factorsAt s ks bs cs)

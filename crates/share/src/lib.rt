@@ -6,11 +6,11 @@ ghost use Prim.Native.Nat.{ℕ, _+_, _*_, _≤_, _<_, _^_};
 ghost use lib.ListN.{length, replicate};
 ghost use lib.Dec.{ltb};
 ghost use mathlib.Core.Bool.{true, cond};
-ghost use mathlib.Core.List.{List, map};
+ghost use mathlib.Core.List.{map};
 ghost use Rattle.share.specs.Share.{total, most, plus, shares, stages, stageMoves, stageLeft, stagesMoves, stagesLeft, backMoves, backLeft, movements, remainder};
 ghost use Rattle.share.specs.Carry.{widest, Carriable, CarriedOn};
 ghost use Rattle.share.specs.Line.{evens, odds, glyphsOf, lineLeft, lineFits, beforeMoves, afterMoves, signedOf, Parts, Lent};
-ghost use Rattle.share.specs.Inner.{weave, factorsAt, extrasAt, lineOf, Runs, Ready, Stepped, Moved, Holds, Sides, stageCount, totalAt, TotalsOf, Fit};
+ghost use Rattle.share.specs.Inner.{weave, factorsAt, extrasAt, lineOf, Runs, Ready, Stepped, Moved, Holds, Sides, stageCount, totalAt, totalsWithin, TotalsOf, Fit};
 
 // The most that a stage's total may be.
 const MOST: u64 = 8589934592;
@@ -136,9 +136,10 @@ pub fn line_totals(priorities: &[u8], first: &[u64], second: &[u64]) -> Totals
     Totals { sums }
 }
 
-// Refusal 15's test: whether no stage's total is above the most that it may be.
+// Refusal 15's test: whether no stage's total is above the most that it may be. On a line's totals it is `lineFits`, by `totals-line` of
+// proofs/Sums.antt.
 pub fn totals_fit(totals: Totals) -> bool
-    ensures { λ r. ⌜ ((ks us bs cs : List ℕ) → Lent (length ks) ks us bs cs → TotalsOf totals ks bs cs → r ≡ lineFits (glyphsOf ks us bs cs)) ⌝ }
+    ensures { λ r. ⌜ r ≡ totalsWithin totals stages ⌝ }
 {
     let mut stage: u8 = 0;
     while stage < STAGES {

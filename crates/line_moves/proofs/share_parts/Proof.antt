@@ -5,6 +5,7 @@ use mir.ValLaws.{toZ-ofZ}
 use mathlib.Core.List.{List}
 use mathlib.Core.Path.{sym, ap, _∙_}
 use Rattle.share.specs.Line.{Glyph, lineLeft, signedOf}
+use Rattle.share.proofs.Sums.{totals-line}
 use Rattle.table.specs.Means.{meaningOf}
 use Rattle.meaning.specs.Ask.{sideOf}
 use Rattle.line_rule.specs.Line.{partsOf}
@@ -37,7 +38,7 @@ share-line-requires c κs =
     let q = parts-length (sideOf (a .shape .direction) (meaningOf (a .table .now) (a .count))) (a .shrink) (a .shape .size) (a .glyphs .now) (a .classes .now) (p .0 .1) in
     let m = laid-priorities w in
     let l = laid-lent w (omega (arith, p .1 .1 .2)) nn in
-    (l, ((omega (arith, p .1 .1 .0), omega (arith, p .1 .1 .1)), (p .1 .1 .3, c .before .before .before .before .before .before .before .before .line-totals .ensures, sym (c .before .before .before .before .before .before .before .totals-fit .ensures _ _ _ _ l (c .before .before .before .before .before .before .before .before .line-totals .ensures)) ∙ c .before .before .before .before .before .before .if1 .taken)))
+    (l, ((omega (arith, p .1 .1 .0), omega (arith, p .1 .1 .1)), (p .1 .1 .3, c .before .before .before .before .before .before .before .before .line-totals .ensures, sym (c .before .before .before .before .before .before .before .totals-fit .ensures ∙ totals-line (c .before .before .before .before .before .before .before .before .line-totals .ensures) l) ∙ c .before .before .before .before .before .before .if1 .taken)))
 
 signed-requires : tie.Need-signed-requires
 signed-requires c κs =
@@ -71,7 +72,7 @@ returns c =
     let w = c .before .before .before .before .before .before .before .before .before .before .before .before .before .before .before .before .before .before .before .before .before .before .before .before .lay-parts .ensures in
     let q = parts-length (sideOf (a .shape .direction) (meaningOf (a .table .now) (a .count))) (a .shrink) (a .shape .size) (a .glyphs .now) (a .classes .now) (c .before .before .before .before .before .before .before .before .before .before .before .before .before .before .before .before .before .before .before .before .before .before .before .before .before .before .before .before .before .before .before .before .before .before .before .before .pre .0 .1) in
     let e = c .before .before .before .share-line .ensures in
-    shared-left (a .shrink) (a .gap) _ _ (laid-glyphs w) (a .before .now) (a .after .now) (laid-fits w (c .before .before .before .before .before .before .before .before .before .before .before .totals-fit .ensures _ _ _ _ (laid-lent w (omega (arith, c .before .before .before .before .before .before .before .before .before .before .before .before .before .before .before .before .before .before .before .before .before .before .before .before .before .before .before .before .before .before .before .before .before .before .before .before .pre .1 .1 .2)) nn) (c .before .before .before .before .before .before .before .before .before .before .before .before .line-totals .ensures)) ∙ c .before .before .before .before .before .before .before .before .before .before .if1 .taken) (toZ-ofZ w32 (c .signed .result) (record { sfits = c .signed .ok }) ∙ c .signed .ensures ∙ ap (signedOf (a .shrink)) (e .0)) (e .1 .0) (e .1 .1)
+    shared-left (a .shrink) (a .gap) _ _ (laid-glyphs w) (a .before .now) (a .after .now) (laid-fits w (c .before .before .before .before .before .before .before .before .before .before .before .totals-fit .ensures ∙ totals-line (c .before .before .before .before .before .before .before .before .before .before .before .before .line-totals .ensures) (laid-lent w (omega (arith, c .before .before .before .before .before .before .before .before .before .before .before .before .before .before .before .before .before .before .before .before .before .before .before .before .before .before .before .before .before .before .before .before .before .before .before .before .pre .1 .1 .2)) nn)) ∙ c .before .before .before .before .before .before .before .before .before .before .if1 .taken) (toZ-ofZ w32 (c .signed .result) (record { sfits = c .signed .ok }) ∙ c .signed .ensures ∙ ap (signedOf (a .shrink)) (e .0)) (e .1 .0) (e .1 .1)
 
 same-length-7 : tie.Need-same-length-7
 same-length-7 c = search needs
@@ -91,7 +92,7 @@ returns-2 c =
     let nn = parts-narrow (sideOf (a .shape .direction) (meaningOf (a .table .now) (a .count))) (a .shrink) (a .shape .size) (record-limits (a .table .now) (a .count) (a .shape .direction) (λ i. c .before .before .before .before .before .before .before .before .before .before .before .before .before .before .before .before .before .before .before .before .before .before .before .before .before .shared-slice-known .given i .fits) (c .before .before .before .before .before .before .before .before .before .before .before .before .before .before .before .before .before .before .before .before .before .before .before .before .before .before .pre .0 .0)) (c .before .before .before .before .before .before .before .before .before .before .before .before .before .before .before .before .before .before .before .before .before .before .before .before .before .before .pre .1 .1 .4) (a .glyphs .now) (a .classes .now) in
     let w = c .before .before .before .before .before .before .before .before .before .before .before .before .before .before .lay-parts .ensures in
     let q = parts-length (sideOf (a .shape .direction) (meaningOf (a .table .now) (a .count))) (a .shrink) (a .shape .size) (a .glyphs .now) (a .classes .now) (c .before .before .before .before .before .before .before .before .before .before .before .before .before .before .before .before .before .before .before .before .before .before .before .before .before .before .pre .0 .1) in
-    shared-over (a .shrink) (a .gap) _ (a .before .now) (a .after .now) (laid-fits w (c .before .totals-fit .ensures _ _ _ _ (laid-lent w (omega (arith, c .before .before .before .before .before .before .before .before .before .before .before .before .before .before .before .before .before .before .before .before .before .before .before .before .before .before .pre .1 .1 .2)) nn) (c .before .before .line-totals .ensures)) ∙ c .if1 .left)
+    shared-over (a .shrink) (a .gap) _ (a .before .now) (a .after .now) (laid-fits w (c .before .totals-fit .ensures ∙ totals-line (c .before .before .line-totals .ensures) (laid-lent w (omega (arith, c .before .before .before .before .before .before .before .before .before .before .before .before .before .before .before .before .before .before .before .before .before .before .before .before .before .before .pre .1 .1 .2)) nn)) ∙ c .if1 .left)
 
 pub share-parts-spec : {M : Type 1} → statement M
 share-parts-spec =
