@@ -150,6 +150,23 @@ pub line-sum : (gs : List Glyph) (gap : ℕ) → total (beforeMoves gs gap) + to
 unfolding lineMoves lineLeft
 line-sum gs gap = omega (arith, total-halves (lineMoves gs gap), sum-is-gap (sideStages gs) (sideFactors gs) (sideExtras gs) gap)
 
+-- NOTHING MOVES: of a gap of 0 every glyph's movements are 0, and nothing is left
+all-zero : (xs : List ℕ) → total xs ≡ 0 → xs ≡ replicate (length xs) 0
+all-zero [] e = refl
+all-zero (x ∷ xs) e =
+    let z : x ≡ 0 = omega arith in
+    let i : xs ≡ replicate (length xs) 0 = all-zero xs (omega arith) in
+    ap (λ (y : ℕ). y ∷ xs) z ∙ ap (λ (l : List ℕ). 0 ∷ l) i
+
+pub line-unmoved : (gs : List Glyph) → (beforeMoves gs 0 ≡ replicate (length gs) 0) × (afterMoves gs 0 ≡ replicate (length gs) 0) × (lineLeft gs 0 ≡ 0)
+line-unmoved gs =
+    let s = line-sum gs 0 in
+    let n = line-lengths gs 0 in (
+      all-zero (beforeMoves gs 0) (omega arith) ∙ ap (λ (k : ℕ). replicate k 0) (n .0),
+      all-zero (afterMoves gs 0) (omega arith) ∙ ap (λ (k : ℕ). replicate k 0) (n .1),
+      omega arith,
+    )
+
 -- WHEN THERE IS A REMAINDER
 pub line-remainder : (gs : List Glyph) (gap : ℕ)
     → lineLeft gs gap ≡ cond (nothingMoves gs) gap 0

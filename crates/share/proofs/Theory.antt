@@ -1,5 +1,5 @@
--- The staged rule's theorems, over any list of stages, with going back or without it: movements and remainder sum to the gap; each side has its
--- movement; a side of no stage stays still; and when there is a remainder.
+-- The staged rule's theorems, over any list of stages, with going back or without it: movements and remainder sum to the gap, and of a gap of 0 all are 0;
+-- each side has its movement; a side of no stage stays still; and when there is a remainder.
 use mathlib.Core.Path.{_≡_, refl, sym, ap, _∙_}
 use mathlib.Core.List.{List, [], _∷_}
 use mathlib.Core.Bool.{Bool, true, false, cond, _&&_, _||_, false≢true}
@@ -9,7 +9,7 @@ use lib.Dec.{leb, ltb, eqb}
 use lib.ListN.{length, getD}
 use borrow.Author.Tests.{ltb-true, ltb-false, leb-true, leb-false, eqb-true, eq-eqb, ne-eqb, le-ltb}
 use Rattle.share.specs.Share.{total, still, plus, ofStage, shares, stageMoves, stageLeft, stagesMoves, stagesLeft, backMoves, backLeft, movesBy, leftBy, stages, goesBack, noPart, movements, remainder, empty}
-use Rattle.share.proofs.Lists.{total-plus, total-still, length-plus, length-still, length-ofStage, length-shares, getD-plus, getD-still, getD-ofStage, getD-shares, total-shares, no-shares, total-shares-le}
+use Rattle.share.proofs.Lists.{total-plus, total-still, getD-le-total, length-plus, length-still, length-ofStage, length-shares, getD-plus, getD-still, getD-ofStage, getD-shares, total-shares, no-shares, total-shares-le}
 
 -- ---- the sum
 
@@ -55,6 +55,13 @@ sum-by ss false ks fs us gap =
 
 pub sum-is-gap : (ks fs us : List ℕ) (gap : ℕ) → total (movements ks fs us gap) + remainder ks fs us gap ≡ gap
 sum-is-gap ks fs us gap = sum-by stages goesBack ks fs us gap
+
+-- NOTHING MOVES: of a gap of 0 no side takes anything, and nothing is left
+pub none-moves : (ss : List ℕ) (back : Bool) (ks fs us : List ℕ) (i : ℕ) → getD (movesBy ss back ks fs us 0) i 0 ≡ 0
+none-moves ss back ks fs us i = omega (arith, sum-by ss back ks fs us 0, getD-le-total (movesBy ss back ks fs us 0) i)
+
+pub none-left : (ss : List ℕ) (back : Bool) (ks fs us : List ℕ) → leftBy ss back ks fs us 0 ≡ 0
+none-left ss back ks fs us = omega (arith, sum-by ss back ks fs us 0)
 
 -- ---- each side has its movement
 
