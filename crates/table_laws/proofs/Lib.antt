@@ -1,6 +1,7 @@
 pub mod Few
 pub mod Machines
 pub mod Faults
+pub mod Only
 pub mod Valid
 pub mod Absent
 pub mod Past

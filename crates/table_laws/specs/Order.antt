@@ -5,7 +5,7 @@ use mathlib.Core.Logic.{_⊎_}
 use mathlib.Core.List.{List, [], _∷_}
 use lib.ListN.{length}
 use Rattle.fields.specs.declared.Refusal.{Refusal}
-use Rattle.fields.specs.declared.Refusal.the-variants.{TableLength, GlyphCount, Version}
+use Rattle.fields.specs.declared.Refusal.the-variants.{TableLength, GlyphCount, Version, Outside}
 use Rattle.fields.specs.declared.Fault.{Fault}
 use Rattle.fields.specs.declared.Fault.the-variants.{Clear, Bad}
 use Rattle.fields.specs.Field.{u16At, u32At}
@@ -57,3 +57,9 @@ pub data BadHeader (t : List ℕ) (n : ℕ) : Refusal → Type 0 where
   length-fails : (length t < 10) ⊎ (32768 < length t) → BadHeader t n TableLength
   count-fails : 10 ≤ length t → length t ≤ 32768 → (n < 1) ⊎ (65535 < n) → BadHeader t n GlyphCount
   version-fails : 10 ≤ length t → length t ≤ 32768 → 1 ≤ n → n ≤ 65535 → (u32At t 0 ≡ 0x00010000 → ⊥) ⊎ (u16At t 4 ≡ 0 → ⊥) → BadHeader t n Version
+
+-- a part's fault: none, refusal 4, or its own refusal r
+pub data Only (r : Refusal) : Fault → Type 0 where
+  clear : Only r Clear
+  outside : (at : ℕ) → Only r (Bad Outside at)
+  own : (at : ℕ) → Only r (Bad r at)
