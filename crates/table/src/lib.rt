@@ -92,7 +92,7 @@ fn header_fault(table: &[u8], count: u32) -> Fault
 fn directions_fault(table: &[u8], glyphs: usize, judged: &mut [u8]) -> Fault
     requires { ⌜ glyphs < 2 ^ 16 ⌝ }
     requires { ⌜ Judged (now table) glyphs (now judged) ⌝ }
-    ensures { λ r. ⌜ r ≡ (directionFault (now (table .entry)) glyphs (u16At (now (table .entry)) 6) then directionFault (now (table .entry)) glyphs (u16At (now (table .entry)) 8)) ⌝ }
+    ensures { λ r. ⌜ (r ≡ (directionFault (now (table .entry)) glyphs (u16At (now (table .entry)) 6) then directionFault (now (table .entry)) glyphs (u16At (now (table .entry)) 8))) × Judged (now (table .entry)) glyphs (now (judged .exit)) ⌝ }
 {
     let first = fields::u16_at(table, 6);
     let horizontal = direction_fault(table, glyphs, first, judged);
@@ -110,7 +110,7 @@ fn directions_fault(table: &[u8], glyphs: usize, judged: &mut [u8]) -> Fault
 // by judging the same table with the same count. Where there are fewer, more is judged twice.
 fn fault_by(table: &[u8], count: u32, judged: &mut [u8]) -> Fault
     requires { ⌜ Judged (now table) count (now judged) ⌝ }
-    ensures { λ r. ⌜ r ≡ tableFault (now (table .entry)) count ⌝ }
+    ensures { λ r. ⌜ (r ≡ tableFault (now (table .entry)) count) × Judged (now (table .entry)) count (now (judged .exit)) ⌝ }
 {
     let header = header_fault(table, count);
     if let Fault::Bad { refusal: _, at: _ } = header {

@@ -16,7 +16,7 @@ enum-told c = search needs
 
 returns : tie.Need-returns
 unfolding tableFault
-returns c = let h = c .before .before .header-fault .ensures in h ∙ sym (then-stop _ (sym h ∙ c .enum-told .given .1))
+returns c = let h = c .before .before .header-fault .ensures in (h ∙ sym (then-stop _ (sym h ∙ c .enum-told .given .1)), c .before .before .before .before .before .pre)
 
 enum-told-2 : tie.Need-enum-told-2
 enum-told-2 c = search needs
@@ -29,7 +29,7 @@ same-length c = search needs
 
 returns-2 : tie.Need-returns-2
 unfolding tableFault
-returns-2 c = c .before .before .directions-fault .ensures ∙ sym (then-go _ (sym (c .before .before .before .before .before .before .header-fault .ensures) ∙ c .before .before .before .before .enum-told2 .given .1))
+returns-2 c = (c .before .before .directions-fault .ensures .0 ∙ sym (then-go _ (sym (c .before .before .before .before .before .before .header-fault .ensures) ∙ c .before .before .before .before .enum-told2 .given .1)), c .before .before .directions-fault .ensures .1)
 
 pub fault-by-spec : {M : Type 1} → statement M
 fault-by-spec =
