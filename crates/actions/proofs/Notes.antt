@@ -41,17 +41,17 @@ blank-passed t glyphs notes none = record { clear = λ i. walk-none _ _ _ _ _ _ 
 module _ {t : List ℕ} {glyphs : ℕ} where
   -- nothing is judged
   pub none-passing : {notes : List ℕ} → Passed t glyphs notes → Passing t glyphs notes notes
-  none-passing p = record { passed = p; rest = λ i. refl }
+  none-passing p = record { passed = p; kept = λ i. omega arith; rest = λ i. refl }
 
   -- one judging after the other
   pub both-passing : {before between after : List ℕ} → Passing t glyphs before between → Passing t glyphs between after → Passing t glyphs before after
-  both-passing p q = record { passed = q .passed; rest = λ i. q .rest i ∙ p .rest i }
+  both-passing p q = record { passed = q .passed; kept = λ i. omega (arith, p .kept i, q .kept i); rest = λ i. q .rest i ∙ p .rest i }
 
   -- actions that have no fault may be noted
-  pub more-passing : {notes : List ℕ} (at byte : ℕ) → Passed t glyphs notes → actionsFault t glyphs (byte / 4) at ≡ Clear → byte % 4 ≡ getD notes at 0 % 4
-      → Passing t glyphs notes (set notes at byte)
-  more-passing {notes} at byte p clear e =
-      record { passed = record { clear = λ i. passed i (ℕ-discrete i at) }; rest = λ i. rest i (ℕ-discrete i at) }
+  pub more-passing : {notes : List ℕ} (at byte : ℕ) → Passed t glyphs notes → actionsFault t glyphs (byte / 4) at ≡ Clear → getD notes at 0 / 4 ≤ byte / 4
+      → byte % 4 ≡ getD notes at 0 % 4 → Passing t glyphs notes (set notes at byte)
+  more-passing {notes} at byte p clear h e =
+      record { passed = record { clear = λ i. passed i (ℕ-discrete i at) }; kept = λ i. kept i (ℕ-discrete i at); rest = λ i. rest i (ℕ-discrete i at) }
     where
       passed-here : actionsFault t glyphs (getD (set notes at byte) at 0 / 4) at ≡ Clear
       passed-here =
@@ -63,6 +63,13 @@ module _ {t : List ℕ} {glyphs : ℕ} where
       passed : (i : ℕ) → Dec (i ≡ at) → actionsFault t glyphs (getD (set notes at byte) i 0 / 4) i ≡ Clear
       passed i (yes q) = rw q passed-here
       passed i (no n) = ap (λ (m : ℕ). actionsFault t glyphs (m / 4) i) (getD-set-other notes at i byte 0 n) ∙ p .clear i
+
+      kept-here : getD notes at 0 / 4 ≤ getD (set notes at byte) at 0 / 4
+      kept-here = ⊎-elim (λ s. omega (arith, s, h)) (λ s. omega (arith, s)) (set-here notes at byte)
+
+      kept : (i : ℕ) → Dec (i ≡ at) → getD notes i 0 / 4 ≤ getD (set notes at byte) i 0 / 4
+      kept i (yes q) = rw q kept-here
+      kept i (no n) = omega (arith, getD-set-other notes at i byte 0 n)
 
       rest-here : getD (set notes at byte) at 0 % 4 ≡ getD notes at 0 % 4
       rest-here = ⊎-elim (λ s. omega arith) (λ s. omega arith) (set-here notes at byte)
@@ -90,14 +97,14 @@ module _ (t : List ℕ) (glyphs : ℕ) where
   unfolding walk
   one-passing {notes} at byte p clear new e =
       let one : byte / 4 ≡ 1 = omega arith in
-      more-passing at byte p (ap (λ (k : ℕ). actionsFault t glyphs k at) one ∙ then-go _ clear) (omega arith)
+      more-passing at byte p (ap (λ (k : ℕ). actionsFault t glyphs k at) one ∙ then-go _ clear) (omega arith) (omega arith)
 
-  -- and `known` of actions without fault
+  -- and `known` of actions without fault, where that is more than is noted
   pub ahead-passing : {notes : List ℕ} (at byte note known left : ℕ) → Passed t glyphs notes → actionsFault t glyphs left at ≡ Clear → note ≡ getD notes at 0
-      → known ≤ left → byte ≡ 4 * known + note % 4 → Passing t glyphs notes (set notes at byte)
-  ahead-passing {notes} at byte note known left p clear e h b =
+      → note / 4 < known → known ≤ left → byte ≡ 4 * known + note % 4 → Passing t glyphs notes (set notes at byte)
+  ahead-passing {notes} at byte note known left p clear e more h b =
       let four : byte / 4 ≤ left = omega arith in
-      more-passing at byte p (each-fewer (actionFault t glyphs) (λ q. q + u32At t (q + 4)) (byte / 4) left at four clear) (omega arith)
+      more-passing at byte p (each-fewer (actionFault t glyphs) (λ q. q + u32At t (q + 4)) (byte / 4) left at four clear) (omega arith) (omega arith)
 
   -- some actions from `first` on were passed, and the next one stands at `at`
   pub none-yet : (first k : ℕ) → actionsFault t glyphs (0 + k) first ≡ actionsFault t glyphs k first

@@ -279,10 +279,10 @@ pub fn unit_count(table: &[u8], format: usize, at: usize) -> usize
     0
 }
 
-// A pass over the lookup at `at` begins.
+// A pass over the lookup at `at` begins: at its first counted unit.
 pub fn begin(table: &[u8], at: usize) -> Cursor
     requires { ⌜ at < 2 ^ 32 ⌝ }
-    ensures { λ r. ⌜ ((glyphs : ℕ) → lookupFault (now (table .entry)) glyphs at ≡ Clear → Serves (now (table .entry)) at 0 r) ⌝ }
+    ensures { λ r. ⌜ (r ≡ record { at = at + 12; left = unitCount (now (table .entry)) at }) × ((glyphs : ℕ) → lookupFault (now (table .entry)) glyphs at ≡ Clear → Serves (now (table .entry)) at 0 r) ⌝ }
 {
     let format = fields::u16_at(table, at);
     Cursor {

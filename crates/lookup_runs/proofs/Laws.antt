@@ -5,7 +5,7 @@ use mathlib.Core.Bool.{Bool, true, false, cond}
 use mathlib.Core.Path.{_≡_, refl, sym, _∙_, ap}
 use native.Mathlib.Omega.{arith}
 use lib.Dec.{ltb, eqb}
-use borrow.Author.Tests.{le-leb, ltb-true, ltb-false, eqb-true, eqb-false, eq-eqb, ne-eqb}
+use borrow.Author.Tests.{le-leb, lt-ltb, le-ltb, ltb-true, ltb-false, eqb-true, eqb-false, eq-eqb, ne-eqb}
 use Rattle.fields.specs.declared.Fault.the-variants.{Clear}
 use Rattle.fields.specs.Field.{u16At}
 use Rattle.lookup.specs.declared.Cursor.{Cursor}
@@ -16,7 +16,8 @@ use Rattle.lookup.specs.Pass.{Serves}
 use Rattle.lookup.proofs.Laws.{count-none, first-range, covers-high, units-next, units-here, units-none, value-2, value-4, value-6, from-0, from-8, from-units, trimmed-low, trimmed-high, trimmed-in}
 use Rattle.lookup.proofs.Unique.{begins-above, unit-rules, units-rest, units-first, none-above}
 use Rattle.lookup.proofs.Pass.{serves-later, serves-past}
-use Rattle.lookup_runs.specs.Runs.{unitPlace, Follows}
+use Rattle.lookup_runs.specs.declared.Run.{Run}
+use Rattle.lookup_runs.specs.Runs.{unitPlace, noRun, everyRun, trimmedFrom, trimmedRun, unitsRun, nextRun, Follows}
 
 -- where a unit's values stand, by its format
 module _ (t : List ℕ) (f at p : ℕ) where
@@ -34,6 +35,48 @@ module _ (t : List ℕ) (f at p : ℕ) where
 
 pub is-4 : (f : ℕ) → f ≡ 4 → f ≡ 6 → ⊥
 is-4 f e q = let z : _≡_ {A = ℕ} 4 6 = sym e ∙ q in absurd (omega arith)
+
+-- the next run, by the format as it was read
+module _ (t : List ℕ) (at f glyph : ℕ) (c : Cursor) (is : f ≡ u16At t at) where
+  pub next-every : f ≡ 0 → everyRun at c glyph ≡ nextRun t at c glyph
+  unfolding nextRun
+  next-every e = sym (simp (eq-eqb (u16At t at) 0 (sym is ∙ e)))
+
+  pub next-trimmed : (f ≡ 0 → ⊥) → f ≡ 8 → trimmedRun t at c glyph ≡ nextRun t at c glyph
+  unfolding nextRun
+  next-trimmed n e = sym (simp (ne-eqb (u16At t at) 0 (λ z. n (is ∙ z)), eq-eqb (u16At t at) 8 (sym is ∙ e)))
+
+  pub next-units : (f ≡ 0 → ⊥) → (f ≡ 8 → ⊥) → unitsRun t f at c ≡ nextRun t at c glyph
+  unfolding nextRun
+  next-units n m = ap (λ (k : ℕ). unitsRun t k at c) is ∙ sym (simp (ne-eqb (u16At t at) 0 (λ z. n (is ∙ z)), ne-eqb (u16At t at) 8 (λ z. m (is ∙ z))))
+
+-- format 8: `first`, `count` and `from` as the code has them
+module _ (t : List ℕ) (at glyph : ℕ) (c : Cursor) (first count from : ℕ) (f : first ≡ u16At t (at + 2)) (n : count ≡ u16At t (at + 4))
+    (m : from ≡ max first glyph) where
+  trimmed-is : trimmedFrom at c first count from ≡ trimmedRun t at c glyph
+  unfolding trimmedRun
+  trimmed-is = simp (m, f, n)
+
+  pub trimmed-end : first + count ≤ from → noRun c ≡ trimmedRun t at c glyph
+  unfolding trimmedFrom
+  trimmed-end h = sym (simp (le-ltb from (first + count) h)) ∙ trimmed-is
+
+  pub trimmed-some : from < first + count
+      → record { from = from; until = first + count; place = at + 6 + 2 * (from - first); array = true; cursor = c } ≡ trimmedRun t at c glyph
+  unfolding trimmedFrom
+  trimmed-some h = sym (simp (lt-ltb from (first + count) h)) ∙ trimmed-is
+
+-- a unit's fields as the code has them
+module _ (t : List ℕ) (f at : ℕ) (c : Cursor) where
+  pub units-over : c .left ≡ 0 → noRun c ≡ unitsRun t f at c
+  unfolding unitsRun
+  units-over e = sym (simp (eq-eqb (c .left) 0 e))
+
+  pub unit-is : (from place last size : ℕ) → (c .left ≡ 0 → ⊥) → from ≡ firstOf t f (c .at) → place ≡ unitPlace t f at (c .at) → last ≡ lastOf t (c .at)
+      → size ≡ unitSize f
+      → record { from = from; until = last + 1; place = place; array = eqb f 4; cursor = record { at = c .at + size; left = c .left - 1 } } ≡ unitsRun t f at c
+  unfolding unitsRun
+  unit-is from place last size n d v l s = simp (ne-eqb (c .left) 0 n, d, v, l, s)
 
 -- units that begin above a glyph give it nothing
 none-before : (t : List ℕ) (f at glyph n p least : ℕ) → 0 < n → unitsFault t f n p least ≡ Clear → glyph < firstOf t f p

@@ -1,13 +1,12 @@
 // A pass over the glyphs of a lookup that have a value (document 01, "Numbers of refusal": clusters and lists go by
 // glyph): a run of glyphs at a time, upward, whose values are one field or an array. Glyphs without a value cost nothing.
 ghost use mathlib.Core.Path.{_≡_};
-ghost use mathlib.Core.Bool.{false};
 ghost use Prim.Native.Nat.{ℕ, _+_, _*_, _≤_, _<_, _^_};
 ghost use lib.ListN.{length};
 ghost use Rattle.fields.specs.Field.{u16At};
 ghost use Rattle.lookup.specs.Units.{unitSize};
 ghost use Rattle.lookup.specs.Pass.{Serves};
-ghost use Rattle.lookup_runs.specs.Runs.{unitPlace, Follows};
+ghost use Rattle.lookup_runs.specs.Runs.{unitPlace, noRun, trimmedRun, unitsRun, nextRun, Follows};
 use lookup::Cursor;
 
 // The next glyphs that have a value: those from `from` on and before `until`. Their values stand at `place`, one for each
@@ -23,7 +22,7 @@ pub struct Run {
 
 // No glyph is left that has a value.
 fn no_run(cursor: Cursor) -> Run
-    ensures { λ r. ⌜ r ≡ record { from = 65536; until = 65537; place = 0; array = false; cursor = cursor } ⌝ }
+    ensures { λ r. ⌜ r ≡ noRun cursor ⌝ }
 {
     Run {
         from: 65536,
@@ -37,7 +36,7 @@ fn no_run(cursor: Cursor) -> Run
 // Format 8.
 fn trimmed_run(table: &[u8], at: usize, cursor: Cursor, glyph: usize) -> Run
     requires { ⌜ (at < 2 ^ 32) × ((glyph < 2 ^ 16) × ((u16At (now table) at ≡ 8) × Serves (now table) at glyph cursor)) ⌝ }
-    ensures { λ r. ⌜ Follows (now (table .entry)) at glyph r ⌝ }
+    ensures { λ r. ⌜ (r ≡ trimmedRun (now (table .entry)) at cursor glyph) × Follows (now (table .entry)) at glyph r ⌝ }
 {
     let first = fields::u16_in(table, at + 2);
     let count = fields::u16_in(table, at + 4);
@@ -72,7 +71,7 @@ fn unit_place(table: &[u8], format: usize, at: usize, p: usize) -> usize
 fn units_run(table: &[u8], format: usize, at: usize, cursor: Cursor) -> Run
     requires { ⌜ (at < 2 ^ 32) × ((format ≡ u16At (now table) at) × (cursor .at + 6 * cursor .left < 2 ^ 40)) ⌝ }
     requires { ⌜ (format ≡ 0 → ⊥) × ((format ≡ 8 → ⊥) × (0 < cursor .left → cursor .at + unitSize format ≤ length (now table))) ⌝ }
-    ensures { λ r. ⌜ ((glyph : ℕ) → glyph < 2 ^ 16 → Serves (now (table .entry)) at glyph cursor → Follows (now (table .entry)) at glyph r) ⌝ }
+    ensures { λ r. ⌜ (r ≡ unitsRun (now (table .entry)) format at cursor) × ((glyph : ℕ) → glyph < 2 ^ 16 → Serves (now (table .entry)) at glyph cursor → Follows (now (table .entry)) at glyph r) ⌝ }
 {
     let p = cursor.at;
     let left = cursor.left;
@@ -96,7 +95,7 @@ fn units_run(table: &[u8], format: usize, at: usize, cursor: Cursor) -> Run
 // The next run of the lookup at `at`, whose format was read, from `glyph` on.
 pub fn next_run(table: &[u8], format: usize, at: usize, cursor: Cursor, glyph: usize) -> Run
     requires { ⌜ (at < 2 ^ 32) × ((glyph < 2 ^ 16) × ((format ≡ u16At (now table) at) × Serves (now table) at glyph cursor)) ⌝ }
-    ensures { λ r. ⌜ Follows (now (table .entry)) at glyph r ⌝ }
+    ensures { λ r. ⌜ (r ≡ nextRun (now (table .entry)) at cursor glyph) × Follows (now (table .entry)) at glyph r ⌝ }
 {
     if format == 0 {
         return Run {

@@ -1,13 +1,13 @@
 -- Laws of what a lookup's values lead to, for the proofs of the functions and for callers.
-use Prim.Native.Nat.{ℕ, zero, suc, _+_, _-_, _*_, _/_, _%_, _≤_, _<_, _^_, min}
+use Prim.Native.Nat.{ℕ, zero, suc, _+_, _-_, _*_, _/_, _%_, _≤_, _<_, _^_, min, max}
 use mathlib.Core.Path.{_≡_, refl, sym, ap, ap₂, subst, _∙_}
 use mathlib.Core.List.{List}
 use mathlib.Core.Bool.{Bool, true, false, cond}
 use mathlib.Core.Logic.{_⊎_, inl, inr, ⊎-elim}
 use native.Mathlib.Decide.{ℕ-discrete}
 use native.Mathlib.Omega.{arith}
-use lib.Dec.{ltb}
-use borrow.Author.Tests.{eq-eqb, ne-eqb, ltb-true, ltb-false}
+use lib.Dec.{ltb, leb, eqb}
+use borrow.Author.Tests.{eq-eqb, ne-eqb, eqb-true, eqb-false, le-leb, lt-leb, ltb-true, ltb-false}
 use lib.ListN.{getD, set, replicate}
 use lib.Seq.{getD-set-other}
 use Rattle.fields.specs.declared.Refusal.{Refusal}
@@ -30,7 +30,7 @@ use Rattle.actions.specs.Notes.{Passing}
 use Rattle.actions.proofs.Notes.{set-here, no-note, each-fewer, blank-passed}
 use Rattle.lookup_targets.specs.declared.Kind.{Kind}
 use Rattle.lookup_targets.specs.declared.Kind.the-variants.{Clusters, Lists}
-use Rattle.lookup_targets.specs.Values.{spotOf, itemFault, spotFault, placeFault, glyphFault, Tells, besides, Judged, Told, Ahead, Noted}
+use Rattle.lookup_targets.specs.Values.{spotOf, itemFault, spotFault, placeFault, glyphFault, Tells, besides, Judged, Told, Ahead, noteAt, noteEach, noteAlong, Noted}
 
 -- what is judged of a value, from what its steps found
 pub place-of : (t : List ℕ) (glyphs : ℕ) (kind : Kind) (base p : ℕ) {fault : Fault} {spot : Spot}
@@ -167,11 +167,47 @@ array-values one array count n p e q = ap (λ (k : ℕ). each one (λ q. q + 2) 
 pub none-ahead : (t : List ℕ) (glyphs : ℕ) (kind : Kind) (base n : ℕ) → Ahead t glyphs kind base (replicate n 0)
 none-ahead t glyphs kind base n = record { clear = λ p. walk-none _ _ _ _ _ _ (omega (arith, no-note n p)) }
 
+-- a note as the code makes it: `told` are as many as a byte tells, `known` is what was told
+pub note-kept : (place count told known : ℕ) (ahead : List ℕ) → told ≡ min count 255 → known ≡ getD ahead place 0 → told ≤ known → ahead ≡ noteAt place count ahead
+unfolding noteAt
+note-kept place count told known ahead e f h = sym (simp (le-leb (min count 255) (getD ahead place 0) (omega (arith, e, f, h))))
+
+pub note-made : (place count told known : ℕ) (ahead : List ℕ) → told ≡ min count 255 → known ≡ getD ahead place 0 → known < told
+    → set ahead place told ≡ noteAt place count ahead
+unfolding noteAt
+note-made place count told known ahead e f h = ap (set ahead place) e ∙ sym (simp (lt-leb (min count 255) (getD ahead place 0) (omega (arith, e, f, h))))
+
+-- one turn of noting, and its end
+pub each-turn : (place left : ℕ) (ahead after : List ℕ) → 0 < left → after ≡ noteAt place left ahead → noteEach place left ahead ≡ noteEach (place + 2) (left - 1) after
+unfolding noteEach
+each-turn place zero ahead after h e = absurd (omega arith)
+each-turn place (suc left) ahead after h e = let down : left ≡ suc left - 1 = omega arith in ap₂ (λ (k : ℕ) (l : List ℕ). noteEach (place + 2) k l) down (sym e)
+
+pub each-over : (place left : ℕ) (ahead : List ℕ) → left ≡ 0 → noteEach place left ahead ≡ ahead
+unfolding noteEach
+each-over place zero ahead e = refl
+each-over place (suc left) ahead e = absurd (omega arith)
+
+pub along-turn : (turns place left told part : ℕ) (ahead after : List ℕ) → 0 < left → left ≤ turns → told ≡ max 1 (getD ahead place 0) → part ≡ min told left
+    → after ≡ noteAt place left ahead → noteAlong turns place left ahead ≡ noteAlong (turns - 1) (place + 2 * part) (left - part) after
+unfolding noteAlong
+along-turn zero place left told part ahead after h m e f n = absurd (omega arith)
+along-turn (suc turns) place left told part ahead after h m e f n =
+    let down : suc turns - 1 ≡ turns = omega arith in
+    let some : left ≡ 0 → ⊥ = λ z. omega (arith, z, h) in
+    let led : part ≡ min (max 1 (getD ahead place 0)) left = f ∙ ap (λ (k : ℕ). min k left) e in
+    simp (ne-eqb left 0 some, down, led, n)
+
+pub along-over : (turns place left : ℕ) (ahead : List ℕ) → left ≡ 0 → noteAlong turns place left ahead ≡ ahead
+unfolding noteAlong
+along-over zero place left ahead e = refl
+along-over (suc turns) place left ahead e = simp (eq-eqb left 0 e)
+
 -- one note after the other, the second of values with which the first ones end
-pub noted-none : (place count : ℕ) (ahead : List ℕ) → Noted place count ahead ahead
+noted-none : (place count : ℕ) (ahead : List ℕ) → Noted place count ahead ahead
 noted-none place count ahead = record { at = λ p. inl refl }
 
-pub noted-more : {before between after : List ℕ} (place count p left : ℕ) → left ≤ count → p + 2 * left ≡ place + 2 * count → Noted place count before between
+noted-more : {before between after : List ℕ} (place count p left : ℕ) → left ≤ count → p + 2 * left ≡ place + 2 * count → Noted place count before between
     → Noted p left between after → Noted place count before after
 noted-more {before} {between} {after} place count p left h e f g = record { at = λ q. ⊎-elim (λ s. kept q s (f .at q)) (λ w. inr (w .0, omega (arith, w .1), w .2 ∙ e, w .3)) (g .at q) }
   where
@@ -182,7 +218,7 @@ noted-more {before} {between} {after} place count p left h e f g = record { at =
     kept q s (inr w) = inr (w .0, w .1, w .2, omega (arith, w .3, s))
 
 -- a byte noted at the first
-pub noted-one : {ahead : List ℕ} (place count byte : ℕ) → byte ≤ count → Noted place count ahead (set ahead place byte)
+noted-one : {ahead : List ℕ} (place count byte : ℕ) → byte ≤ count → Noted place count ahead (set ahead place byte)
 noted-one {ahead} place count byte h = record { at = λ p. go p (ℕ-discrete p place) }
   where
     here : (getD (set ahead place byte) place 0 ≡ getD ahead place 0)
@@ -193,6 +229,39 @@ noted-one {ahead} place count byte h = record { at = λ p. go p (ℕ-discrete p 
         → (getD (set ahead place byte) p 0 ≡ getD ahead p 0) ⊎ ((left : ℕ) × (left ≤ count) × (p + 2 * left ≡ place + 2 * count) × (getD (set ahead place byte) p 0 ≤ left))
     go p (yes q) = rw q here
     go p (no n) = inl (getD-set-other ahead place p byte 0 n)
+
+noted-at : (place count : ℕ) (ahead : List ℕ) → Noted place count ahead (noteAt place count ahead)
+unfolding noteAt
+noted-at place count ahead = go (leb (min count 255) (getD ahead place 0))
+  where
+    go : (b : Bool) → Noted place count ahead (cond b ahead (set ahead place (min count 255)))
+    go true = noted-none place count ahead
+    go false = noted-one place count (min count 255) (omega arith)
+
+-- what is noted at each of them, or along them, tells no more than there are
+all-noted : (place count : ℕ) (ahead : List ℕ) → Noted place count ahead (noteEach place count ahead)
+unfolding noteEach
+all-noted place zero ahead = noted-none place 0 ahead
+all-noted place (suc left) ahead =
+    noted-more place (suc left) (place + 2) left (omega arith) (omega arith) (noted-at place (suc left) ahead) (all-noted (place + 2) left (noteAt place (suc left) ahead))
+
+pub each-noted : {ahead after : List ℕ} (place count : ℕ) → after ≡ noteEach place count ahead → Noted place count ahead after
+each-noted {ahead} place count e = subst (Noted place count ahead) (sym e) (all-noted place count ahead)
+
+some-noted : (turns place left : ℕ) (ahead : List ℕ) → Noted place left ahead (noteAlong turns place left ahead)
+unfolding noteAlong
+some-noted zero place left ahead = noted-none place left ahead
+some-noted (suc turns) place left ahead =
+    go (eqb left 0)
+    (noted-more place left (place + 2 * min (max 1 (getD ahead place 0)) left) (left - min (max 1 (getD ahead place 0)) left) (omega arith) (omega arith)
+    (noted-at place left ahead) (some-noted turns _ _ _))
+  where
+    go : {after : List ℕ} (b : Bool) → Noted place left ahead after → Noted place left ahead (cond b ahead after)
+    go true w = noted-none place left ahead
+    go false w = w
+
+pub along-noted : {ahead after : List ℕ} (place count : ℕ) → after ≡ noteAlong count place count ahead → Noted place count ahead after
+along-noted {ahead} place count e = subst (Noted place count ahead) (sym e) (some-noted count place count ahead)
 
 module _ (t : List ℕ) (glyphs : ℕ) (kind : Kind) (base : ℕ) where
   -- the last of values that lead to no fault, and some of them from their first on

@@ -1,12 +1,12 @@
 -- What the values of a direction's two lookups lead to (document 01, "The table"): a width value to a cluster, an action value to an action list; the first
 -- fault of the lookup and of all that its values lead to, glyph by glyph; and what each glyph has.
-use Prim.Native.Nat.{ℕ, _+_, _*_, _/_, _%_, _≤_}
+use Prim.Native.Nat.{ℕ, zero, suc, _+_, _-_, _*_, _/_, _%_, _≤_, min, max}
 use mathlib.Core.Bool.{cond}
 use mathlib.Core.Path.{_≡_}
 use mathlib.Core.List.{List, []}
 use mathlib.Core.Logic.{_⊎_}
-use lib.Dec.{eqb}
-use lib.ListN.{getD}
+use lib.Dec.{leb, eqb}
+use lib.ListN.{getD, set}
 use Rattle.fields.specs.declared.Fault.{Fault}
 use Rattle.fields.specs.declared.Fault.the-variants.{Clear}
 use Rattle.fields.specs.Field.{u16At}
@@ -86,6 +86,21 @@ pub record Told (t : List ℕ) (kind : Kind) (base : ℕ) (judged : List ℕ) (p
 -- so many values from each position on, as `ahead` tells, lead to nothing with a fault
 pub record Ahead (t : List ℕ) (glyphs : ℕ) (kind : Kind) (base : ℕ) (ahead : List ℕ) : Type 0 where
   pub clear : (p : ℕ) → each (placeFault t glyphs kind base) (λ q. q + 2) (getD ahead p 0) p ≡ Clear
+
+-- A note at `place` of `count` values from there on: as many as a byte tells, where that is more than it told. It is made at each of the values, of which ever
+-- fewer are left; or at the first, at the one to which what was told there leads, and so on to the end, in no more turns than there are values.
+unfoldable pub noteAt : ℕ → ℕ → List ℕ → List ℕ
+noteAt place count ahead = cond (leb (min count 255) (getD ahead place 0)) ahead (set ahead place (min count 255))
+
+unfoldable pub noteEach : ℕ → ℕ → List ℕ → List ℕ
+noteEach place zero ahead = ahead
+noteEach place (suc left) ahead = noteEach (place + 2) left (noteAt place (suc left) ahead)
+
+unfoldable pub noteAlong : ℕ → ℕ → ℕ → List ℕ → List ℕ
+noteAlong zero place left ahead = ahead
+noteAlong (suc turns) place left ahead =
+    cond (eqb left 0) ahead
+    (noteAlong turns (place + 2 * min (max 1 (getD ahead place 0)) left) (left - min (max 1 (getD ahead place 0)) left) (noteAt place left ahead))
 
 -- what noting of `count` values that stand from `place` on makes of such a list: it tells what it told, or at one of them no more than are left of them
 pub record Noted (place count : ℕ) (before after : List ℕ) : Type 0 where

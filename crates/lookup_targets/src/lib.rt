@@ -9,7 +9,7 @@ ghost use Rattle.fields.specs.Walk.{each};
 ghost use Rattle.lookup.specs.declared.Found.the-variants.{Value};
 ghost use Rattle.lookup.specs.Lookup.{lookupFault};
 ghost use Rattle.actions.specs.Actions.{Below};
-ghost use Rattle.lookup_targets.specs.Values.{spotOf, itemFault, placeFault, glyphFault, valuesFault, Tells, besides, Judged, Told, Ahead, Noted};
+ghost use Rattle.lookup_targets.specs.Values.{spotOf, itemFault, placeFault, glyphFault, valuesFault, Tells, besides, Judged, Told, Ahead, noteAt, noteEach, noteAlong};
 use actions::Spot;
 use fields::Fault;
 use lookup::Found;
@@ -230,7 +230,7 @@ fn untold(place: usize, count: usize, ahead: &[u8]) -> usize
 // Notes at `place` that `count` values from there on have something in common: as many as a byte tells, where that is more than
 // it told. In the check it is that they lead to nothing with a fault, in the writer that they lead to one item.
 fn note(place: usize, count: usize, ahead: &mut [u8])
-    ensures { λ r. ⌜ Noted place count (now (ahead .entry)) (now (ahead .exit)) ⌝ }
+    ensures { λ r. ⌜ now (ahead .exit) ≡ noteAt place count (now (ahead .entry)) ⌝ }
 {
     let told = fields::lower(count, 255);
     if told <= fields::u8_at(ahead, place) {
@@ -242,7 +242,7 @@ fn note(place: usize, count: usize, ahead: &mut [u8])
 // The same at each of the values, of which ever fewer are left.
 fn note_each(place: usize, count: usize, ahead: &mut [u8])
     requires { ⌜ place + 2 * count < 2 ^ 50 ⌝ }
-    ensures { λ r. ⌜ Noted place count (now (ahead .entry)) (now (ahead .exit)) ⌝ }
+    ensures { λ r. ⌜ now (ahead .exit) ≡ noteEach place count (now (ahead .entry)) ⌝ }
 {
     let mut p = place;
     let mut left = count;
@@ -257,7 +257,7 @@ fn note_each(place: usize, count: usize, ahead: &mut [u8])
 // next is led to the end at once; the values between them are left as they were.
 pub fn note_values(place: usize, count: usize, ahead: &mut [u8])
     requires { ⌜ place + 2 * count < 2 ^ 50 ⌝ }
-    ensures { λ r. ⌜ Noted place count (now (ahead .entry)) (now (ahead .exit)) ⌝ }
+    ensures { λ r. ⌜ now (ahead .exit) ≡ noteAlong count place count (now (ahead .entry)) ⌝ }
 {
     let mut p = place;
     let mut left = count;

@@ -70,7 +70,7 @@ loop-again : tie.Need-loop-again Inv-loop μ-loop
 loop-again c =
     let a = c .before .before .before .before .before .before .before .before .before .before .before .before .before .args in (
       rest-clear (now (a .table)) (a .glyphs) (c .before .before .before .before .before .before .before .before .before .before .loop .left) (c .before .before .before .before .before .before .before .before .before .before .loop .at) _ (c .before .before .before .before .before .before .before .before .before .loop-test .taken) (c .before .before .before .before .before .before .before .before .before .before .loop .inv .0) (ap (λ (k : ℕ). c .before .before .before .before .before .before .before .before .before .before .loop .at + k) (c .u32-at .ensures .0)),
-      both-passing (c .before .before .before .before .before .before .before .before .before .before .loop .inv .1) (rw (c .before .before .before .put-u8 .ensures) (ahead-passing (now (a .table)) (a .glyphs) (c .before .before .before .before .before .before .before .before .before .before .loop .at) _ _ (c .before .before .before .before .before .before .before .before .lower .result) (c .before .before .before .before .before .before .before .before .before .before .loop .left) (c .before .before .before .before .before .before .before .before .before .before .loop .inv .1 .passed) (c .before .before .before .before .before .before .before .before .before .before .loop .inv .0) (c .before .before .before .before .before .before .u8-at .ensures .0) (omega (arith, c .before .before .before .before .before .before .before .before .lower .ensures)) refl)),
+      both-passing (c .before .before .before .before .before .before .before .before .before .before .loop .inv .1) (rw (c .before .before .before .put-u8 .ensures) (ahead-passing (now (a .table)) (a .glyphs) (c .before .before .before .before .before .before .before .before .before .before .loop .at) _ _ (c .before .before .before .before .before .before .before .before .lower .result) (c .before .before .before .before .before .before .before .before .before .before .loop .left) (c .before .before .before .before .before .before .before .before .before .before .loop .inv .1 .passed) (c .before .before .before .before .before .before .before .before .before .before .loop .inv .0) (c .before .before .before .before .before .before .u8-at .ensures .0) (omega (arith, c .before .before .before .before .before .if1 .left)) (omega (arith, c .before .before .before .before .before .before .before .before .lower .ensures)) refl)),
       search needs,
     )
 

@@ -1,6 +1,7 @@
 -- `lookup::begin` meets its contract.
 use native.Mathlib.Omega.{arith}
-use mathlib.Core.Path.{refl}
+use mathlib.Core.Path.{refl, ap}
+use Prim.Native.Nat.{ℕ, _+_}
 use Rattle.lookup.proofs.Pass.{serves-begin}
 use borrow.Author.Needs.{needs}
 use Rattle.lookup.proofs.begin.Statement.{statement}
@@ -16,7 +17,9 @@ unit-count-requires : tie.Need-unit-count-requires
 unit-count-requires c κs = search needs
 
 returns : tie.Need-returns
-returns c = λ glyphs e. serves-begin _ _ glyphs _ _ e refl (c .unit-count .ensures .0) (omega (arith, c .unit-count .ensures .1))
+returns c =
+    let n = c .unit-count .ensures in
+    (ap (λ (k : ℕ). record { at = c .before .before .before .args .at + 12; left = k }) (n .0), λ glyphs e. serves-begin _ _ glyphs _ _ e refl (n .0) (omega (arith, n .1)))
 
 pub begin-spec : {M : Type 1} → statement M
 begin-spec = tie.close (tie.spec u16-at-requires add-t4 unit-count-requires returns)

@@ -1,10 +1,10 @@
 -- `lookup_runs::trimmed_run` meets its contract.
 use native.Mathlib.Omega.{arith}
-use mathlib.Core.Path.{sym, subst}
+use mathlib.Core.Path.{sym, subst, _∙_}
 use denote.Ref.{now}
 use Rattle.lookup_runs.specs.Runs.{Follows}
 use Rattle.lookup_runs.specs.declared.Run.{Run}
-use Rattle.lookup_runs.proofs.Laws.{trimmed-ends, trimmed-follows}
+use Rattle.lookup_runs.proofs.Laws.{trimmed-end, trimmed-some, trimmed-ends, trimmed-follows}
 use borrow.Author.Needs.{needs}
 use Rattle.lookup_runs.proofs.trimmed_run.Statement.{statement}
 use Rattle.lookup_runs.proofs.trimmed_run.Tie as tie
@@ -34,8 +34,13 @@ returns : tie.Need-returns
 returns c =
     let a = c .before .before .before .before .before .before .args in
     let k = c .before .before .before .before .before .before .pre in
-    subst (λ (r : Run). Follows (now (a .table)) (a .at) (a .glyph) r) (sym (c .no-run .ensures))
-    (trimmed-ends _ _ _ _ (k .1 .1 .1) (k .1 .0) (k .0) _ _ (k .1 .1 .0) (c .before .before .before .before .u16-in .ensures .0) (c .before .before .before .u16-in2 .ensures .0) _ (c .before .before .larger .ensures) (c .before .if1 .taken))
+    let first = c .before .before .before .before .u16-in .ensures .0 in
+    let count = c .before .before .before .u16-in2 .ensures .0 in
+    let from = c .before .before .larger .ensures in (
+      c .no-run .ensures ∙ trimmed-end (now (a .table)) (a .at) (a .glyph) _ _ _ _ first count from (c .before .if1 .taken),
+      subst (λ (r : Run). Follows (now (a .table)) (a .at) (a .glyph) r) (sym (c .no-run .ensures))
+          (trimmed-ends _ _ _ _ (k .1 .1 .1) (k .1 .0) (k .0) _ _ (k .1 .1 .0) first count _ from (c .before .if1 .taken)),
+    )
 
 add-t8 : tie.Need-add-t8
 add-t8 c = search needs
@@ -54,8 +59,14 @@ add-t13 c = search needs
 
 returns-2 : tie.Need-returns-2
 returns-2 c =
+    let a = c .before .before .before .before .before .args in
     let k = c .before .before .before .before .before .pre in
-    trimmed-follows _ _ _ _ (k .1 .1 .1) (k .1 .0) (k .0) _ _ (k .1 .1 .0) (c .before .before .before .u16-in .ensures .0) (c .before .before .u16-in2 .ensures .0) _ (c .before .larger .ensures) (c .if1 .left) (c .before .before .before .u16-in .ensures .1)
+    let first = c .before .before .before .u16-in .ensures .0 in
+    let count = c .before .before .u16-in2 .ensures .0 in
+    let from = c .before .larger .ensures in (
+      trimmed-some (now (a .table)) (a .at) (a .glyph) _ _ _ _ first count from (c .if1 .left),
+      trimmed-follows _ _ _ _ (k .1 .1 .1) (k .1 .0) (k .0) _ _ (k .1 .1 .0) first count _ from (c .if1 .left) (c .before .before .before .u16-in .ensures .1),
+    )
 
 pub trimmed-run-spec : {M : Type 1} → statement M
 trimmed-run-spec =

@@ -31,7 +31,7 @@ begin-requires : tie.Need-begin-requires Inv-loop μ-loop
 begin-requires c κs = search needs
 
 loop-holds : tie.Need-loop-holds Inv-loop μ-loop
-loop-holds c = (all-left _ _, c .begin .ensures _ (c .before .before .before .before .before .pre .0 .1 .1 .1), c .before .before .before .before .before .pre .1, refl, refl)
+loop-holds c = (all-left _ _, c .begin .ensures .1 _ (c .before .before .before .before .before .pre .0 .1 .1 .1), c .before .before .before .before .before .pre .1, refl, refl)
 
 next-run-requires : tie.Need-next-run-requires Inv-loop μ-loop
 next-run-requires c κs = (c .before .before .before .before .before .before .before .pre .0 .0, (omega (arith, c .loop-test .taken, c .before .before .before .before .before .before .before .pre .0 .1 .1 .0), (c .before .before .before .u16-at .ensures .0, c .before .loop .inv .1)))
@@ -45,11 +45,11 @@ same-length-2 c = search needs
 returns : tie.Need-returns Inv-loop μ-loop
 returns c =
     let a = c .before .before .before .before .before .before .before .before .before .before .args in
-    (sym (c .before .before .before .before .loop .inv .0 ∙ run-end (now (a .table)) (a .glyphs) (a .kind) (a .at) (a .base) (c .before .before .before .before .loop .glyph) _ (c .before .before .next-run .ensures) (c .before .before .before .before .before .before .before .before .before .before .pre .0 .1 .1 .0) (c .if1 .taken)), c .before .before .before .before .loop .inv .2 .0)
+    (sym (c .before .before .before .before .loop .inv .0 ∙ run-end (now (a .table)) (a .glyphs) (a .kind) (a .at) (a .base) (c .before .before .before .before .loop .glyph) _ (c .before .before .next-run .ensures .1) (c .before .before .before .before .before .before .before .before .before .before .pre .0 .1 .1 .0) (c .if1 .taken)), c .before .before .before .before .loop .inv .2 .0)
 
 run-fault-requires : tie.Need-run-fault-requires Inv-loop μ-loop
 run-fault-requires c κs =
-    let w = c .before .before .before .before .next-run .ensures in
+    let w = c .before .before .before .before .next-run .ensures .1 in
     ((c .before .before .before .before .before .before .before .before .before .before .before .before .pre .0 .1 .0, (c .before .before .before .before .before .before .before .before .before .before .before .before .pre .0 .1 .1 .0, (w .more, (c .before .before .if1 .left, w .near)))), c .before .before .before .before .before .before .loop .inv .2)
 
 enum-told : tie.Need-enum-told Inv-loop μ-loop
@@ -66,7 +66,7 @@ returns-2 c =
     let a = c .before .before .before .before .before .before .before .before .before .before .before .before .before .before .before .before .before .before .before .args in (
       sym
           (c .before .before .before .before .before .before .before .before .before .before .before .before .before .loop .inv .0
-          ∙ run-judged (now (a .table)) (a .glyphs) (a .kind) (a .at) (a .base) (c .before .before .before .before .before .before .before .before .before .before .before .before .before .loop .glyph) _ (c .before .before .before .before .before .before .before .before .before .before .before .next-run .ensures) (c .before .before .before .before .before .before .before .before .before .before .before .before .before .before .before .before .before .before .before .pre .0 .1 .1 .0) (c .before .before .before .before .before .before .before .before .before .if1 .left) _ (c .before .before .before .before .before .before .run-fault .ensures .0)
+          ∙ run-judged (now (a .table)) (a .glyphs) (a .kind) (a .at) (a .base) (c .before .before .before .before .before .before .before .before .before .before .before .before .before .loop .glyph) _ (c .before .before .before .before .before .before .before .before .before .before .before .next-run .ensures .1) (c .before .before .before .before .before .before .before .before .before .before .before .before .before .before .before .before .before .before .before .pre .0 .1 .1 .0) (c .before .before .before .before .before .before .before .before .before .if1 .left) _ (c .before .before .before .before .before .before .run-fault .ensures .0)
           ∙ then-stop _ (c .enum-told .given .1)),
       c .before .before .before .before .before .before .run-fault .ensures .1 .0,
     )
@@ -75,12 +75,12 @@ enum-told-2 : tie.Need-enum-told-2 Inv-loop μ-loop
 enum-told-2 c = search needs
 
 loop-less : tie.Need-loop-less Inv-loop μ-loop
-loop-less c = let w = c .before .before .before .before .before .before .before .before .before .before .before .before .next-run .ensures in omega (arith, w .begins, w .more)
+loop-less c = let w = c .before .before .before .before .before .before .before .before .before .before .before .before .next-run .ensures .1 in omega (arith, w .begins, w .more)
 
 loop-again : tie.Need-loop-again Inv-loop μ-loop
 loop-again c =
     let a = c .before .before .before .before .before .before .before .before .before .before .before .before .before .before .before .before .before .before .before .before .args in
-    let w = c .before .before .before .before .before .before .before .before .before .before .before .before .next-run .ensures in (
+    let w = c .before .before .before .before .before .before .before .before .before .before .before .before .next-run .ensures .1 in (
       c .before .before .before .before .before .before .before .before .before .before .before .before .before .before .loop .inv .0
           ∙ run-judged (now (a .table)) (a .glyphs) (a .kind) (a .at) (a .base) (c .before .before .before .before .before .before .before .before .before .before .before .before .before .before .loop .glyph) _ w (c .before .before .before .before .before .before .before .before .before .before .before .before .before .before .before .before .before .before .before .before .pre .0 .1 .1 .0) (c .before .before .before .before .before .before .before .before .before .before .if1 .left) _ (c .before .before .before .before .before .before .before .run-fault .ensures .0)
           ∙ then-go _ (c .before .enum-told2 .given .1),

@@ -1,6 +1,7 @@
 -- `lookup_targets::note` meets its contract.
-use Rattle.lookup_targets.proofs.Laws.{noted-none, noted-one}
+use Rattle.lookup_targets.proofs.Laws.{note-kept, note-made}
 use native.Mathlib.Omega.{arith}
+use mathlib.Core.Path.{_∙_}
 use borrow.Author.Needs.{needs}
 use Rattle.lookup_targets.proofs.note.Statement.{statement}
 use Rattle.lookup_targets.proofs.note.Tie as tie
@@ -15,7 +16,7 @@ same-length : tie.Need-same-length
 same-length c = search needs
 
 returns : tie.Need-returns
-returns c = noted-none _ _ _
+returns c = note-kept _ _ _ _ _ (c .before .before .before .lower .ensures) (c .before .u8-at .ensures .0) (omega (arith, c .before .before .before .lower .ensures, c .if1 .taken))
 
 cast-put-u8 : tie.Need-cast-put-u8
 cast-put-u8 c = search needs
@@ -27,7 +28,7 @@ same-length-2 : tie.Need-same-length-2
 same-length-2 c = search needs
 
 returns-2 : tie.Need-returns-2
-returns-2 c = rw (c .before .before .put-u8 .ensures) (noted-one (c .before .before .before .before .before .before .before .before .before .args .place) (c .before .before .before .before .before .before .before .before .before .args .count) _ (omega (arith, c .before .before .before .before .before .before .before .lower .ensures)))
+returns-2 c = c .before .before .put-u8 .ensures ∙ note-made _ _ _ _ _ (c .before .before .before .before .before .before .before .lower .ensures) (c .before .before .before .before .before .u8-at .ensures .0) (omega (arith, c .before .before .before .before .before .before .before .lower .ensures, c .before .before .before .before .if1 .left))
 
 pub note-spec : {M : Type 1} → statement M
 note-spec =

@@ -1,8 +1,8 @@
 -- `lookup_targets::note_each` meets its contract.
-use Rattle.lookup_targets.proofs.Laws.{noted-none, noted-more}
-use Rattle.lookup_targets.specs.Values.{Noted}
+use Rattle.lookup_targets.proofs.Laws.{each-turn, each-over}
+use Rattle.lookup_targets.specs.Values.{noteEach}
 use native.Mathlib.Omega.{arith}
-use mathlib.Core.Path.{_≡_, refl}
+use mathlib.Core.Path.{_≡_, refl, sym, _∙_}
 use Prim.Native.Nat.{_+_, _*_, _≤_}
 use lib.ListN.{length}
 use borrow.Author.Needs.{needs}
@@ -11,13 +11,13 @@ use Rattle.lookup_targets.proofs.note_each.Tie as tie
 
 abbrev Inv-loop : tie.InvT-loop
 Inv-loop place count ahead₀ p₀ left₀ ahead p left =
-    Noted place count ahead₀ ahead × (p + 2 * left ≡ place + 2 * count) × (left ≤ count) × (length ahead ≡ length ahead₀)
+    (noteEach place count ahead₀ ≡ noteEach p left ahead) × (p + 2 * left ≡ place + 2 * count) × (left ≤ count) × (length ahead ≡ length ahead₀)
 
 abbrev μ-loop : tie.MeasureT-loop
 μ-loop place count ahead₀ p₀ left₀ ahead p left = left
 
 loop-holds : tie.Need-loop-holds Inv-loop μ-loop
-loop-holds c = (noted-none _ _ _, refl, omega arith, refl)
+loop-holds c = (refl, refl, omega arith, refl)
 
 note-requires : tie.Need-note-requires Inv-loop μ-loop
 note-requires c κs = search needs
@@ -33,7 +33,7 @@ loop-less c = search needs
 
 loop-again : tie.Need-loop-again Inv-loop μ-loop
 loop-again c = (
-  noted-more (c .before .before .before .before .before .before .before .args .place) (c .before .before .before .before .before .before .before .args .count) (c .before .before .before .before .before .loop .p) (c .before .before .before .before .before .loop .left) (c .before .before .before .before .before .loop .inv .2) (c .before .before .before .before .before .loop .inv .1) (c .before .before .before .before .before .loop .inv .0) (c .before .before .note .ensures),
+  c .before .before .before .before .before .loop .inv .0 ∙ each-turn (c .before .before .before .before .before .loop .p) (c .before .before .before .before .before .loop .left) _ _ (c .before .before .before .before .loop-test .taken) (c .before .before .note .ensures),
   omega arith,
   omega arith,
   search needs,
@@ -43,7 +43,7 @@ same-length : tie.Need-same-length Inv-loop μ-loop
 same-length c = search needs
 
 returns : tie.Need-returns Inv-loop μ-loop
-returns c = c .before .loop .inv .0
+returns c = sym (c .before .loop .inv .0 ∙ each-over _ _ _ (omega (arith, c .loop-test .left)))
 
 pub note-each-spec : {M : Type 1} → statement M
 note-each-spec =

@@ -1,9 +1,9 @@
 -- `lookup_targets::note_values` meets its contract.
-use Rattle.lookup_targets.proofs.Laws.{noted-none, noted-more}
-use Rattle.lookup_targets.specs.Values.{Noted}
+use Rattle.lookup_targets.proofs.Laws.{along-turn, along-over}
+use Rattle.lookup_targets.specs.Values.{noteAlong}
 use native.Mathlib.Omega.{arith}
-use mathlib.Core.Path.{_≡_, refl}
-use Prim.Native.Nat.{_+_, _*_, _≤_}
+use mathlib.Core.Path.{_≡_, refl, sym, ap, _∙_}
+use Prim.Native.Nat.{ℕ, _+_, _-_, _*_, _≤_, max}
 use lib.ListN.{length}
 use borrow.Author.Needs.{needs}
 use Rattle.lookup_targets.proofs.note_values.Statement.{statement}
@@ -11,13 +11,13 @@ use Rattle.lookup_targets.proofs.note_values.Tie as tie
 
 abbrev Inv-loop : tie.InvT-loop
 Inv-loop place count ahead₀ p₀ left₀ ahead p left =
-    Noted place count ahead₀ ahead × (p + 2 * left ≡ place + 2 * count) × (left ≤ count) × (length ahead ≡ length ahead₀)
+    ((turns : ℕ) × (left ≤ turns) × (noteAlong count place count ahead₀ ≡ noteAlong turns p left ahead)) × (p + 2 * left ≡ place + 2 * count) × (left ≤ count) × (length ahead ≡ length ahead₀)
 
 abbrev μ-loop : tie.MeasureT-loop
 μ-loop place count ahead₀ p₀ left₀ ahead p left = left
 
 loop-holds : tie.Need-loop-holds Inv-loop μ-loop
-loop-holds c = (noted-none _ _ _, refl, omega arith, refl)
+loop-holds c = ((c .before .args .count, omega arith, refl), refl, omega arith, refl)
 
 u8-at-requires : tie.Need-u8-at-requires Inv-loop μ-loop
 u8-at-requires c κs = search needs
@@ -45,10 +45,15 @@ loop-less c = omega (arith, c .lower .ensures, c .before .before .before .before
 
 loop-again : tie.Need-loop-again Inv-loop μ-loop
 loop-again c =
-    let a = c .before .before .before .before .before .before .before .before .before .before .before .args in
     let l = c .before .before .before .before .before .before .before .before .before .loop in
-    let e = c .lower .ensures in (
-      noted-more (a .place) (a .count) (l .p) (l .left) (l .inv .2) (l .inv .1) (l .inv .0) (c .before .before .before .note .ensures),
+    let e = c .lower .ensures in
+    let larger = c .before .before .before .before .before .larger .ensures in
+    let some = c .before .before .before .before .before .before .before .before .loop-test .taken in (
+      (
+        l .inv .0 .0 - 1,
+        omega (arith, e, l .inv .0 .1, larger, some),
+        l .inv .0 .2 ∙ along-turn (l .inv .0 .0) (l .p) (l .left) _ _ _ _ some (l .inv .0 .1) (larger ∙ ap (max 1) (c .before .before .before .before .before .before .u8-at .ensures .0)) e (c .before .before .before .note .ensures),
+      ),
       omega (arith, e, l .inv .1),
       omega (arith, e, l .inv .2),
       search needs,
@@ -58,7 +63,7 @@ same-length : tie.Need-same-length Inv-loop μ-loop
 same-length c = search needs
 
 returns : tie.Need-returns Inv-loop μ-loop
-returns c = c .before .loop .inv .0
+returns c = sym (c .before .loop .inv .0 .2 ∙ along-over _ _ _ _ (omega (arith, c .loop-test .left)))
 
 pub note-values-spec : {M : Type 1} → statement M
 note-values-spec =

@@ -1,5 +1,5 @@
 -- `lookup_targets::places_fault` meets its contract.
-use Rattle.lookup_targets.proofs.Laws.{part-passed, part-known, part-stops, noted-ahead}
+use Rattle.lookup_targets.proofs.Laws.{part-passed, part-known, part-stops, each-noted, along-noted, noted-ahead}
 use Rattle.lookup_targets.specs.Values.{placeFault, Judged, Ahead}
 use Rattle.fields.specs.Walk.{each, walk-none}
 use native.Mathlib.Omega.{arith}
@@ -129,7 +129,7 @@ loop-again-2 c =
       c .before .before .before .before .before .before .before .before .stretch-fault .ensures .1,
       search needs,
       omega (arith, u .ensures .1, l .inv .3),
-      noted-ahead (now (a .table)) (a .glyphs) (a .kind) (a .base) (l .p) (u .result) (l .inv .4) clear (c .before .before .note-each .ensures),
+      noted-ahead (now (a .table)) (a .glyphs) (a .kind) (a .base) (l .p) (u .result) (l .inv .4) clear (each-noted (l .p) (u .result) (c .before .before .note-each .ensures)),
       search needs,
     )
 
@@ -151,7 +151,7 @@ returns-2 c =
     let a = c .before .before .before .before .before .before .before .before .before .args in
     let l = c .before .before .before .before .before .loop in
     let clear = l .inv .0 ∙ walk-none (λ q _. placeFault (now (a .table)) (a .glyphs) (a .kind) (a .base) q) (λ q. q + 2) (λ q. 0) _ _ _ (c .before .before .before .before .loop-test .left) in
-    (sym clear, (l .inv .1, noted-ahead (now (a .table)) (a .glyphs) (a .kind) (a .base) (a .place) (a .count) (l .inv .4) clear (c .before .before .note-values .ensures)))
+    (sym clear, (l .inv .1, noted-ahead (now (a .table)) (a .glyphs) (a .kind) (a .base) (a .place) (a .count) (l .inv .4) clear (along-noted (a .place) (a .count) (c .before .before .note-values .ensures))))
 
 pub places-fault-spec : {M : Type 1} → statement M
 places-fault-spec =

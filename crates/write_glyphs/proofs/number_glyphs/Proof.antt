@@ -31,7 +31,7 @@ loop-holds : tie.Need-loop-holds Inv-loop μ-loop
 loop-holds c =
     let a = (c .before .before .before .before .before .before .before .before .before .before .args) in (
       stands-none (a .kind) (a .table .now) (glyphItem (a .kind) (a .table .now) (a .glyphs) (a .at) (a .base)) (a .glyphs) (a .ends .now) (a .nums .now) (a .firsts .now) (a .others .now) (a .slots .now) (a .seen .now) ((c .before .before .before .before .before .before .before .before .before .before .pre) .1 .1 .0) ((c .before .before .before .before .before .before .before .before .before .before .pre) .1 .1 .1 .0) ((c .before .before .before .before .before .before .before .before .before .before .pre) .1 .1 .1 .1 .0),
-      (λ h g. (c .begin) .ensures (a .glyphs) ((c .before .before .before .before .before .before .before .before .before .before .pre) .0 .1 .1 .1)),
+      (λ h g. (c .begin) .ensures .1 (a .glyphs) ((c .before .before .before .before .before .before .before .before .before .before .pre) .0 .1 .1 .1)),
       refl,
       refl,
       refl,

@@ -29,7 +29,7 @@ lower-requires : tie.Need-lower-requires Inv-loop μ-loop
 lower-requires c κs = search needs
 
 loop-holds : tie.Need-loop-holds Inv-loop μ-loop
-loop-holds c = ((c .before .before .before .before .before .before .before .before .before .before .before .before .pre) .1 .1 .0, omega arith, (λ h. refl), refl, refl, refl, refl, refl, refl, refl, omega (arith, (c .before .before .next-run) .ensures .begins, (c .before .before .next-run) .ensures .more, (c .lower) .ensures, (c .before .before .before .before .before .before .before .before .before .before .before .before .pre) .1 .1 .1 .1 .0), (c .before .before .before .before .before .before .before .before .before .before .before .before .pre) .1 .1 .1 .0)
+loop-holds c = ((c .before .before .before .before .before .before .before .before .before .before .before .before .pre) .1 .1 .0, omega arith, (λ h. refl), refl, refl, refl, refl, refl, refl, refl, omega (arith, (c .before .before .next-run) .ensures .1 .begins, (c .before .before .next-run) .ensures .1 .more, (c .lower) .ensures, (c .before .before .before .before .before .before .before .before .before .before .before .before .pre) .1 .1 .1 .1 .0), (c .before .before .before .before .before .before .before .before .before .before .before .before .pre) .1 .1 .1 .0)
 
 same-length : tie.Need-same-length Inv-loop μ-loop
 same-length c = omega (arith, (c .before .before .loop) .inv .3)
@@ -58,7 +58,7 @@ returns c =
     (l .inv .0, l .inv .11, went-on _ _ _ _ _ (l .inv .1) (l .inv .2) ((c .before .before .before .before .before .before .before .before .before .before .before .before .before .before .before .pre) .1 .1 .1 .1 .1 .0) (omega (arith, (c .if1) .taken, l .inv .3)), λ h g. absurd (omega (arith, h, (c .if1) .taken, l .inv .3)))
 
 run-place-requires : tie.Need-run-place-requires Inv-loop μ-loop
-run-place-requires c κs = ((c .before .before .before .before .before .before .before .before .before .before .before .before .before .before .before .pre) .0 .1 .0, (omega (arith, (c .before .before .before .before .before .before .before .before .before .before .before .before .before .before .before .pre) .0 .1 .1 .0, (c .before .loop-test) .taken, (c .before .before .before .lower) .ensures), (c .before .before .before .before .before .next-run) .ensures .near))
+run-place-requires c κs = ((c .before .before .before .before .before .before .before .before .before .before .before .before .before .before .before .pre) .0 .1 .0, (omega (arith, (c .before .before .before .before .before .before .before .before .before .before .before .before .before .before .before .pre) .0 .1 .1 .0, (c .before .loop-test) .taken, (c .before .before .before .lower) .ensures), (c .before .before .before .before .before .next-run) .ensures .1 .near))
 
 number-of-requires : tie.Need-number-of-requires Inv-loop μ-loop
 number-of-requires c κs =
@@ -81,7 +81,7 @@ stretch-end-requires c κs =
     let nb = (c .before .before .before .before .before .before .before .before .before .before .number-of) in
     let l = (c .before .before .before .before .before .before .before .before .before .before .before .before .before .before .before .before .before .before .loop) in
     let notes = seen-agree (a .kind) (a .table .now) (nb .last .1 .1 .0) (nb .last .1 .1 .1 .1 .1 .0) _ (omega (arith, nb .ensures .2, nb .kept, l .inv .0 .few, (c .before .before .before .before .before .before .before .before .before .before .before .before .before .before .before .before .before .before .before .before .before .before .before .before .before .before .before .before .before .before .before .pre) .1 .0 .1 .distinct, l .inv .3, l .inv .5, (c .before .before .before .before .before .before .before .before .before .before .before .before .before .before .before .before .if1) .left)) (nb .ensures .1) in
-    (((c .before .before .before .before .before .before .before .before .before .before .before .before .before .before .before .before .before .before .before .before .before .before .before .before .before .before .before .before .before .before .before .pre) .0 .1 .0, (omega (arith, (c .before .before .before .before .before .before .before .before .before .before .before .before .before .before .before .before .before .before .before .before .before .before .before .before .before .before .before .before .before .before .before .pre) .0 .1 .1 .0, (c .before .before .before .before .before .before .before .before .before .before .before .before .before .before .before .before .before .before .before .lower) .ensures), ((c .before .before .before .before .before .before .before .before .before .before .before .before .before .before .before .before .before .before .before .before .before .next-run) .ensures .near, (c .before .before .before .before .before .before .before .before .before .before .before .before .before .before .before .before .before .loop-test) .taken))), (notes, l .inv .11))
+    (((c .before .before .before .before .before .before .before .before .before .before .before .before .before .before .before .before .before .before .before .before .before .before .before .before .before .before .before .before .before .before .before .pre) .0 .1 .0, (omega (arith, (c .before .before .before .before .before .before .before .before .before .before .before .before .before .before .before .before .before .before .before .before .before .before .before .before .before .before .before .before .before .before .before .pre) .0 .1 .1 .0, (c .before .before .before .before .before .before .before .before .before .before .before .before .before .before .before .before .before .before .before .lower) .ensures), ((c .before .before .before .before .before .before .before .before .before .before .before .before .before .before .before .before .before .before .before .before .before .next-run) .ensures .1 .near, (c .before .before .before .before .before .before .before .before .before .before .before .before .before .before .before .before .before .loop-test) .taken))), (notes, l .inv .11))
 
 cast-extend : tie.Need-cast-extend Inv-loop μ-loop
 cast-extend c = omega (arith, (c .before .before .before .before .stretch-end) .ensures .0 .most, (c .before .before .before .before .before .before .before .before .before .before .before .before .before .before .before .before .before .before .before .before .before .before .before .before .lower) .ensures, (c .before .before .before .before .before .before .before .before .before .before .before .before .before .before .before .before .before .before .before .before .before .before .before .before .before .before .before .before .before .before .before .before .before .before .before .before .pre) .0 .1 .1 .0)
@@ -125,7 +125,7 @@ loop-again c =
     let next = stands-next (a .kind) t item (a .glyphs) (l .ends) (l .nums) (l .firsts) (l .others) (l .slots) (l .seen) (l .stretches) (l .items) (l .glyph) s
     (omega (arith, s .few, o .distinct, l .inv .3, l .inv .5, (c .before .before .before .before .before .before .before .before .before .before .before .before .before .before .before .before .before .before .before .before .before .before .before .before .before .before .before .if1) .left)) P (st .result) (nb .result) (ex .result) ends nums firsts others slots seen
     (omega (arith, nb .kept)) (st .ensures .0 .more) (omega (arith, st .ensures .0 .most, (c .before .before .before .before .before .before .before .before .before .before .before .before .before .before .before .before .before .before .before .before .before .before .before .before .before .before .before .before .before .before .lower) .ensures))
-    (λ x b d. run-item (a .kind) t (a .glyphs) (a .at) (a .base) _ x run ((c .before .before .before .before .before .before .before .before .before .before .before .before .before .before .before .before .before .before .before .before .before .before .before .before .before .before .before .before .before .before .before .before .before .before .before .before .before .before .before .before .before .before .pre) .1 .0 .0) ((c .before .before .before .before .before .before .before .before .before .before .before .before .before .before .before .before .before .before .before .before .before .before .before .before .before .before .before .before .before .before .before .before .before .before .before .before .before .before .before .before .before .before .pre) .0 .1 .1 .0) ((c .before .before .before .before .before .before .before .before .before .before .before .before .before .before .before .before .before .before .before .before .before .before .before .before .before .before .before .before .before .before .before .before .next-run) .ensures) (omega (arith, l .inv .1, b)) (omega (arith, st .ensures .0 .most, (c .before .before .before .before .before .before .before .before .before .before .before .before .before .before .before .before .before .before .before .before .before .before .before .before .before .before .before .before .before .before .lower) .ensures)) (omega (arith, st .ensures .0 .most, (c .before .before .before .before .before .before .before .before .before .before .before .before .before .before .before .before .before .before .before .before .before .before .before .before .before .before .before .before .before .before .lower) .ensures)))
+    (λ x b d. run-item (a .kind) t (a .glyphs) (a .at) (a .base) _ x run ((c .before .before .before .before .before .before .before .before .before .before .before .before .before .before .before .before .before .before .before .before .before .before .before .before .before .before .before .before .before .before .before .before .before .before .before .before .before .before .before .before .before .before .pre) .1 .0 .0) ((c .before .before .before .before .before .before .before .before .before .before .before .before .before .before .before .before .before .before .before .before .before .before .before .before .before .before .before .before .before .before .before .before .before .before .before .before .before .before .before .before .before .before .pre) .0 .1 .1 .0) ((c .before .before .before .before .before .before .before .before .before .before .before .before .before .before .before .before .before .before .before .before .before .before .before .before .before .before .before .before .before .before .before .before .next-run) .ensures .1) (omega (arith, l .inv .1, b)) (omega (arith, st .ensures .0 .most, (c .before .before .before .before .before .before .before .before .before .before .before .before .before .before .before .before .before .before .before .before .before .before .before .before .before .before .before .before .before .before .lower) .ensures)) (omega (arith, st .ensures .0 .most, (c .before .before .before .before .before .before .before .before .before .before .before .before .before .before .before .before .before .before .before .before .before .before .before .before .before .before .before .before .before .before .lower) .ensures)))
     (subst (λ (q : ℕ). Entered (a .kind) t (l .firsts) firsts others slots (l .items) q (nb .result)) {y = P (l .glyph)} (c .before .before .before .before .before .before .before .before .before .before .before .before .before .before .before .before .before .before .before .before .before .before .before .before .before .before .run-place .ensures) (nb .ensures .0)) (nb .ensures .1) (st .ensures .0 .same) w (omega (arith, w .most, ex .kept, (c .before .before .before .before .before .before .before .before .before .before .before .before .before .before .before .before .before .before .before .before .before .before .before .before .before .before .before .if1) .left)) in (
       subst (λ (k : ℕ). Stands (a .kind) t item (a .glyphs) ends nums firsts others slots seen (ex .result) k (st .result)) (sym ((c .larger) .ensures)) next,
       omega (arith, l .inv .1, st .ensures .0 .more),
@@ -166,7 +166,7 @@ returns-2 : tie.Need-returns-2 Inv-loop μ-loop
 returns-2 c =
     let l = (c .before .loop) in
     let a = (c .before .before .before .before .before .before .before .before .before .before .before .before .before .before .args) in
-    let w = (c .before .before .before .before .next-run) .ensures in (
+    let w = (c .before .before .before .before .next-run) .ensures .1 in (
       l .inv .0,
       l .inv .11,
       omega (arith, (c .loop-test) .left, (c .before .before .lower) .ensures, w .begins, w .more, (c .before .before .before .before .before .before .before .before .before .before .before .before .before .before .pre) .1 .1 .1 .1 .0),

@@ -1,5 +1,6 @@
 -- `write_glyphs::same_values` meets its contract.
 use Rattle.write_glyphs.proofs.Laws.{lead-same, noted-alike}
+use Rattle.lookup_targets.proofs.Laws.{along-noted}
 use borrow.Author.Needs.{needs}
 use Rattle.write_glyphs.proofs.same_values.Statement.{statement}
 use Rattle.write_glyphs.proofs.same_values.Tie as tie
@@ -27,7 +28,7 @@ returns c =
     let k = c .before .before .before .before .before .before .before .before .before .pre in
     let v = c .before .before .before .before .known-values in
     let s = lead-same (a .kind) (a .table .now) (a .base) (a .seen .now) (a .place) (a .number) (v .result) (k .1 .0) (v .ensures .1) in
-    (v .ensures .0, v .ensures .1, noted-alike (a .kind) (a .table .now) (a .base) (a .place) (v .result) (a .alike .now) _ (c .before .before .note-values .ensures) s (k .1 .1))
+    (v .ensures .0, v .ensures .1, noted-alike (a .kind) (a .table .now) (a .base) (a .place) (v .result) (a .alike .now) _ (along-noted (a .place) (v .result) (c .before .before .note-values .ensures)) s (k .1 .1))
 
 pub same-values-spec : {M : Type 1} → statement M
 same-values-spec =
