@@ -7,8 +7,9 @@
  * only read may.
  *
  * What is answered. A refusal is the number of a just_refusal, 0 where there is none. What stands beside a refusal,
- * or beside `found` false, is zeros, but for the looks of a just_value_answer. A refusal leaves every lent buffer as it was. Padding between the members of a
- * struct that a call fills may hold anything, so compare verdicts member by member.
+ * or beside `found` false, is zeros, but for the looks of a just_value_answer. A refusal leaves every lent buffer as
+ * it was. What is stored in a lent buffer has no padding, so that every byte of it is told; padding between the members
+ * of a struct that a call answers may hold anything.
  *
  * Any bytes and any numbers may be handed in. A bool is false or true. A direction is 0 for horizontal and any other
  * number for vertical, a lookup 0 for the width lookup and any other number for the action lookup. `glyph_count`
@@ -152,11 +153,11 @@ struct just_length_answer {
 };
 
 /* An action that fires: the glyph's place in the line and the action's number in the glyph's list, both from 0, and
- * whether it substitutes. */
+ * whether it substitutes: 1 where it does, else 0. */
 struct just_verdict {
     uint16_t place;
     uint16_t action;
-    bool substitutes;
+    uint16_t substitutes;
 };
 
 /* What is said of a line: what is left of the gap, how many entries of the machine were taken (0 without a machine),

@@ -29,11 +29,11 @@ struct Buffers {
 
 fn noise(asked: &mut Questions) -> Verdict {
     let number = asked.number();
-    Verdict { place: number as u16, action: (number >> 16) as u16, substitutes: number >> 63 == 1 }
+    Verdict { place: number as u16, action: (number >> 16) as u16, substitutes: (number >> 32) as u16 }
 }
 
 fn verdict(record: &reference::VerdictRecord) -> Verdict {
-    Verdict { place: record.place as u16, action: record.number as u16, substitutes: record.substituting }
+    Verdict { place: record.place as u16, action: record.number as u16, substitutes: record.substituting.into() }
 }
 
 impl Buffers {

@@ -29,7 +29,7 @@ mod sections;
 mod sheet;
 mod table;
 
-pub use line::{Answer, Justified, Lent, Line, Verdict, DELETED};
+pub use line::{Answer, Justified, Lent, Line, Verdict, VerdictRecord, DELETED};
 pub use parts::{Act, Action, Direction, Entry, Limits, Meaning, Pair, Rule, Sizes};
 pub use refusal::Refusal;
 pub use sections::{Machine, Run, Side};

@@ -5,7 +5,7 @@ use crate::refusal::Refusal;
 use crate::table::Table;
 use just_raw as raw;
 
-pub use raw::{Lent, Verdict};
+pub use raw::{Lent, Verdict as VerdictRecord};
 
 /// The glyph that stands for a deleted one.
 pub const DELETED: u16 = 0xFFFF;
@@ -41,6 +41,22 @@ pub struct Answer {
     pub verdicts: usize,
 }
 
+/// An action that fires.
+#[derive(Clone, Copy, Debug, PartialEq, Eq, Hash)]
+pub struct Verdict {
+    /// The glyph's place in the line, from 0.
+    pub place: u16,
+    /// The action's number in the glyph's list, from 0.
+    pub action: u16,
+    pub substitutes: bool,
+}
+
+impl From<VerdictRecord> for Verdict {
+    fn from(record: VerdictRecord) -> Verdict {
+        Verdict { place: record.place, action: record.action, substitutes: record.substitutes != 0 }
+    }
+}
+
 /// A justified line.
 #[derive(Clone, Debug, PartialEq, Eq)]
 pub struct Justified {
@@ -54,10 +70,10 @@ pub struct Justified {
 }
 
 impl Table<'_> {
-    /// Justifies a line into lent buffers. A refusal changes none of them.
+    /// Justifies a line into lent buffers. A refusal changes none of them. [`Verdict::from`] reads a record of the list.
     ///
     /// ```
-    /// use just::{Answer, Direction, Lent, Line, Table, Verdict};
+    /// use just::{Answer, Direction, Lent, Line, Table};
     ///
     /// let bytes = [0, 1, 0, 0, 0, 0, 0, 0, 0, 0];
     /// let table = Table::new(&bytes, 1)?;
@@ -122,10 +138,10 @@ impl Table<'_> {
     fn justify_with(&self, line: &Line, room: usize) -> Result<Justified, Refusal> {
         let count = line.glyphs.len();
         let (mut classes, mut before, mut after) = (vec![0; count], vec![0; count], vec![0; count]);
-        let mut verdicts = vec![Verdict::default(); room];
-        let lent = Lent { classes: &mut classes, before: &mut before, after: &mut after, verdicts: &mut verdicts };
+        let mut records = vec![VerdictRecord::default(); room];
+        let lent = Lent { classes: &mut classes, before: &mut before, after: &mut after, verdicts: &mut records };
         let Answer { remainder, entries, verdicts: stored } = self.justify_into(line, lent)?;
-        verdicts.truncate(stored);
+        let verdicts = records[..stored].iter().copied().map(Verdict::from).collect();
         Ok(Justified { classes, before, after, remainder, entries, verdicts })
     }
 }

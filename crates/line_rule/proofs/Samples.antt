@@ -64,7 +64,7 @@ abbrev action : ℕ → ℕ → Action
 action class ty = record { class = class; ty = ty; content = [] }
 
 abbrev verdict : ℕ → ℕ → Verdict
-verdict place number = record { place = place; action = number; substitutes = false }
+verdict place number = record { place = place; action = number; substitutes = 0 }
 
 pub numbers : firings 9 7 65536 (negℤ (pos 5)) 0 (action 8 3 ∷ action 7 1 ∷ action 7 3 ∷ action 7 4 ∷ []) ≡ verdict 9 2 ∷ verdict 9 3 ∷ []
 unfolding firings firesOf typeFires adds stretches

@@ -132,10 +132,11 @@ remainderOf s l = signedOf (shrinks l) (lineLeft (partsFor s l) (gapSize l))
 
 -- ---- the verdicts
 
+-- 1 in a record that substitutes, 0 in a plain one
 abbrev pub recordIf : Fires → ℕ → ℕ → List Verdict
 recordIf No place number = []
-recordIf Plain place number = record { place = place; action = number; substitutes = false } ∷ []
-recordIf Substitutes place number = record { place = place; action = number; substitutes = true } ∷ []
+recordIf Plain place number = record { place = place; action = number; substitutes = 0 } ∷ []
+recordIf Substitutes place number = record { place = place; action = number; substitutes = 1 } ∷ []
 
 -- the firings of a glyph's actions, in list order; `number` counts all of the list
 unfoldable pub firings : ℕ → ℕ → ℕ → ℤ → ℕ → List Action → List Verdict

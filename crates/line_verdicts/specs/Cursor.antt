@@ -72,18 +72,18 @@ firesCount Substitutes = 1
 abbrev pub given : Step → List Verdict
 given r = cond (r .found) (r .verdict ∷ []) []
 
-abbrev pub verdictOf : ℕ → ℕ → Bool → Verdict
+abbrev pub verdictOf : ℕ → ℕ → ℕ → Verdict
 verdictOf place number substitutes = record { place = place; action = number; substitutes = substitutes }
 
 -- the step past an action that was judged
 abbrev pub stepOf : Fires → ℕ → ℕ → Cursor → Step
-stepOf No place number next = record { found = false; verdict = verdictOf place number false; next = next }
-stepOf Plain place number next = record { found = true; verdict = verdictOf place number false; next = next }
-stepOf Substitutes place number next = record { found = true; verdict = verdictOf place number true; next = next }
+stepOf No place number next = record { found = false; verdict = verdictOf place number 0; next = next }
+stepOf Plain place number next = record { found = true; verdict = verdictOf place number 0; next = next }
+stepOf Substitutes place number next = record { found = true; verdict = verdictOf place number 1; next = next }
 
 -- a step that found nothing
 abbrev pub nothingAt : Cursor → Step
-nothingAt next = record { found = false; verdict = verdictOf 0 0 false; next = next }
+nothingAt next = record { found = false; verdict = verdictOf 0 0 0; next = next }
 
 -- past the action at hand
 abbrev pub pastOf : List ℕ → Cursor → Cursor

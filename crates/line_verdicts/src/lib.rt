@@ -71,7 +71,7 @@ fn step_of(fires: Fires, place: u16, number: u16, next: Cursor) -> Step
             verdict: Verdict {
                 place,
                 action: number,
-                substitutes: false,
+                substitutes: 0,
             },
             next,
         },
@@ -80,7 +80,7 @@ fn step_of(fires: Fires, place: u16, number: u16, next: Cursor) -> Step
             verdict: Verdict {
                 place,
                 action: number,
-                substitutes: false,
+                substitutes: 0,
             },
             next,
         },
@@ -89,7 +89,7 @@ fn step_of(fires: Fires, place: u16, number: u16, next: Cursor) -> Step
             verdict: Verdict {
                 place,
                 action: number,
-                substitutes: true,
+                substitutes: 1,
             },
             next,
         },
@@ -103,7 +103,7 @@ fn nothing_at(next: Cursor) -> Step
     let verdict = Verdict {
         place: 0,
         action: 0,
-        substitutes: false,
+        substitutes: 0,
     };
     Step {
         found: false,

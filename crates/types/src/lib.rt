@@ -51,13 +51,13 @@ pub struct HeldAction {
     pub bytes: [u8; 76],
 }
 
-// An action that fires: the glyph's place in the line, the action's number in its list, both from 0, and
-// whether a type 2 action substitutes.
+// An action that fires: the glyph's place in the line, the action's number in its list, both from 0, and 1 where a
+// type 2 action substitutes, else 0: a number, so that the record has no padding and each byte of a lent list is told.
 #[repr(C)]
 pub struct Verdict {
     pub place: u16,
     pub action: u16,
-    pub substitutes: bool,
+    pub substitutes: u16,
 }
 
 // A direction by its number, as programs in C and other languages hand it in.

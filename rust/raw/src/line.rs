@@ -49,7 +49,7 @@ pub struct Lent<'a> {
     pub verdicts: &'a mut [Verdict],
 }
 
-/// An action that fires.
+/// An action that fires. There is no padding: what a call stores is all of the record.
 #[derive(Clone, Copy, Debug, Default, PartialEq, Eq, Hash)]
 #[repr(C)]
 pub struct Verdict {
@@ -57,7 +57,8 @@ pub struct Verdict {
     pub place: u16,
     /// The action's number in the glyph's list, from 0.
     pub action: u16,
-    pub substitutes: bool,
+    /// 1 where it substitutes, else 0.
+    pub substitutes: u16,
 }
 
 /// What is said of a line whose buffers were filled.
@@ -77,7 +78,7 @@ impl Table<'_> {
     pub fn justify(self, line: &Line, lent: Lent) -> Answer<Said> {
         let (table, length, glyph_count) = self.lent();
         // SAFETY: each pointer and length are of one slice; what is written is lent to be written, and so overlaps nothing
-        // else; what the library stores are numbers and bools, valid in each place.
+        // else; what the library stores are numbers, valid in each place.
         unsafe {
             just_justify(
                 table,
