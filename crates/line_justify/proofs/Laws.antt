@@ -14,7 +14,7 @@ use Rattle.table.specs.Means.{meaningOf}
 use Rattle.line_verdicts.specs.declared.Cursor.{Cursor}
 use Rattle.line_verdicts.specs.declared.Step.{Step}
 use Rattle.line_verdicts.specs.Cursor.{Moved, moved, leftAt, startCursor, Serves, InLine, Ready}
-use Rattle.line_verdicts.proofs.Laws.{all-left, start-serves, table-short}
+use Rattle.line_verdicts.proofs.Laws.{all-left, none-left, start-serves, table-short}
 use Rattle.line_justify.specs.Stored.{lineVerdicts, filledWith}
 
 -- none yet
@@ -64,7 +64,8 @@ module _ (t : List ℕ) (s : Side) (l : Moved) (glyphs : List ℕ) (vs : List Ve
       go true f = sym (k .left) ∙ e .splits ∙ ap (λ (b : Bool). cond b (r .verdict ∷ []) [] ++ leftAt t s l glyphs (r .next)) f
       go false f =
           let w : drop i vs ≡ [] =
-          sym (k .left) ∙ e .splits ∙ ap (λ (b : Bool). cond b (r .verdict ∷ []) [] ++ leftAt t s l glyphs (r .next)) f ∙ e .spent f
+          sym (k .left) ∙ e .splits ∙ ap (λ (b : Bool). cond b (r .verdict ∷ []) [] ++ leftAt t s l glyphs (r .next)) f
+          ∙ ap (λ (x : Step). leftAt t s l glyphs (x .next)) (e .spent f) ∙ none-left t s l glyphs
           in absurd (omega (arith, length-drop i vs, ap (λ (x : List Verdict). length x) w))
 
   pub taken-next : Taken t s l glyphs vs (suc i) (r .next)

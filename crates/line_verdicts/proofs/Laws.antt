@@ -39,7 +39,7 @@ use Rattle.table_ask.proofs.Laws.{list-clear}
 use Rattle.line_rule.specs.Line.{recordIf, firings, verdictsFrom}
 use Rattle.line_verdicts.specs.declared.Cursor.{Cursor}
 use Rattle.line_verdicts.specs.declared.Step.{Step}
-use Rattle.line_verdicts.specs.Cursor.{Moved, classAt, growthAt, verdictsAt, listLeft, leftAt, startCursor, handCursor, firesCount, given, stepOf, nothingAt, pastOf, judgedAt, Serves, Begins, InList, Here, InLine, Fits}
+use Rattle.line_verdicts.specs.Cursor.{Moved, classAt, growthAt, verdictsAt, listLeft, leftAt, startCursor, endCursor, handCursor, firesCount, given, stepOf, nothingAt, pastOf, judgedAt, Serves, Begins, InList, Here, InLine, Fits}
 
 -- ---- an accepted table
 
@@ -281,15 +281,19 @@ module _ (t : List ℕ) (s : Side) (l : Moved) (glyphs : List ℕ) where
   unfolding verdictsAt verdictsFrom
   verdicts-end k h = ap (λ (gs : List ℕ). verdictsFrom s (l .size) k gs (drop k (l .classes)) (drop k (l .before)) (drop k (l .after))) (drop-past glyphs k h)
 
+  -- at the line's end nothing is left
+  pub none-left : leftAt t s l glyphs (endCursor (length glyphs)) ≡ []
+  none-left = line-spent (endCursor (length glyphs)) refl ∙ verdicts-end (length glyphs) (omega arith)
+
   pub line-end : (c₀ : Cursor) (r : Step) (k : ℕ) → leftAt t s l glyphs c₀ ≡ verdictsAt s l glyphs k → length glyphs ≡ k → length t ≤ 32768
-      → r ≡ nothingAt (record { next = k; number = 0; left = 0; at = 0 }) → InLine t s l glyphs (length glyphs) c₀ r
+      → r ≡ nothingAt (endCursor k) → InLine t s l glyphs (length glyphs) c₀ r
   unfolding walk
   line-end c₀ r k w h short e =
       subst (InLine t s l glyphs (length glyphs) c₀) (sym e)
       (record {
-        splits = w ∙ sym (line-spent (record { next = k; number = 0; left = 0; at = 0 }) refl);
+        splits = w ∙ sym (line-spent (endCursor k) refl);
         serves = record { font = 0; short = short; clear = refl; few = omega arith; begun = λ z. refl; within = omega (arith, h) };
-        spent = λ g. line-spent (record { next = k; number = 0; left = 0; at = 0 }) refl ∙ verdicts-end k (omega (arith, h));
+        spent = λ g. ap (λ (p : ℕ). nothingAt (endCursor p)) (sym h);
       })
 
   pub start-serves : length t ≤ 32768 → Serves t (length glyphs) startCursor

@@ -56,6 +56,10 @@ leftAt t s l glyphs c = listLeft t (classAt l (c .next - 1)) (growthAt l (c .nex
 abbrev pub startCursor : Cursor
 startCursor = record { next = 0; number = 0; left = 0; at = 0 }
 
+-- all of a line of so many glyphs is taken
+abbrev pub endCursor : ℕ → Cursor
+endCursor places = record { next = places; number = 0; left = 0; at = 0 }
+
 -- nothing is taken of a list of so many actions, the first of which stands at `at`; whose glyph's list it is does not count
 abbrev pub handCursor : ℕ → ℕ → Cursor
 handCursor left at = record { next = 1; number = 0; left = left; at = at }
@@ -120,11 +124,12 @@ pub record InList (t : List ℕ) (places class : ℕ) (growth : ℤ) (size : ℕ
 abbrev pub Here : List ℕ → Moved → Cursor → Step → Type 0
 Here t l c = InList t (length (l .classes)) (classAt l (c .next - 1)) (growthAt l (c .next - 1)) (l .size) c
 
--- a step in the line: where nothing is found, nothing is left
+-- a step in the line: it finds the first of what is left, and the rest is left past it; where nothing is found, it says so with zeros, at the line's end.
+-- This fixes the verdict found and, step after step, all that follow; by which numbers a cursor stands for them is left free.
 pub record InLine (t : List ℕ) (s : Side) (l : Moved) (glyphs : List ℕ) (places : ℕ) (c : Cursor) (r : Step) : Type 0 where
   pub splits : leftAt t s l glyphs c ≡ given r ++ leftAt t s l glyphs (r .next)
   pub serves : Serves t places (r .next)
-  pub spent : r .found ≡ false → leftAt t s l glyphs (r .next) ≡ []
+  pub spent : r .found ≡ false → r ≡ nothingAt (endCursor places)
 
 -- the classes and both movements have an element for each glyph, of which there are at most 1,024
 pub record Fits (l : Moved) (glyphs : List ℕ) : Type 0 where

@@ -31,7 +31,7 @@ pub struct Cursor {
     pub at: usize,
 }
 
-// The next verdict, if one was found, and the cursor past it.
+// The next verdict, if one was found, and the cursor past it; else a verdict of zeros, and the cursor at the line's end.
 pub struct Step {
     pub found: bool,
     pub verdict: Verdict,
