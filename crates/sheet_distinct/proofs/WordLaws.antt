@@ -1,25 +1,15 @@
 -- Two slices that begin with the same word.
-use Prim.Native.Nat.{ℕ, _+_, _-_, _*_, _≤_, _<_}
-use mathlib.Core.Path.{_≡_, sym, ap, ap₂, _∙_, subst}
+use Prim.Native.Nat.{ℕ, _+_, _-_, _≤_, _<_}
+use mathlib.Core.Path.{_≡_, sym, ap, _∙_, subst}
 use mathlib.Core.List.{List}
 use native.Mathlib.Omega.{arith}
 use lib.ListN.{length, getD}
 use lib.Seq.{slice}
-use Rattle.fields.specs.Field.{u16At, u32At, Bytes}
+use Rattle.fields.specs.Field.{u32At, Bytes}
 use Rattle.encoding.specs.Dictionary.{Le}
 use Rattle.encoding.proofs.CodeLaws.{half-bytes, word-halves}
 use Rattle.sheet_distinct.specs.Order.{Shared}
 use Rattle.sheet_distinct.proofs.OrderLaws.{turn-on, turn-back}
-
--- a word is its four bytes
-pub word-is : (s : List ℕ) (i : ℕ) → getD s i 0 * 16777216 + getD s (i + 1) 0 * 65536 + getD s (i + 2) 0 * 256 + getD s (i + 3) 0 ≡ u32At s i
-unfolding u32At u16At
-word-is s i =
-    let e : getD s (i + 3) 0 ≡ getD s (i + 2 + 1) 0 = ap (λ (k : ℕ). getD s k 0) (plus i) in
-    omega (arith, e)
-  where
-    plus : (i : ℕ) → i + 3 ≡ i + 2 + 1
-    plus i = omega arith
 
 -- which of the slices from i and from j comes first, and which of those from x and from y, is one answer
 abbrev pub Alike : List ℕ → ℕ → ℕ → ℕ → ℕ → ℕ → ℕ → Type 0

@@ -7,30 +7,10 @@ ghost use mathlib.Core.Path.{_≡_};
 ghost use Prim.Native.Nat.{_+_, _*_, _≤_, _<_, _^_, min};
 ghost use lib.ListN.{length, getD};
 ghost use lib.Seq.{slice};
-ghost use Rattle.fields.specs.Field.{u32At};
 ghost use Rattle.encoding.specs.Tests.{Says};
 ghost use Rattle.encoding.specs.Dictionary.{Le};
 ghost use Rattle.sheet_distinct.specs.Order.{Shared, stretch, NoLater, Ordered, Sorted, left, Next, Apart, Adjacent, countFrom};
 ghost use Rattle.sheet_distinct.specs.Slots.{mixed, slotOf, Rooms, Thinned};
-
-fn byte(x: u8) -> usize
-    ensures { λ r. ⌜ (r ≡ x) × (r < 2 ^ 8) ⌝ }
-{
-    x as usize
-}
-
-// The 32-bit number at a position, all of it inside: read without a test for each byte, which would be most of what a
-// word costs.
-fn word(bytes: &[u8], at: usize) -> usize
-    requires { ⌜ at + 4 ≤ length (now bytes) ⌝ }
-    ensures { λ r. ⌜ (r ≡ u32At (now (bytes .entry)) at) × (r < 2 ^ 32) ⌝ }
-{
-    let first = byte(bytes[at]);
-    let second = byte(bytes[at + 1]);
-    let third = byte(bytes[at + 2]);
-    let fourth = byte(bytes[at + 3]);
-    first * 16777216 + second * 65536 + third * 256 + fourth
-}
 
 // How many bytes, word by word, the bytes from `a` to `ae` and those from `b` to `be` share at their beginning.
 fn shared(bytes: &[u8], a: usize, ae: usize, b: usize, be: usize) -> usize
@@ -43,7 +23,7 @@ fn shared(bytes: &[u8], a: usize, ae: usize, b: usize, be: usize) -> usize
         if be < j + 4 {
             return i - a;
         }
-        if word(bytes, i) == word(bytes, j) {
+        if fields::u32_in(bytes, i) == fields::u32_in(bytes, j) {
             i += 4;
             j += 4;
         } else {
@@ -236,7 +216,7 @@ fn mix(bytes: &[u8], at: usize, words: usize) -> usize
     let mut place = at;
     let mut left = words;
     while 0 < left {
-        sum = (sum + word(bytes, place)) % 4294967296 * FACTOR % 4294967296;
+        sum = (sum + fields::u32_in(bytes, place)) % 4294967296 * FACTOR % 4294967296;
         place += 4;
         left -= 1;
     }

@@ -19,8 +19,8 @@ abbrev μ-loop : tie.MeasureT-loop
 loop-holds : tie.Need-loop-holds Inv-loop μ-loop
 loop-holds c = (c .before .pre, omega arith, refl)
 
-word-requires : tie.Need-word-requires Inv-loop μ-loop
-word-requires c κs = search needs
+u32-in-requires : tie.Need-u32-in-requires Inv-loop μ-loop
+u32-in-requires c κs = search needs
 
 add-sum : tie.Need-add-sum Inv-loop μ-loop
 add-sum c = search needs
@@ -43,7 +43,7 @@ loop-again c =
     let s = c .before .before .before .before .args .bytes .now in (
       omega arith,
       omega arith,
-      ap (λ (x : ℕ). mixed s (l .left - 1) (l .place + 4) ((l .sum + x) % 4294967296 * 2654435761 % 4294967296)) (c .word .ensures .0)
+      ap (λ (x : ℕ). mixed s (l .left - 1) (l .place + 4) ((l .sum + x) % 4294967296 * 2654435761 % 4294967296)) (c .u32-in .ensures .0)
           ∙ sym (mixed-next s (l .left) (l .place) (l .sum) (omega arith)) ∙ l .inv .2,
     )
 
@@ -60,7 +60,7 @@ mix-spec =
     Inv-loop
     μ-loop
     loop-holds
-    word-requires
+    u32-in-requires
     add-sum
     mul-sum
     add-place

@@ -33,11 +33,11 @@ returns c =
     let a = c .before .before .before .before .args in
     shared-is (a .bytes .now) (a .a) (a .ae) (a .b) (a .be) (l .i) (l .j) (l .inv .0) (l .inv .1) (l .inv .2) (l .inv .3) (l .inv .4)
 
-word-requires : tie.Need-word-requires Inv-loop μ-loop
-word-requires c κs = omega arith
+u32-in-requires : tie.Need-u32-in-requires Inv-loop μ-loop
+u32-in-requires c κs = omega arith
 
-word-requires-2 : tie.Need-word-requires-2 Inv-loop μ-loop
-word-requires-2 c κs = omega arith
+u32-in-requires-2 : tie.Need-u32-in-requires-2 Inv-loop μ-loop
+u32-in-requires-2 c κs = omega arith
 
 add-i : tie.Need-add-i Inv-loop μ-loop
 add-i c = omega arith
@@ -54,7 +54,7 @@ loop-again c =
     let a = c .before .before .before .before .before .before .before .args in
     let s = a .bytes .now in
     let bytes : Bytes s = λ i. omega (arith, c .before .before .before .before .before .before .shared-slice-known .given i) in
-    let e : u32At s (l .i) ≡ u32At s (l .j) = sym (c .before .before .word .ensures .0) ∙ c .if2 .taken ∙ c .before .word2 .ensures .0 in
+    let e : u32At s (l .i) ≡ u32At s (l .j) = sym (c .before .before .u32-in .ensures .0) ∙ c .if2 .taken ∙ c .before .u32-in2 .ensures .0 in
     let w = word s bytes (l .i) (l .j) e (a .ae) (a .be) (omega arith) (omega arith) (omega arith) (omega arith) in
     (omega arith, omega arith, omega arith, omega arith, ((λ h. w .0 (l .inv .4 .0 h)), (λ h. l .inv .4 .1 (w .1 h))))
 
@@ -87,8 +87,8 @@ shared-spec =
     add-if1
     sub-result
     returns
-    word-requires
-    word-requires-2
+    u32-in-requires
+    u32-in-requires-2
     add-i
     add-j
     loop-less
