@@ -27,11 +27,12 @@ use Rattle.meaning.specs.Meaning.{Side}
 use Rattle.meaning.specs.Limits.{emLimit, OkPair, OkCluster, OkSide, Valid}
 use Rattle.meaning.specs.Ask.{sideOf, recordOf}
 use Rattle.actions.specs.declared.Spot.{Spot}
+use Rattle.lookup_targets.specs.declared.Kind.the-variants.{Clusters}
 use Rattle.lookup_targets.specs.Values.{clusterHere}
 use Rattle.table.specs.Table.{tableFault, Accepted}
 use Rattle.table.specs.Means.{meaningOf}
 use Rattle.table_laws.proofs.Valid.{valid-meaning}
-use Rattle.table_ask.specs.Places.{clusterSpot}
+use Rattle.table_ask.specs.Places.{spotIn}
 use Rattle.table_ask.proofs.Asked.{side-is, clusters-are}
 use Rattle.share.specs.Carry.{widest}
 use Rattle.share.specs.Line.{Glyph, apart, Narrow}
@@ -73,7 +74,7 @@ module _ (t : List ℕ) (n : ℕ) (d : Direction) (bytes : Bytes t) (ok : tableF
   record-limits g c =
       record-small c (getD (sideOf d (meaningOf t n) .clusters) g []) (all-getD OkCluster (sideOf d (meaningOf t n) .clusters) [] g (omega arith, tt, tt) (side-ok .clusters) .1)
 
-pub record-is : (t : List ℕ) (n : ℕ) (d : Direction) (g c : ℕ) {s : Spot} → s ≡ clusterSpot t n d g
+pub record-is : (t : List ℕ) (n : ℕ) (d : Direction) (g c : ℕ) {s : Spot} → s ≡ spotIn t n d Clusters g
     → recordOf c (clusterHere t s) ≡ recordFor (sideOf d (meaningOf t n)) g c
 record-is t n d g c {s} e =
     ap (λ (l : List Pair). recordOf c l)

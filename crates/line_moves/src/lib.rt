@@ -9,9 +9,10 @@ ghost use Rattle.fields.specs.declared.Fault.the-variants.{Clear};
 ghost use Rattle.units.specs.Flags.{isUnlimited};
 ghost use Rattle.meaning.specs.Ask.{sideOf};
 ghost use Rattle.cluster.specs.Pairs.{soughtPair};
+ghost use Rattle.lookup_targets.specs.declared.Kind.the-variants.{Clusters};
 ghost use Rattle.table.specs.Table.{tableFault};
 ghost use Rattle.table.specs.Means.{meaningOf};
-ghost use Rattle.table_ask.specs.Places.{clustersIn, Readable};
+ghost use Rattle.table_ask.specs.Places.{lookupIn, Readable};
 ghost use Rattle.class_walk.specs.Line.{handedOut};
 ghost use Rattle.line_rule.specs.Line.{walkOf, recordFor, unitsOf, stageOf, partBy, partOf, partsOf};
 ghost use Rattle.line_moves.specs.Parts.{Known, bareLine, Small, IsSize, PartOf, Laid, Room, SharedOut};
@@ -19,6 +20,7 @@ use actions::Spot;
 use class_walk::Walked;
 use cluster::Sought;
 use line_rule::LineShape;
+use lookup_targets::Kind;
 use table_ask::Lookup;
 use types::Direction;
 use units::Ems;
@@ -147,10 +149,10 @@ fn record_for(
     class: u8,
 ) -> Sought
     requires { ⌜ tableFault (now table) count ≡ Clear ⌝ }
-    requires { ⌜ (clusters ≡ clustersIn (now table) direction) × Readable (now table) clusters ⌝ }
+    requires { ⌜ (clusters ≡ lookupIn (now table) direction Clusters) × Readable (now table) clusters ⌝ }
     ensures { λ r. ⌜ (soughtPair r ≡ recordFor (sideOf direction (meaningOf (now (table .entry)) count)) glyph class) × Small (soughtPair r) ⌝ }
 {
-    match table_ask::cluster_by(table, count, clusters, glyph) {
+    match table_ask::spot_by(table, count, Kind::Clusters, clusters, glyph) {
         Spot::At(at) => table_reader::record_by(table, at as u32, class),
         Spot::Nowhere => Sought::Nothing,
     }
@@ -174,7 +176,7 @@ fn lay_parts(
     ensures { λ r. ⌜ Laid (partsOf (sideOf (shape .direction) (meaningOf (now (table .entry)) count)) shrink (shape .size) (now (glyphs .entry)) (now (classes .entry))) (now (priorities .exit)) (now (extras .exit)) (now (first .exit)) (now (second .exit)) ⌝ }
 {
     let direction = shape.direction;
-    let clusters = table_ask::clusters_in(table, direction);
+    let clusters = table_ask::lookup_in(table, direction, Kind::Clusters);
     let mut i = 0;
     while i < glyphs.len() {
         let sought = record_for(table, count, direction, clusters, glyphs[i], classes[i]);

@@ -26,6 +26,7 @@ use Rattle.actions.specs.Faults.{actionFault, actionsFault, listFault}
 use Rattle.encoding.proofs.UptoLaws.{getD-from}
 use Rattle.actions.specs.Actions.{bytesAt, contentAt, actionAt, actionsAt, listAt, Below}
 use Rattle.actions.proofs.Laws.{action-inside, list-count, list-length}
+use Rattle.lookup_targets.specs.declared.Kind.the-variants.{Lists}
 use Rattle.lookup_targets.specs.Values.{listHere}
 use Rattle.verdict.specs.declared.Fires.{Fires}
 use Rattle.verdict.specs.declared.Fires.the-variants.{No, Plain, Substitutes}
@@ -33,7 +34,7 @@ use Rattle.verdict.specs.Verdict.{breaks, substitutes, typeFires, firesOf}
 use Rattle.table.specs.Table.{tableFault}
 use Rattle.table.specs.Means.{meaningOf}
 use Rattle.table.proofs.Laws.{short}
-use Rattle.table_ask.specs.Places.{listSpot}
+use Rattle.table_ask.specs.Places.{spotIn}
 use Rattle.table_ask.proofs.Asked.{side-is, lists-are}
 use Rattle.table_ask.proofs.Laws.{list-clear}
 use Rattle.line_rule.specs.Line.{recordIf, firings, verdictsFrom}
@@ -45,7 +46,7 @@ use Rattle.line_verdicts.specs.Cursor.{Moved, classAt, growthAt, verdict
 
 module _ (t : List ℕ) (n : ℕ) (d : Direction) where
   -- a glyph's actions stand where they are found
-  pub list-here : (g : ℕ) (s : Spot) → s ≡ listSpot t n d g → getD (sideOf d (meaningOf t n) .lists) g [] ≡ listHere t s
+  pub list-here : (g : ℕ) (s : Spot) → s ≡ spotIn t n d Lists g → getD (sideOf d (meaningOf t n) .lists) g [] ≡ listHere t s
   list-here g s e = ap (λ (x : Side). getD (x .lists) g []) (side-is t n d) ∙ lists-are t n d g ∙ ap (listHere t) (sym e)
 
   module _ (ok : tableFault t n ≡ Clear) where
@@ -54,7 +55,7 @@ module _ (t : List ℕ) (n : ℕ) (d : Direction) where
     table-short = short t n (then-first _ _ ok)
 
     -- a glyph's list that is found, and one that is not there
-    pub begins-there : (g q place m : ℕ) → At q ≡ listSpot t n d g → m ≡ u32At t q
+    pub begins-there : (g q place m : ℕ) → At q ≡ spotIn t n d Lists g → m ≡ u32At t q
         → Begins t (getD (sideOf d (meaningOf t n) .lists) g []) place (record { next = place + 1; number = 0; left = m; at = q + 4 })
     unfolding listFault listAt
     begins-there g q place m e f =
@@ -74,7 +75,7 @@ module _ (t : List ℕ) (n : ℕ) (d : Direction) where
               };
         }
 
-    pub begins-none : (g place : ℕ) → Nowhere ≡ listSpot t n d g
+    pub begins-none : (g place : ℕ) → Nowhere ≡ spotIn t n d Lists g
         → Begins t (getD (sideOf d (meaningOf t n) .lists) g []) place (record { next = place + 1; number = 0; left = 0; at = 0 })
     unfolding actionsAt walk
     begins-none g place e =
@@ -87,9 +88,9 @@ module _ (t : List ℕ) (n : ℕ) (d : Direction) where
 
     -- every list is short
     pub lists-few : (g : ℕ) → length (getD (sideOf d (meaningOf t n) .lists) g []) ≤ 64
-    lists-few g = go (listSpot t n d g) refl
+    lists-few g = go (spotIn t n d Lists g) refl
       where
-        go : (s : Spot) → s ≡ listSpot t n d g → length (getD (sideOf d (meaningOf t n) .lists) g []) ≤ 64
+        go : (s : Spot) → s ≡ spotIn t n d Lists g → length (getD (sideOf d (meaningOf t n) .lists) g []) ≤ 64
         go (At q) e = omega (arith, ap length (list-here g (At q) e), list-length t q, list-count t n q (list-clear t n d ok g q (sym e)))
         go Nowhere e = omega (arith, ap (λ (l : List Action). length l) (list-here g Nowhere e))
 

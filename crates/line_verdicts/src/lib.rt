@@ -8,14 +8,16 @@ ghost use lib.ListN.{length, getD};
 ghost use Rattle.fields.specs.declared.Fault.the-variants.{Clear};
 ghost use Rattle.meaning.specs.Ask.{sideOf};
 ghost use Rattle.actions.specs.Actions.{actionAt};
+ghost use Rattle.lookup_targets.specs.declared.Kind.the-variants.{Lists};
 ghost use Rattle.verdict.specs.Verdict.{firesOf};
 ghost use Rattle.table.specs.Table.{tableFault};
 ghost use Rattle.table.specs.Means.{meaningOf};
-ghost use Rattle.table_ask.specs.Places.{listsIn, Readable};
+ghost use Rattle.table_ask.specs.Places.{lookupIn, Readable};
 ghost use Rattle.line_rule.specs.Line.{firings, verdictsFrom};
 ghost use Rattle.line_verdicts.specs.Cursor.{moved, stepOf, nothingAt, judgedAt, firesCount, handCursor, listLeft, Serves, Begins, InList, Here, InLine, Ready};
 use actions::Spot;
 use line_rule::LineShape;
+use lookup_targets::Kind;
 use table_ask::Lookup;
 use types::Direction;
 use types::Verdict;
@@ -184,10 +186,10 @@ fn begin(
     place: usize,
 ) -> Cursor
     requires { ⌜ (tableFault (now table) count ≡ Clear) × (place < 1024) ⌝ }
-    requires { ⌜ (lists ≡ listsIn (now table) direction) × Readable (now table) lists ⌝ }
+    requires { ⌜ (lists ≡ lookupIn (now table) direction Lists) × Readable (now table) lists ⌝ }
     ensures { λ r. ⌜ Begins (now (table .entry)) (getD (sideOf direction (meaningOf (now (table .entry)) count) .lists) glyph []) place r ⌝ }
 {
-    let Spot::At(at) = table_ask::list_by(table, count, lists, glyph) else {
+    let Spot::At(at) = table_ask::spot_by(table, count, Kind::Lists, lists, glyph) else {
         return Cursor {
             next: place + 1,
             number: 0,
@@ -222,7 +224,7 @@ pub fn next_verdict<'a>(
     if here.found {
         return here;
     }
-    let lists = table_ask::lists_in(table, direction);
+    let lists = table_ask::lookup_in(table, direction, Kind::Lists);
     let mut next = cursor.next;
     while next < glyphs.len() {
         let begun = begin(table, count, direction, lists, glyphs[next], next);
@@ -287,10 +289,10 @@ fn count_glyph(
     size: u32,
 ) -> usize
     requires { ⌜ tableFault (now table) count ≡ Clear ⌝ }
-    requires { ⌜ (lists ≡ listsIn (now table) direction) × Readable (now table) lists ⌝ }
+    requires { ⌜ (lists ≡ lookupIn (now table) direction Lists) × Readable (now table) lists ⌝ }
     ensures { λ r. ⌜ (r ≡ length (firings 0 class size (growth .0) 0 (getD (sideOf direction (meaningOf (now (table .entry)) count) .lists) glyph []))) × (r ≤ 64) ⌝ }
 {
-    let Spot::At(at) = table_ask::list_by(table, count, lists, glyph) else {
+    let Spot::At(at) = table_ask::spot_by(table, count, Kind::Lists, lists, glyph) else {
         return 0;
     };
     count_list(
@@ -317,7 +319,7 @@ pub fn count_verdicts<'a>(
     ensures { λ r. ⌜ r ≡ length (verdictsFrom (sideOf (shape .direction) (meaningOf (now (table .entry)) count)) (shape .size) 0 (now (glyphs .entry)) (now (classes .entry)) (now (before .entry)) (now (after .entry))) ⌝ }
 {
     let direction = shape.direction;
-    let lists = table_ask::lists_in(table, direction);
+    let lists = table_ask::lookup_in(table, direction, Kind::Lists);
     let mut total: usize = 0;
     let mut place: usize = 0;
     while place < glyphs.len() {

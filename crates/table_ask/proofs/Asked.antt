@@ -28,7 +28,9 @@ use Rattle.lookup_targets.specs.declared.Kind.the-variants.{Clusters, Lists}
 use Rattle.lookup_targets.specs.Values.{spotOf, clusterHere, listHere, clusterOf, listOf}
 use Rattle.table.specs.Table.{machineOffset, widthOffset, actionOffset, widthLookup}
 use Rattle.table.specs.Means.{cellBy, machineAt, machineOf, listsOf, sideAt, directionOf, meaningOf}
-use Rattle.table_ask.specs.Places.{directionAt, machineIn, clusterSpot, listSpot, numbered, actionSpot, actionHere}
+use Rattle.lookup_find.specs.Halves.{headAt}
+use Rattle.table_ask.specs.declared.Lookup.the-variants.{Absent, There}
+use Rattle.table_ask.specs.Places.{directionAt, machineIn, clustersIn, listsIn, lookupIn, spotBy, spotIn, numbered, actionSpot, actionHere}
 use Rattle.table_ask.proofs.Rows.{cell-by, index-below}
 
 -- ---- lists of N elements
@@ -175,33 +177,34 @@ module _ (t : List ℕ) (n : ℕ) (d : Direction) where
   -- ---- width records and actions
 
   module _ (g : ℕ) where
-    pub clusters-are : getD (side .clusters) g [] ≡ clusterHere t (clusterSpot t n d g)
-    unfolding directionOf emptySide sideAt clusterSpot clusterOf
+    pub clusters-are : getD (side .clusters) g [] ≡ clusterHere t (spotIn t n d Clusters g)
+    unfolding directionOf emptySide sideAt clustersIn lookupIn spotIn clusterOf
     clusters-are = go (eqb (directionAt t d) 0)
       where
         go : (b : Bool) → getD (cond b (emptySide n) (sideAt t n (directionAt t d)) .clusters) g []
-            ≡ clusterHere t (cond b Nowhere (spotOf Clusters (widthOffset t (directionAt t d)) (valueOf t n (widthLookup (directionAt t d)) g)))
+            ≡ clusterHere t (spotBy t n Clusters (cond b Absent
+            (There (widthLookup (directionAt t d)) (widthOffset t (directionAt t d)) (headAt t (widthLookup (directionAt t d))))) g)
         go true = getD-none n g
         go false = cluster-of t n (widthLookup (directionAt t d)) (widthOffset t (directionAt t d)) g
 
-    pub lists-are : getD (side .lists) g [] ≡ listHere t (listSpot t n d g)
-    unfolding directionOf emptySide sideAt listsOf listSpot listOf
+    pub lists-are : getD (side .lists) g [] ≡ listHere t (spotIn t n d Lists g)
+    unfolding directionOf emptySide sideAt listsOf listsIn lookupIn spotIn listOf
     lists-are = by-direction (eqb (directionAt t d) 0)
       where
         off : ℕ
         off = actionOffset t (directionAt t d)
 
-        by-offset : (b : Bool) → getD (cond b (replicate n []) (upto (listOf t n off off) n)) g [] ≡ listHere t (cond b Nowhere (spotOf Lists off (valueOf t n off g)))
+        by-offset : (b : Bool) → getD (cond b (replicate n []) (upto (listOf t n off off) n)) g [] ≡ listHere t (spotBy t n Lists (cond b Absent (There off off (headAt t off))) g)
         by-offset true = getD-none n g
         by-offset false = list-of t n off off g
 
         by-direction : (b : Bool) → getD (cond b (emptySide n) (sideAt t n (directionAt t d)) .lists) g []
-            ≡ listHere t (cond b Nowhere (cond (eqb off 0) Nowhere (spotOf Lists off (valueOf t n off g))))
+            ≡ listHere t (spotBy t n Lists (cond b Absent (cond (eqb off 0) Absent (There off off (headAt t off)))) g)
         by-direction true = getD-none n g
         by-direction false = by-offset (eqb off 0)
 
     -- `s` is the place as it was found
-    pub record-here : (c : ℕ) (s : Spot) → s ≡ clusterSpot t n d g → maybe pair (recordOf c (clusterHere t s)) ≡ ask (meaningOf t n) (along d (width g c))
+    pub record-here : (c : ℕ) (s : Spot) → s ≡ spotIn t n d Clusters g → maybe pair (recordOf c (clusterHere t s)) ≡ ask (meaningOf t n) (along d (width g c))
     unfolding askSide
     record-here c s e = sym (asked (width g c) ∙ ap (λ (l : List Pair). maybe pair (recordOf c l)) (clusters-are ∙ ap (clusterHere t) (sym e)))
 
@@ -209,7 +212,7 @@ module _ (t : List ℕ) (n : ℕ) (d : Direction) where
     unfolding askSide actionSpot
     action-here k s e =
         ap (actionHere t) e
-        ∙ sym (asked (action g k) ∙ ap (λ (l : List Action). maybe act (getElem? l k)) lists-are ∙ by-spot (listSpot t n d g))
+        ∙ sym (asked (action g k) ∙ ap (λ (l : List Action). maybe act (getElem? l k)) lists-are ∙ by-spot (spotIn t n d Lists g))
       where
         by-place : (p : ℕ) (s : Spot) → placeOf t p k ≡ s → maybe act (getElem? (listHere t (At p)) k) ≡ actionHere t s
         by-place p (At q) e = ap (maybe act) (place-at t p k q e)

@@ -33,7 +33,9 @@ use Rattle.lookup_targets.specs.declared.Kind.the-variants.{Clusters, Lists}
 use Rattle.lookup_targets.specs.Values.{spotOf, spotFault, glyphFault, valuesFault}
 use Rattle.table.specs.Table.{actionOffset, widthOffset, widthLookup, machineOffset, present, offsetsFault, machinePart, actionPart, directionFault, tableFault}
 use Rattle.table.specs.Means.{meaningOf}
-use Rattle.table_ask.specs.Places.{directionAt, listSpot, numbered, actionSpot, cut}
+use Rattle.lookup_find.specs.Halves.{headAt}
+use Rattle.table_ask.specs.declared.Lookup.the-variants.{Absent, There}
+use Rattle.table_ask.specs.Places.{directionAt, listsIn, lookupIn, spotBy, spotIn, numbered, actionSpot, cut}
 use Rattle.table_ask.specs.Components.{empty, componentsHere, unlessFault, componentsOf, stretch, listed}
 use Rattle.table_ask.proofs.Steps.{judged}
 use Rattle.table_ask.proofs.Asked.{value-past, action-here}
@@ -62,8 +64,8 @@ module _ (t : List ℕ) (n : ℕ) (d : Direction) (ok : tableFault t n ≡ Clear
       go Vertical = then-second _ _ (then-second _ _ ok)
 
   -- a glyph's list is without fault
-  pub list-clear : (g q : ℕ) → listSpot t n d g ≡ At q → listFault t n q ≡ Clear
-  unfolding listSpot directionFault actionPart present
+  pub list-clear : (g q : ℕ) → spotIn t n d Lists g ≡ At q → listFault t n q ≡ Clear
+  unfolding spotIn lookupIn listsIn directionFault actionPart present
   list-clear g q e = by-direction (eqb at 0) direction-clear e
     where
       at : ℕ
@@ -72,23 +74,23 @@ module _ (t : List ℕ) (n : ℕ) (d : Direction) (ok : tableFault t n ≡ Clear
       off : ℕ
       off = actionOffset t at
 
-      by-offset : (b : Bool) → cond b Clear (valuesFault t n Lists off off) ≡ Clear → cond b Nowhere (spotOf Lists off (valueOf t n off g)) ≡ At q
+      by-offset : (b : Bool) → cond b Clear (valuesFault t n Lists off off) ≡ Clear → spotBy t n Lists (cond b Absent (There off off (headAt t off))) g ≡ At q
           → listFault t n q ≡ Clear
       by-offset true f e = let z : _≡_ {A = ℕ} 0 1 = cc in absurd (omega arith)
       by-offset false f e = value-clear t n Lists off off g q f e
 
       by-direction : (b : Bool)
           → cond b Clear (offsetsFault t at then machinePart t n (machineOffset t at) then valuesFault t n Clusters (widthLookup at) (widthOffset t at) then actionPart t n off) ≡ Clear
-          → cond b Nowhere (cond (eqb off 0) Nowhere (spotOf Lists off (valueOf t n off g))) ≡ At q → listFault t n q ≡ Clear
+          → spotBy t n Lists (cond b Absent (cond (eqb off 0) Absent (There off off (headAt t off)))) g ≡ At q → listFault t n q ≡ Clear
       by-direction true f e = let z : _≡_ {A = ℕ} 0 1 = cc in absurd (omega arith)
       by-direction false f e = by-offset (eqb off 0) (then-second _ _ (then-second _ _ (then-second _ _ f))) e
 
   -- and so is each of its actions
   pub action-clear : (g k p : ℕ) → actionSpot t n d g k ≡ At p → actionFault t n p ≡ Clear
   unfolding actionSpot
-  action-clear g k p e = by-spot (listSpot t n d g) refl e
+  action-clear g k p e = by-spot (spotIn t n d Lists g) refl e
     where
-      by-spot : (s : Spot) → listSpot t n d g ≡ s → numbered t k s ≡ At p → actionFault t n p ≡ Clear
+      by-spot : (s : Spot) → spotIn t n d Lists g ≡ s → numbered t k s ≡ At p → actionFault t n p ≡ Clear
       by-spot (At q) l e = list-each t n q k p (list-clear g q l) e
       by-spot Nowhere l e = let z : _≡_ {A = ℕ} 0 1 = cc in absurd (omega arith)
 

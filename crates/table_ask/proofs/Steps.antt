@@ -29,7 +29,7 @@ use Rattle.table.specs.Table.{actionOffset, widthOffset, widthLookup, actionPar
 use Rattle.table.proofs.Laws.{present-some, few-glyphs}
 use Rattle.table_ask.specs.declared.Lookup.{Lookup}
 use Rattle.table_ask.specs.declared.Lookup.the-variants.{Absent, There}
-use Rattle.table_ask.specs.Places.{directionAt, machineIn, clustersIn, listsIn, Readable, Sound, spotBy, clusterSpot, listSpot}
+use Rattle.table_ask.specs.Places.{directionAt, machineIn, clustersIn, listsIn, lookupIn, Readable, Sound, spotBy, spotIn}
 use Rattle.table_ask.specs.Components.{unlessFault}
 
 -- the offset of a spot that is there
@@ -74,33 +74,20 @@ module _ (t : List ℕ) (d : Direction) (at : ℕ) (e : at ≡ directionAt t d) 
     unfolding listsIn
     lists-there y head eh = rw (← e, ne-eqb at 0 z, ← eo, ne-eqb off 0 y, ← eh)
 
+-- the lookup of a kind
+module _ (t : List ℕ) (d : Direction) {kind : Kind} {l : Lookup} where
+  pub in-clusters : kind ≡ Clusters → l ≡ clustersIn t d → l ≡ lookupIn t d kind
+  unfolding lookupIn
+  in-clusters k e = e ∙ sym (ap (lookupIn t d) k)
+
+  pub in-lists : kind ≡ Lists → l ≡ listsIn t d → l ≡ lookupIn t d kind
+  unfolding lookupIn
+  in-lists k e = e ∙ sym (ap (lookupIn t d) k)
+
 -- a spot by a direction's lookup is the direction's
-module _ (t : List ℕ) (n : ℕ) (d : Direction) (g : ℕ) {l : Lookup} where
-  pub cluster-found : l ≡ clustersIn t d → spotBy t n Clusters l g ≡ clusterSpot t n d g
-  unfolding clustersIn clusterSpot
-  cluster-found e = ap (λ (k : Lookup). spotBy t n Clusters k g) e ∙ go (eqb at 0)
-    where
-      at : ℕ
-      at = directionAt t d
-
-      go : (b : Bool)
-          → spotBy t n Clusters (cond b Absent (There (widthLookup at) (widthOffset t at) (headAt t (widthLookup at)))) g
-          ≡ cond b Nowhere (spotOf Clusters (widthOffset t at) (valueOf t n (widthLookup at) g))
-      go true = refl
-      go false = refl
-
-  pub list-found : l ≡ listsIn t d → spotBy t n Lists l g ≡ listSpot t n d g
-  unfolding listsIn listSpot
-  list-found e = ap (λ (k : Lookup). spotBy t n Lists k g) e ∙ go (eqb (directionAt t d) 0) (eqb off 0)
-    where
-      off : ℕ
-      off = actionOffset t (directionAt t d)
-
-      go : (b c : Bool)
-          → spotBy t n Lists (cond b Absent (cond c Absent (There off off (headAt t off)))) g ≡ cond b Nowhere (cond c Nowhere (spotOf Lists off (valueOf t n off g)))
-      go true c = refl
-      go false true = refl
-      go false false = refl
+pub spot-found : (t : List ℕ) (n : ℕ) (d : Direction) (kind : Kind) (g : ℕ) {l : Lookup} → l ≡ lookupIn t d kind → spotBy t n kind l g ≡ spotIn t n d kind g
+unfolding spotIn
+spot-found t n d kind g e = ap (λ (k : Lookup). spotBy t n kind k g) e
 
 -- ---- the lookups of an accepted table have no fault
 
@@ -123,7 +110,7 @@ module _ (t : List ℕ) (n : ℕ) (e : tableFault t n ≡ Clear) where
         let w = then-second _ _ (then-second _ _ (sym (present-some (directionAt t d) _ z) ∙ side-clear d)) in
         (then-first _ _ w, then-second _ _ w)
 
-    pub clusters-sound : {l : Lookup} → l ≡ clustersIn t d → Sound t n l
+    clusters-sound : {l : Lookup} → l ≡ clustersIn t d → Sound t n l
     unfolding clustersIn valuesFault
     clusters-sound q = subst (Sound t n) (sym q) (go (eqb (directionAt t d) 0) refl)
       where
@@ -133,7 +120,7 @@ module _ (t : List ℕ) (n : ℕ) (e : tableFault t n ≡ Clear) where
         go true u = tt
         go false u = (then-first _ _ (parts-clear (eqb-false _ _ u) .0), few)
 
-    pub lists-sound : {l : Lookup} → l ≡ listsIn t d → Sound t n l
+    lists-sound : {l : Lookup} → l ≡ listsIn t d → Sound t n l
     unfolding listsIn valuesFault actionPart
     lists-sound q = subst (Sound t n) (sym q) (go (eqb (directionAt t d) 0) refl (eqb (actionOffset t (directionAt t d)) 0) refl)
       where
@@ -144,6 +131,11 @@ module _ (t : List ℕ) (n : ℕ) (e : tableFault t n ≡ Clear) where
         go false u true v = tt
         go false u false v =
             (then-first _ _ (sym (present-some (actionOffset t (directionAt t d)) _ (eqb-false _ _ v)) ∙ parts-clear (eqb-false _ _ u) .1), few)
+
+    pub lookup-sound : (kind : Kind) {l : Lookup} → l ≡ lookupIn t d kind → Sound t n l
+    unfolding lookupIn
+    lookup-sound Clusters q = clusters-sound q
+    lookup-sound Lists q = lists-sound q
 
 -- ---- a lookup that is there, as the code has taken it apart
 

@@ -45,6 +45,11 @@ listsIn t d =
     (cond (eqb (actionOffset t (directionAt t d)) 0) Absent
     (There (actionOffset t (directionAt t d)) (actionOffset t (directionAt t d)) (headAt t (actionOffset t (directionAt t d)))))
 
+-- the lookup of a kind in a direction
+unfoldable pub lookupIn : List ℕ → Direction → Kind → Lookup
+lookupIn t d Clusters = clustersIn t d
+lookupIn t d Lists = listsIn t d
+
 -- what is kept of a lookup was read of this table
 abbrev pub Readable : List ℕ → Lookup → Type 0
 Readable t Absent = Unit {0}
@@ -60,18 +65,9 @@ abbrev pub spotBy : List ℕ → ℕ → Kind → Lookup → ℕ → Spot
 spotBy t n kind Absent glyph = Nowhere
 spotBy t n kind (There at base head) glyph = spotOf kind base (valueOf t n at glyph)
 
--- where a glyph's width records stand
-unfoldable pub clusterSpot : List ℕ → ℕ → Direction → ℕ → Spot
-clusterSpot t n d glyph =
-    cond (eqb (directionAt t d) 0) Nowhere
-    (spotOf Clusters (widthOffset t (directionAt t d)) (valueOf t n (widthLookup (directionAt t d)) glyph))
-
--- where a glyph's actions stand
-unfoldable pub listSpot : List ℕ → ℕ → Direction → ℕ → Spot
-listSpot t n d glyph =
-    cond (eqb (directionAt t d) 0) Nowhere
-    (cond (eqb (actionOffset t (directionAt t d)) 0) Nowhere
-    (spotOf Lists (actionOffset t (directionAt t d)) (valueOf t n (actionOffset t (directionAt t d)) glyph)))
+-- where a glyph's cluster or list stands in a direction
+unfoldable pub spotIn : List ℕ → ℕ → Direction → Kind → ℕ → Spot
+spotIn t n d kind glyph = spotBy t n kind (lookupIn t d kind) glyph
 
 -- where the action with a number stands, of the list at a spot
 abbrev pub numbered : List ℕ → ℕ → Spot → Spot
@@ -80,7 +76,7 @@ numbered t k Nowhere = Nowhere
 
 -- where an action stands, by glyph and number
 unfoldable pub actionSpot : List ℕ → ℕ → Direction → ℕ → ℕ → Spot
-actionSpot t n d glyph k = numbered t k (listSpot t n d glyph)
+actionSpot t n d glyph k = numbered t k (spotIn t n d Lists glyph)
 
 -- what the action at a spot answers
 abbrev pub actionHere : List ℕ → Spot → Answer

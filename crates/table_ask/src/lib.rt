@@ -12,7 +12,7 @@ ghost use Rattle.actions.specs.Actions.{Below};
 ghost use Rattle.lookup_targets.specs.declared.Kind.the-variants.{Clusters, Lists};
 ghost use Rattle.table.specs.Table.{tableFault};
 ghost use Rattle.table.specs.Means.{meaningOf};
-ghost use Rattle.table_ask.specs.Places.{directionAt, machineIn, clustersIn, listsIn, Readable, Sound, spotBy, clusterSpot, listSpot, actionSpot, cut};
+ghost use Rattle.table_ask.specs.Places.{directionAt, machineIn, clustersIn, listsIn, lookupIn, Readable, Sound, spotBy, spotIn, actionSpot, cut};
 ghost use Rattle.table_ask.specs.Components.{componentsOf, stretch, placeIn};
 use actions::Spot;
 use actions::Stretch;
@@ -103,7 +103,7 @@ pub fn cell_of(table: &[u8], count: u32, direction: Direction, row: u16, class: 
 }
 
 // The lookup of a direction's clusters.
-pub fn clusters_in(table: &[u8], direction: Direction) -> Lookup
+fn clusters_in(table: &[u8], direction: Direction) -> Lookup
     ensures { λ r. ⌜ (r ≡ clustersIn (now (table .entry)) direction) × Readable (now (table .entry)) r ⌝ }
 {
     let at = direction_at(table, direction);
@@ -118,7 +118,7 @@ pub fn clusters_in(table: &[u8], direction: Direction) -> Lookup
 }
 
 // The lookup of a direction's action lists.
-pub fn lists_in(table: &[u8], direction: Direction) -> Lookup
+fn lists_in(table: &[u8], direction: Direction) -> Lookup
     ensures { λ r. ⌜ (r ≡ listsIn (now (table .entry)) direction) × Readable (now (table .entry)) r ⌝ }
 {
     let at = direction_at(table, direction);
@@ -136,49 +136,41 @@ pub fn lists_in(table: &[u8], direction: Direction) -> Lookup
     }
 }
 
-// Where a glyph's width records stand, by the lookup of a direction's clusters.
-pub fn cluster_by(table: &[u8], count: u32, clusters: Lookup, glyph: u16) -> Spot
-    requires { ⌜ Readable (now table) clusters × Sound (now table) count clusters ⌝ }
-    ensures { λ r. ⌜ (r ≡ spotBy (now (table .entry)) count Clusters clusters glyph) × Below (2 ^ 17) r ⌝ }
+// A direction's lookup of a kind.
+pub fn lookup_in(table: &[u8], direction: Direction, kind: Kind) -> Lookup
+    ensures { λ r. ⌜ (r ≡ lookupIn (now (table .entry)) direction kind) × Readable (now (table .entry)) r ⌝ }
 {
-    let Lookup::There { at, base, head } = clusters else {
+    match kind {
+        Kind::Clusters => clusters_in(table, direction),
+        Kind::Lists => lists_in(table, direction),
+    }
+}
+
+// Where a glyph's cluster or list stands, by a direction's lookup of that kind.
+pub fn spot_by(table: &[u8], count: u32, kind: Kind, lookup: Lookup, glyph: u16) -> Spot
+    requires { ⌜ Readable (now table) lookup × Sound (now table) count lookup ⌝ }
+    ensures { λ r. ⌜ (r ≡ spotBy (now (table .entry)) count kind lookup glyph) × Below (2 ^ 17) r ⌝ }
+{
+    let Lookup::There { at, base, head } = lookup else {
         return Spot::Nowhere;
     };
     if head.format == 2 {
         let looked = lookup_find::find_units(table, 2, count as usize, at, head, glyph);
         let found = looked.found;
-        return lookup_targets::spot_of(Kind::Clusters, base, found);
+        return lookup_targets::spot_of(kind, base, found);
     }
     let looked = lookup_find::find_by(table, count as usize, at, head, glyph);
     let found = looked.found;
-    lookup_targets::spot_of(Kind::Clusters, base, found)
+    lookup_targets::spot_of(kind, base, found)
 }
 
-// Where a glyph's actions stand, by the lookup of a direction's lists.
-pub fn list_by(table: &[u8], count: u32, lists: Lookup, glyph: u16) -> Spot
-    requires { ⌜ Readable (now table) lists × Sound (now table) count lists ⌝ }
-    ensures { λ r. ⌜ (r ≡ spotBy (now (table .entry)) count Lists lists glyph) × Below (2 ^ 17) r ⌝ }
-{
-    let Lookup::There { at, base, head } = lists else {
-        return Spot::Nowhere;
-    };
-    if head.format == 2 {
-        let looked = lookup_find::find_units(table, 2, count as usize, at, head, glyph);
-        let found = looked.found;
-        return lookup_targets::spot_of(Kind::Lists, base, found);
-    }
-    let looked = lookup_find::find_by(table, count as usize, at, head, glyph);
-    let found = looked.found;
-    lookup_targets::spot_of(Kind::Lists, base, found)
-}
-
-// Where a glyph's width records stand in a direction.
-pub fn cluster_spot(table: &[u8], count: u32, direction: Direction, glyph: u16) -> Spot
+// Where a glyph's cluster or list stands in a direction.
+fn spot_in(table: &[u8], count: u32, direction: Direction, kind: Kind, glyph: u16) -> Spot
     requires { ⌜ tableFault (now table) count ≡ Clear ⌝ }
-    ensures { λ r. ⌜ (r ≡ clusterSpot (now (table .entry)) count direction glyph) × Below (2 ^ 17) r ⌝ }
+    ensures { λ r. ⌜ (r ≡ spotIn (now (table .entry)) count direction kind glyph) × Below (2 ^ 17) r ⌝ }
 {
-    let clusters = clusters_in(table, direction);
-    cluster_by(table, count, clusters, glyph)
+    let lookup = lookup_in(table, direction, kind);
+    spot_by(table, count, kind, lookup, glyph)
 }
 
 // The width record of a class in the cluster at a position.
@@ -203,19 +195,10 @@ pub fn record_of(
     requires { ⌜ tableFault (now table) count ≡ Clear ⌝ }
     ensures { λ r. ⌜ saysRecord r ≡ given (ask (meaningOf (now (table .entry)) count) (along direction (width glyph class))) ⌝ }
 {
-    match cluster_spot(table, count, direction, glyph) {
+    match spot_in(table, count, direction, Kind::Clusters, glyph) {
         Spot::At(at) => record_at(table, at, class),
         Spot::Nowhere => RecordAnswer::Nothing,
     }
-}
-
-// Where a glyph's actions stand in a direction.
-pub fn list_spot(table: &[u8], count: u32, direction: Direction, glyph: u16) -> Spot
-    requires { ⌜ tableFault (now table) count ≡ Clear ⌝ }
-    ensures { λ r. ⌜ (r ≡ listSpot (now (table .entry)) count direction glyph) × Below (2 ^ 17) r ⌝ }
-{
-    let lists = lists_in(table, direction);
-    list_by(table, count, lists, glyph)
 }
 
 // Where the action of a glyph with a number stands in a direction.
@@ -223,7 +206,7 @@ pub fn action_spot(table: &[u8], count: u32, direction: Direction, glyph: u16, n
     requires { ⌜ tableFault (now table) count ≡ Clear ⌝ }
     ensures { λ r. ⌜ (r ≡ actionSpot (now (table .entry)) count direction glyph number) × Below (2 ^ 50) r ⌝ }
 {
-    match list_spot(table, count, direction, glyph) {
+    match spot_in(table, count, direction, Kind::Lists, glyph) {
         Spot::At(at) => actions::place_of(table, at, number),
         Spot::Nowhere => Spot::Nowhere,
     }

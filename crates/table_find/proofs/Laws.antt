@@ -22,9 +22,9 @@ use Rattle.lookup_targets.specs.declared.Kind.{Kind}
 use Rattle.table.specs.Table.{tableFault}
 use Rattle.table_ask.specs.declared.Lookup.{Lookup}
 use Rattle.table_ask.specs.declared.Lookup.the-variants.{Absent, There}
-use Rattle.table_ask.specs.Places.{Readable}
+use Rattle.table_ask.specs.Places.{lookupIn, Readable}
 use Rattle.table_find.specs.declared.UnitsAnswer.the-variants.{Units, Refused}
-use Rattle.table_find.specs.Values.{unitsSaid, unitsAsked, lookupIn, withLooks, foundIn, unlessRefused, valueAsked, unitsIn, leastFrom, leastOver, looksSaid}
+use Rattle.table_find.specs.Values.{unitsSaid, unitsAsked, withLooks, foundIn, unlessRefused, valueAsked, unitsIn, leastFrom, leastOver, looksSaid}
 
 -- ---- the least power of 2 above a number
 

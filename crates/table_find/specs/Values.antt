@@ -12,7 +12,6 @@ use Rattle.lookup.specs.declared.Found.the-variants as found
 use Rattle.lookup.specs.Find.{valueOf}
 use Rattle.lookup_find.specs.Halves.{openCount, looksOf}
 use Rattle.lookup_targets.specs.declared.Kind.{Kind}
-use Rattle.lookup_targets.specs.declared.Kind.the-variants.{Clusters, Lists}
 use Rattle.table.specs.Table.{tableFault}
 use Rattle.table_ask.specs.declared.Lookup.{Lookup}
 use Rattle.table_ask.specs.declared.Lookup.the-variants.{Absent, There}
@@ -20,11 +19,7 @@ use Rattle.table_find.specs.declared.ValueAnswer.{ValueAnswer}
 use Rattle.table_find.specs.declared.ValueAnswer.the-variants.{Value, Nothing, Refused}
 use Rattle.table_find.specs.declared.UnitsAnswer.{UnitsAnswer}
 use Rattle.table_find.specs.declared.UnitsAnswer.the-variants as units
-use Rattle.table_ask.specs.Places.{clustersIn, listsIn}
-
-abbrev pub lookupIn : List ℕ → Direction → Kind → Lookup
-lookupIn t d Clusters = clustersIn t d
-lookupIn t d Lists = listsIn t d
+use Rattle.table_ask.specs.Places.{lookupIn}
 
 -- a value, or none, and the looks
 abbrev pub withLooks : ℕ → Found → ValueAnswer

@@ -4,7 +4,7 @@ ghost use mathlib.Core.Path.{_≡_};
 ghost use mathlib.Core.List.{List};
 ghost use Prim.Native.Nat.{ℕ, _<_, _^_};
 ghost use Rattle.table_ask.specs.Places.{Readable, Sound};
-ghost use Rattle.table_find.specs.Values.{lookupIn, foundIn, valueAsked, unitsIn, leastOver, unitsAsked};
+ghost use Rattle.table_find.specs.Values.{foundIn, valueAsked, unitsIn, leastOver, unitsAsked};
 ghost use Rattle.table_find.specs.ValuesInC.{kindIn, valueIn, unitsOut};
 use fields::Fault;
 use fields::Refusal;
@@ -43,16 +43,6 @@ pub struct JustUnits {
     pub most: u32,
 }
 
-// A direction's lookup of a kind.
-fn lookup_in(table: &[u8], direction: Direction, kind: Kind) -> Lookup
-    ensures { λ r. ⌜ (r ≡ lookupIn (now (table .entry)) direction kind) × Readable (now (table .entry)) r ⌝ }
-{
-    match kind {
-        Kind::Clusters => table_ask::clusters_in(table, direction),
-        Kind::Lists => table_ask::lists_in(table, direction),
-    }
-}
-
 // What a find gives in a lookup.
 fn value_by(table: &[u8], count: u32, lookup: Lookup, glyph: u16) -> ValueAnswer
     requires { ⌜ Readable (now table) lookup × Sound (now table) count lookup ⌝ }
@@ -81,7 +71,12 @@ pub fn ask_value(
     ensures { λ r. ⌜ r ≡ valueAsked (now (table .entry)) count direction kind glyph ⌝ }
 {
     match table::table_fault(table, count) {
-        Fault::Clear => value_by(table, count, lookup_in(table, direction, kind), glyph),
+        Fault::Clear => value_by(
+            table,
+            count,
+            table_ask::lookup_in(table, direction, kind),
+            glyph,
+        ),
         Fault::Bad { refusal, at: _ } => ValueAnswer::Refused(refusal),
     }
 }
@@ -121,7 +116,7 @@ pub fn ask_units(table: &[u8], count: u32, direction: Direction, kind: Kind) -> 
     if let Fault::Bad { refusal, at: _ } = table::table_fault(table, count) {
         return UnitsAnswer::Refused(refusal);
     }
-    let units = units_in(lookup_in(table, direction, kind));
+    let units = units_in(table_ask::lookup_in(table, direction, kind));
     UnitsAnswer::Units {
         units: units as u32,
         most: least_over(units),

@@ -26,8 +26,8 @@ index-small i = omega arith
 index-next : (i : tie.In-loop Inv-loop μ-loop) → i .before .loop .i + 1 < 2 ^ 64
 index-next i = omega arith
 
-clusters-in-requires : tie.Need-clusters-in-requires Inv-loop μ-loop
-clusters-in-requires c κs = search needs
+lookup-in-requires : tie.Need-lookup-in-requires Inv-loop μ-loop
+lookup-in-requires c κs = search needs
 
 loop-holds : tie.Need-loop-holds Inv-loop μ-loop
 loop-holds c =
@@ -45,7 +45,7 @@ shared-slice-read-record-for-2 : tie.Need-shared-slice-read-record-for-2 Inv-loo
 shared-slice-read-record-for-2 c = omega arith
 
 record-for-requires : tie.Need-record-for-requires Inv-loop μ-loop
-record-for-requires c κs = (c .before .before .before .before .before .before .before .before .before .before .before .before .pre .0 .0, c .before .before .before .before .clusters-in .ensures)
+record-for-requires c κs = (c .before .before .before .before .before .before .before .before .before .before .before .before .pre .0 .0, c .before .before .before .before .lookup-in .ensures)
 
 part-of-requires : tie.Need-part-of-requires Inv-loop μ-loop
 part-of-requires c κs = c .record-for .ensures .1
@@ -150,7 +150,7 @@ lay-parts-spec =
     (tie.spec
     Inv-loop
     μ-loop
-    clusters-in-requires
+    lookup-in-requires
     loop-holds
     mul-record-for
     shared-slice-read-record-for

@@ -19,8 +19,8 @@ Inv-loop table count shape glyphs classes before after direction lists total₀ 
 abbrev μ-loop : tie.MeasureT-loop
 μ-loop table count shape glyphs classes before after direction lists total₀ place₀ total place = length glyphs - place
 
-lists-in-requires : tie.Need-lists-in-requires Inv-loop μ-loop
-lists-in-requires c κs = search needs
+lookup-in-requires : tie.Need-lookup-in-requires Inv-loop μ-loop
+lookup-in-requires c κs = search needs
 
 loop-holds : tie.Need-loop-holds Inv-loop μ-loop
 loop-holds c =
@@ -40,7 +40,7 @@ shared-slice-read-count-glyph-2 : tie.Need-shared-slice-read-count-glyph-2 Inv-l
 shared-slice-read-count-glyph-2 c = omega (arith, c .before .before .before .before .before .before .before .before .before .pre .fits .classes)
 
 count-glyph-requires : tie.Need-count-glyph-requires Inv-loop μ-loop
-count-glyph-requires c κs = (c .before .before .before .before .before .before .before .before .before .pre .accepted, c .before .before .before .before .before .lists-in .ensures)
+count-glyph-requires c κs = (c .before .before .before .before .before .before .before .before .before .pre .accepted, c .before .before .before .before .before .lookup-in .ensures)
 
 add-total : tie.Need-add-total Inv-loop μ-loop
 add-total c =
@@ -77,7 +77,7 @@ count-verdicts-spec =
     (tie.spec
     Inv-loop
     μ-loop
-    lists-in-requires
+    lookup-in-requires
     loop-holds
     growth-at-requires
     mul-count-glyph

@@ -25,8 +25,8 @@ next-here-requires c κs = let f = c .before .before .before .pre .0 .fits in le
 returns : tie.Need-returns Inv-loop μ-loop
 returns c = let a = c .before .before .before .before .before .args in line-found (a .table .now) (sideOf (a .shape .direction) (meaningOf (a .table .now) (a .count))) (moved (a .shape .size) (a .classes .now) (a .before .now) (a .after .now)) (a .glyphs .now) (a .cursor) (a .cursor) (c .before .next-here .result) refl (c .before .next-here .ensures) (c .before .before .before .before .before .pre .0 .fits .classes) (c .if1 .taken)
 
-lists-in-requires : tie.Need-lists-in-requires Inv-loop μ-loop
-lists-in-requires c κs = search needs
+lookup-in-requires : tie.Need-lookup-in-requires Inv-loop μ-loop
+lookup-in-requires c κs = search needs
 
 loop-holds : tie.Need-loop-holds Inv-loop μ-loop
 loop-holds c = (refl, c .before .before .before .before .before .before .pre .1 .within)
@@ -38,7 +38,7 @@ shared-slice-read-begin : tie.Need-shared-slice-read-begin Inv-loop μ-loop
 shared-slice-read-begin c = search needs
 
 begin-requires : tie.Need-begin-requires Inv-loop μ-loop
-begin-requires c κs = ((c .before .before .before .before .before .before .before .before .before .pre .0 .accepted, omega (arith, c .before .before .before .before .before .before .before .before .before .pre .0 .fits .few)), c .before .before .before .lists-in .ensures)
+begin-requires c κs = ((c .before .before .before .before .before .before .before .before .before .pre .0 .accepted, omega (arith, c .before .before .before .before .before .before .before .before .before .pre .0 .fits .few)), c .before .before .before .lookup-in .ensures)
 
 next-here-requires-2 : tie.Need-next-here-requires-2 Inv-loop μ-loop
 next-here-requires-2 c κs = let f = c .before .before .before .before .before .before .before .before .before .before .pre .0 .fits in let b = c .begin .ensures in
@@ -81,7 +81,7 @@ next-verdict-spec =
     μ-loop
     next-here-requires
     returns
-    lists-in-requires
+    lookup-in-requires
     loop-holds
     mul-begin
     shared-slice-read-begin

@@ -8,27 +8,27 @@ use borrow.Author.Needs.{needs}
 use Rattle.table_ask.proofs.action_spot.Statement.{statement}
 use Rattle.table_ask.proofs.action_spot.Tie as tie
 
-list-spot-requires : tie.Need-list-spot-requires
-list-spot-requires c κs = search needs
+spot-in-requires : tie.Need-spot-in-requires
+spot-in-requires c κs = search needs
 
 enum-known-at : tie.Need-enum-known-at
 enum-known-at c = search needs
 
 place-of-requires : tie.Need-place-of-requires
-place-of-requires c κs = omega (arith, below-at (c .before .at .given .1) (c .before .before .before .list-spot .ensures .1))
+place-of-requires c κs = omega (arith, below-at (c .before .at .given .1) (c .before .before .before .spot-in .ensures .1))
 
 enum-told : tie.Need-enum-told
 enum-told c = search needs
 
 returns : tie.Need-returns
 unfolding actionSpot
-returns c = (c .place-of .ensures .0 ∙ ap (numbered (now (c .before .before .before .before .before .before .args .table)) (c .before .before .before .before .before .before .args .number)) (sym (c .before .before .at .given .1) ∙ c .before .before .before .before .list-spot .ensures .0), c .place-of .ensures .1)
+returns c = (c .place-of .ensures .0 ∙ ap (numbered (now (c .before .before .before .before .before .before .args .table)) (c .before .before .before .before .before .before .args .number)) (sym (c .before .before .at .given .1) ∙ c .before .before .before .before .spot-in .ensures .0), c .place-of .ensures .1)
 
 returns-2 : tie.Need-returns-2
 unfolding actionSpot
-returns-2 c = (ap (numbered (now (c .before .before .before .before .args .table)) (c .before .before .before .before .args .number)) (sym (c .enum-told .given .1) ∙ c .before .before .list-spot .ensures .0), tt)
+returns-2 c = (ap (numbered (now (c .before .before .before .before .args .table)) (c .before .before .before .before .args .number)) (sym (c .enum-told .given .1) ∙ c .before .before .spot-in .ensures .0), tt)
 
 pub action-spot-spec : {M : Type 1} → statement M
 action-spot-spec =
     tie.close
-    (tie.spec list-spot-requires enum-known-at place-of-requires enum-told returns returns-2)
+    (tie.spec spot-in-requires enum-known-at place-of-requires enum-told returns returns-2)

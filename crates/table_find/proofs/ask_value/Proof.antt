@@ -1,6 +1,7 @@
 -- `table_find::ask_value` meets its contract.
 use mathlib.Core.Path.{sym, _∙_}
-use Rattle.table_find.proofs.Steps.{lookup-sound, asked-clear, asked-bad}
+use Rattle.table_find.proofs.Steps.{asked-clear, asked-bad}
+use Rattle.table_ask.proofs.Steps.{lookup-sound}
 use borrow.Author.Needs.{needs}
 use Rattle.table_find.proofs.ask_value.Statement.{statement}
 use Rattle.table_find.proofs.ask_value.Tie as tie
@@ -15,7 +16,7 @@ lookup-in-requires : tie.Need-lookup-in-requires
 lookup-in-requires c κs = search needs
 
 value-by-requires : tie.Need-value-by-requires
-value-by-requires c κs = let a = c .before .before .before .before .before .args in (c .lookup-in .ensures .1, lookup-sound (a .table .now) (a .count) (a .direction) (a .kind) (sym (c .before .before .before .table-fault .ensures) ∙ c .before .enum-told .given .1) (c .lookup-in .ensures .0))
+value-by-requires c κs = let a = c .before .before .before .before .before .args in (c .lookup-in .ensures .1, lookup-sound _ _ (sym (c .before .before .before .table-fault .ensures) ∙ c .before .enum-told .given .1) _ _ (c .lookup-in .ensures .0))
 
 enum-known-refusal : tie.Need-enum-known-refusal
 enum-known-refusal c = search needs
