@@ -1,5 +1,6 @@
 //! docs/STATEMENTS.md and docs/WRONG-PROGRAMS.md name files and what stands in them: each file exists, and each name that
-//! stands before "in FILE" stands in that file. Every must-fail edit is named on the second page.
+//! stands before "in FILE" stands in that file. Every must-fail edit is named on the second page, as one of code or, with
+//! the mark (d), of a definition; the first page has the number of each.
 
 use std::path::Path;
 
@@ -46,6 +47,24 @@ fn every_edit_is_named() {
     assert!(edits.len() > 50, "there are {} edits", edits.len());
     let missing: Vec<&String> = edits.iter().filter(|edit| !page.contains(*edit)).collect();
     assert!(missing.is_empty(), "{missing:?}");
+}
+
+/// Whether an edit changes a definition, and not code.
+fn is_of_definition(edit: &str) -> bool {
+    page(edit).lines().any(|line| line.starts_with("file: specs/"))
+}
+
+#[test]
+fn edits_are_called_what_they_are() {
+    let (listed, counts) = (page("docs/WRONG-PROGRAMS.md"), page("docs/STATEMENTS.md"));
+    let (of_definitions, of_code): (Vec<String>, Vec<String>) =
+        edits().into_iter().partition(|edit| is_of_definition(edit));
+    let unmarked = of_definitions.iter().filter(|edit| !listed.contains(&format!("{edit} (d)")));
+    let marked = of_code.iter().filter(|edit| listed.contains(&format!("{edit} (d)")));
+    let wrong: Vec<&String> = unmarked.chain(marked).collect();
+    assert!(wrong.is_empty(), "{wrong:?}");
+    let sentence = format!("{} edits are of code, {} of a definition", of_code.len(), of_definitions.len());
+    assert!(counts.contains(&sentence), "docs/STATEMENTS.md does not say: {sentence}");
 }
 
 #[test]
