@@ -9,7 +9,7 @@ use lib.Dec.{leb}
 use lib.ListN.{length, getD, replicate}
 use Rattle.fields.specs.Field.{u16At, u32At, Bytes}
 use Rattle.fields.specs.Laws.{u16At-fits}
-use Rattle.machine.specs.Cells.{entryAt, cellAt, classCount}
+use Rattle.machine.specs.Cells.{entryAt, cellAt, classCount, entryTable}
 use Rattle.machine.specs.Rows.{rowCount}
 use borrow.Author.Tests.{leb-true, leb-false}
 use Rattle.types.specs.declared.Entry.{Entry}
@@ -56,16 +56,16 @@ pub entry-fields : (t : List ℕ) (at : ℕ) → Bytes t → (u32At t at / 65536
 unfolding u32At
 entry-fields t at b = let h = u16At-fits t (at + 2) b in (omega arith, omega arith)
 
--- the entry of a row that is known by where it stands, `k` being the entry table's offset
-module _ (t : List ℕ) (here row column k : ℕ) (ek : k ≡ u16At t (here + 6)) (base : ℕ) (eb : base ≡ rowPlace t here row) where
-  pub met-flags : (f : ℕ) → f ≡ u16At t (here + k + 4 * getD t (base + column) 0 + 2) → f ≡ cellAt t here row column .flags
+-- the entry of a row that is known by where it stands, `k` being where the entry table stands
+module _ (t : List ℕ) (here row column k : ℕ) (ek : k ≡ entryTable t here) (base : ℕ) (eb : base ≡ rowPlace t here row) where
+  pub met-flags : (f : ℕ) → f ≡ u16At t (k + 4 * getD t (base + column) 0 + 2) → f ≡ cellAt t here row column .flags
   unfolding cellAt entryAt
-  met-flags f e = e ∙ ap₂ (λ (x y : ℕ). u16At t (here + x + 4 * getD t (y + column) 0 + 2)) ek eb
+  met-flags f e = e ∙ ap₂ (λ (x y : ℕ). u16At t (x + 4 * getD t (y + column) 0 + 2)) ek eb
 
   -- where its new row stands
-  pub met-base : Sound t here → (r : ℕ) → r ≡ here + u16At t (here + k + 4 * getD t (base + column) 0) → row < rowCount t here → column < classCount t here
+  pub met-base : Sound t here → (r : ℕ) → r ≡ here + u16At t (k + 4 * getD t (base + column) 0) → row < rowCount t here → column < classCount t here
       → r ≡ rowPlace t here (cellAt t here row column .row)
-  met-base ok r e h q = e ∙ ap₂ (λ (x y : ℕ). here + u16At t (here + x + 4 * getD t (y + column) 0)) ek eb ∙ ok .exact row column h q
+  met-base ok r e h q = e ∙ ap₂ (λ (x y : ℕ). here + u16At t (x + 4 * getD t (y + column) 0)) ek eb ∙ ok .exact row column h q
 
 module _ (m : Machine) (l : Line) (ok : Fits m l) where
   pub keeps-first : (k row : ℕ) → k ≡ 1024 → glyphs l ≤ k → row ≡ cond (l .starts) 0 1 → Keeps m l row 0 1024 0 0 (replicate k 0)

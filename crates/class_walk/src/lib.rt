@@ -63,11 +63,11 @@ fn first_base(table: &[u8], here: usize, starts: bool) -> usize
     requires { ⌜ here < 2 ^ 32 ⌝ }
     ensures { λ r. ⌜ (r ≡ rowPlace (now (table .entry)) here (cond starts 0 1)) × (r < 2 ^ 34) ⌝ }
 {
-    let array = here + fields::u16_at(table, here + 4);
+    let array = machine::state_array(table, here);
     if starts {
         return array;
     }
-    array + fields::u16_at(table, here)
+    array + machine::class_count(table, here)
 }
 
 // The entry that the cell at a position names; entries stand from `entries` on.
@@ -150,7 +150,7 @@ pub fn walk_line(table: &[u8], here: usize, columns: &[u8], starts: bool, ends: 
     ensures { λ r. ⌜ r ≡ handedOut (walked (machineAt (now (table .entry)) here) (lineOf (now (columns .entry)) starts ends)) ⌝ }
 {
     let mut classes = [0u8; 1024];
-    let entries = here + fields::u16_at(table, here + 6);
+    let entries = machine::entry_table(table, here);
     let mut base = first_base(table, here, starts);
     let mut place: usize = 0;
     let mut column = column_at(columns, 0, ends);

@@ -8,15 +8,18 @@ use lib.Dec.{leb, ltb}
 use Rattle.fields.specs.Field.{u16At}
 use Rattle.types.specs.declared.Entry.{Entry}
 
--- the class count, and where the class table, the state array and the entry table stand
+-- the class count, and where the class table, the state array and the entry table stand; new rows count from `here` as the state array's offset does
 abbrev pub classCount : List ℕ → ℕ → ℕ
 classCount t here = u16At t here
 
 abbrev pub classTable : List ℕ → ℕ → ℕ
 classTable t here = here + u16At t (here + 2)
 
+abbrev pub arrayOffset : List ℕ → ℕ → ℕ
+arrayOffset t here = u16At t (here + 4)
+
 abbrev pub stateArray : List ℕ → ℕ → ℕ
-stateArray t here = here + u16At t (here + 4)
+stateArray t here = here + arrayOffset t here
 
 abbrev pub entryTable : List ℕ → ℕ → ℕ
 entryTable t here = here + u16At t (here + 6)
@@ -30,7 +33,7 @@ classAt t here glyph =
 
 -- the row that a byte offset names: so many whole rows past the state array
 abbrev pub rowNumber : List ℕ → ℕ → ℕ → ℕ
-rowNumber t here offset = (offset - u16At t (here + 4)) / classCount t here
+rowNumber t here offset = (offset - arrayOffset t here) / classCount t here
 
 -- the entry with a stored number: its new row's number, and its flags
 unfoldable pub entryAt : List ℕ → ℕ → ℕ → Entry

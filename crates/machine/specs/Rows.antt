@@ -11,7 +11,7 @@ use Rattle.fields.specs.Faults.{_then_, rule, inside}
 use Rattle.fields.specs.Walk.{each}
 use Rattle.machine.specs.declared.Scan.{Scan}
 use Rattle.machine.specs.declared.Scan.the-variants.{Broken, Count}
-use Rattle.machine.specs.Cells.{classCount, stateArray, entryTable, entryAt, numberAt, cellAt}
+use Rattle.machine.specs.Cells.{classCount, arrayOffset, stateArray, entryTable, entryAt, numberAt, cellAt}
 
 -- ---- the row count S
 
@@ -40,8 +40,8 @@ entryPlace t here number = entryTable t here + 4 * number
 unfoldable pub entryFault : List ℕ → ℕ → ℕ → Fault
 entryFault t here number =
     inside t (entryPlace t here number) 2
-    then rule (leb (u16At t (here + 4)) (u16At t (entryPlace t here number))) BadMachine (entryPlace t here number)
-    then rule (eqb ((u16At t (entryPlace t here number) - u16At t (here + 4)) % classCount t here) 0) BadMachine (entryPlace t here number)
+    then rule (leb (arrayOffset t here) (u16At t (entryPlace t here number))) BadMachine (entryPlace t here number)
+    then rule (eqb ((u16At t (entryPlace t here number) - arrayOffset t here) % classCount t here) 0) BadMachine (entryPlace t here number)
     then rule (leb (entryAt t here number .row) 255) BadMachine (entryPlace t here number)
     then inside t (entryPlace t here number + 2) 2
 

@@ -5,9 +5,8 @@ ghost use mathlib.Core.Path.{_≡_};
 ghost use mathlib.Core.Bool.{true};
 ghost use Rattle.fields.specs.declared.Fault.the-variants.{Clear};
 ghost use Prim.Native.Nat.{ℕ, _+_, _<_, _^_};
-ghost use Rattle.fields.specs.Field.{u16At};
 ghost use Rattle.machine.specs.declared.Scan.the-variants.{Count};
-ghost use Rattle.machine.specs.Cells.{classCount, entryTable, classAt, entryAt, cellAt};
+ghost use Rattle.machine.specs.Cells.{classCount, classTable, arrayOffset, stateArray, entryTable, classAt, entryAt, cellAt};
 ghost use Rattle.machine.specs.Classes.{Near, ClassesAt};
 ghost use Rattle.machine.specs.Rows.{cellPlace, entryPlace, entryFault, cellFault, rowFault, raisedBy, unless, faultOf, countOf, rowsOf, rowCount};
 ghost use Rattle.machine.specs.Machine.{headFault, classFault, classesFault, covered, classTableFault, machineFault};
@@ -28,14 +27,59 @@ pub struct ClassTable {
     pub count: usize,
 }
 
-// `a` less `b`, 0 where `b` is larger.
+// Where the offsets of class table, state array and entry table stand, after the class count.
+const CLASS_TABLE: usize = 2;
+
+const STATE_ARRAY: usize = 4;
+
+const ENTRY_TABLE: usize = 6;
+
+// The class count.
+pub fn class_count(table: &[u8], here: usize) -> usize
+    ensures { λ r. ⌜ (r ≡ classCount (now (table .entry)) here) × (r < 2 ^ 16) ⌝ }
+{
+    fields::u16_at(table, here)
+}
+
+// Where the class table stands.
+fn class_table_at(table: &[u8], here: usize) -> usize
+    requires { ⌜ here < 2 ^ 32 ⌝ }
+    ensures { λ r. ⌜ (r ≡ classTable (now (table .entry)) here) × (r < here + 2 ^ 16) ⌝ }
+{
+    here + fields::u16_at(table, here + CLASS_TABLE)
+}
+
+// The offset of the state array, from `here` as those of new rows.
+fn array_offset(table: &[u8], here: usize) -> usize
+    requires { ⌜ here < 2 ^ 32 ⌝ }
+    ensures { λ r. ⌜ (r ≡ arrayOffset (now (table .entry)) here) × (r < 2 ^ 16) ⌝ }
+{
+    fields::u16_at(table, here + STATE_ARRAY)
+}
+
+// Where the state array stands.
+pub fn state_array(table: &[u8], here: usize) -> usize
+    requires { ⌜ here < 2 ^ 32 ⌝ }
+    ensures { λ r. ⌜ (r ≡ stateArray (now (table .entry)) here) × (r < here + 2 ^ 16) ⌝ }
+{
+    here + array_offset(table, here)
+}
+
+// Where the entry table stands.
+pub fn entry_table(table: &[u8], here: usize) -> usize
+    requires { ⌜ here < 2 ^ 32 ⌝ }
+    ensures { λ r. ⌜ (r ≡ entryTable (now (table .entry)) here) × (r < here + 2 ^ 16) ⌝ }
+{
+    here + fields::u16_at(table, here + ENTRY_TABLE)
+}
+
 // Where a cell's byte stands.
 fn cell_place(table: &[u8], here: usize, row: usize, class: usize) -> usize
     requires { ⌜ (here < 2 ^ 32) × ((row < 2 ^ 16) × (class < 2 ^ 16)) ⌝ }
     ensures { λ r. ⌜ (r ≡ cellPlace (now (table .entry)) here row class) × (r < 2 ^ 34) ⌝ }
 {
-    let classes = fields::u16_at(table, here);
-    here + fields::u16_at(table, here + 4) + row * classes + class
+    let classes = class_count(table, here);
+    state_array(table, here) + row * classes + class
 }
 
 // Where the entry with a stored number stands.
@@ -43,7 +87,7 @@ fn entry_place(table: &[u8], here: usize, number: usize) -> usize
     requires { ⌜ (here < 2 ^ 32) × (number < 2 ^ 8) ⌝ }
     ensures { λ r. ⌜ (r ≡ entryPlace (now (table .entry)) here number) × (r < 2 ^ 33) ⌝ }
 {
-    here + fields::u16_at(table, here + 6) + 4 * number
+    entry_table(table, here) + 4 * number
 }
 
 // The entry with a stored number.
@@ -52,8 +96,8 @@ pub fn entry_at(table: &[u8], here: usize, number: usize) -> Entry
     ensures { λ r. ⌜ r ≡ entryAt (now (table .entry)) here number ⌝ }
 {
     let at = entry_place(table, here, number);
-    let past = fields::less(fields::u16_at(table, at), fields::u16_at(table, here + 4));
-    let row = past / fields::u16_at(table, here);
+    let past = fields::less(fields::u16_at(table, at), array_offset(table, here));
+    let row = past / class_count(table, here);
     Entry {
         row: row as u16,
         flags: fields::u16_at(table, at + 2) as u16,
@@ -74,7 +118,7 @@ pub fn class_table(table: &[u8], here: usize) -> ClassTable
     requires { ⌜ here < 2 ^ 32 ⌝ }
     ensures { λ r. ⌜ ClassesAt (now (table .entry)) here r ⌝ }
 {
-    let at = here + fields::u16_at(table, here + 2);
+    let at = class_table_at(table, here);
     ClassTable {
         at,
         first: fields::u16_at(table, at),
@@ -112,12 +156,12 @@ fn head_fault(table: &[u8], here: usize) -> Fault
     ensures { λ r. ⌜ r ≡ headFault (now (table .entry)) here ⌝ }
 {
     let count_in = fields::in_table(table, here, 2);
-    let count = fields::u16_at(table, here);
+    let count = class_count(table, here);
     let enough = fields::ruled(4 <= count, Refusal::BadMachine, here);
     let few = fields::ruled(count <= 255, Refusal::BadMachine, here);
-    let classes_in = fields::in_table(table, here + 2, 2);
-    let states_in = fields::in_table(table, here + 4, 2);
-    let entries_in = fields::in_table(table, here + 6, 2);
+    let classes_in = fields::in_table(table, here + CLASS_TABLE, 2);
+    let states_in = fields::in_table(table, here + STATE_ARRAY, 2);
+    let entries_in = fields::in_table(table, here + ENTRY_TABLE, 2);
     let offsets = fields::then(classes_in, fields::then(states_in, entries_in));
     fields::then(count_in, fields::then(enough, fields::then(few, offsets)))
 }
@@ -127,7 +171,7 @@ fn class_fault(table: &[u8], here: usize, at: usize) -> Fault
     ensures { λ r. ⌜ r ≡ classFault (now (table .entry)) here at ⌝ }
 {
     let inside = fields::in_table(table, at, 1);
-    let low = fields::u8_at(table, at) < fields::u16_at(table, here);
+    let low = fields::u8_at(table, at) < class_count(table, here);
     fields::then(inside, fields::ruled(low, Refusal::BadMachine, at))
 }
 
@@ -136,7 +180,7 @@ fn classes_are_clear(table: &[u8], here: usize, first: usize, count: usize) -> b
     requires { ⌜ (first < 2 ^ 34) × (count < 2 ^ 16) ⌝ }
     ensures { λ r. ⌜ (r ≡ true → classesFault (now (table .entry)) here count first ≡ Clear) ⌝ }
 {
-    let classes = fields::u16_at(table, here);
+    let classes = class_count(table, here);
     let end = first + count;
     if table.len() < end {
         return false;
@@ -177,7 +221,7 @@ fn class_table_fault(table: &[u8], glyphs: usize, here: usize) -> Fault
     requires { ⌜ here < 2 ^ 32 ⌝ }
     ensures { λ r. ⌜ r ≡ classTableFault (now (table .entry)) glyphs here ⌝ }
 {
-    let at = here + fields::u16_at(table, here + 2);
+    let at = class_table_at(table, here);
     let first_in = fields::in_table(table, at, 2);
     let count_in = fields::in_table(table, at + 2, 2);
     let below = fields::less(glyphs, fields::u16_at(table, at));
@@ -193,8 +237,8 @@ fn entry_fault(table: &[u8], here: usize, number: usize) -> Fault
 {
     let at = entry_place(table, here, number);
     let to = fields::u16_at(table, at);
-    let array = fields::u16_at(table, here + 4);
-    let classes = fields::u16_at(table, here);
+    let array = array_offset(table, here);
+    let classes = class_count(table, here);
     let next = entry_at(table, here, number);
     let row_in = fields::in_table(table, at, 2);
     let past = fields::ruled(array <= to, Refusal::BadMachine, at);
@@ -225,7 +269,7 @@ fn row_cells(table: &[u8], here: usize, row: usize, s: usize) -> Scan
     ensures { λ r. ⌜ r ≡ unless (rowFault (now (table .entry)) here row) (raisedBy (now (table .entry)) here row s) ⌝ }
 {
     let mut class: usize = 0;
-    let mut left = fields::u16_at(table, here);
+    let mut left = class_count(table, here);
     let mut rows = s;
     while 0 < left {
         let fault = cell_fault(table, here, row, class);
@@ -243,7 +287,7 @@ fn row_cells(table: &[u8], here: usize, row: usize, s: usize) -> Scan
 // The row that the cell whose byte stands at `at` leads to, where the cell is seen to be without fault; else 256 or more.
 fn clear_row(table: &[u8], classes: usize, array: usize, entries: usize, at: usize) -> usize
     requires { ⌜ (0 < classes) × ((array < 2 ^ 16) × (entries < 2 ^ 34)) ⌝ }
-    ensures { λ r. ⌜ ((here row class : ℕ) → classes ≡ classCount (now (table .entry)) here → array ≡ u16At (now (table .entry)) (here + 4) → entries ≡ entryTable (now (table .entry)) here → at ≡ cellPlace (now (table .entry)) here row class → r < 256 → (cellFault (now (table .entry)) here row class ≡ Clear) × (r ≡ cellAt (now (table .entry)) here row class .row)) ⌝ }
+    ensures { λ r. ⌜ ((here row class : ℕ) → classes ≡ classCount (now (table .entry)) here → array ≡ arrayOffset (now (table .entry)) here → entries ≡ entryTable (now (table .entry)) here → at ≡ cellPlace (now (table .entry)) here row class → r < 256 → (cellFault (now (table .entry)) here row class ≡ Clear) × (r ≡ cellAt (now (table .entry)) here row class .row)) ⌝ }
 {
     if table.len() <= at {
         return 256;
@@ -268,9 +312,9 @@ fn clear_count(table: &[u8], here: usize, row: usize, s: usize) -> usize
     requires { ⌜ (here < 2 ^ 32) × (row < 2 ^ 16) ⌝ }
     ensures { λ r. ⌜ (0 < r → Count r ≡ unless (rowFault (now (table .entry)) here row) (raisedBy (now (table .entry)) here row s)) ⌝ }
 {
-    let classes = fields::u16_at(table, here);
-    let array = fields::u16_at(table, here + 4);
-    let entries = entry_place(table, here, 0);
+    let classes = class_count(table, here);
+    let array = array_offset(table, here);
+    let entries = entry_table(table, here);
     let first = cell_place(table, here, row, 0);
     let mut class: usize = 0;
     let mut left = classes;

@@ -64,7 +64,7 @@ pub fn sizes_of(table: &[u8], count: u32, direction: Direction) -> SizesAnswer
         return SizesAnswer::Nothing;
     }
     let rows = machine::row_count(table, offset + 8);
-    let classes = fields::u16_at(table, offset + 8);
+    let classes = machine::class_count(table, offset + 8);
     SizesAnswer::Sizes {
         rows: rows as u16,
         classes: classes as u16,
@@ -96,7 +96,7 @@ pub fn cell_of(table: &[u8], count: u32, direction: Direction, row: u16, class: 
     if machine::row_count(table, offset + 8) <= row as usize {
         return CellAnswer::Nothing;
     }
-    if fields::u16_at(table, offset + 8) <= class as usize {
+    if machine::class_count(table, offset + 8) <= class as usize {
         return CellAnswer::Nothing;
     }
     CellAnswer::Cell(machine::cell(table, offset + 8, row as usize, class as usize))

@@ -69,7 +69,7 @@ fn number_entries(
     ensures { λ r. ⌜ Numbered (now (table .entry)) here count (now (firsts .exit)) (now (sheet .exit)) r ⌝ }
 {
     write_numbers::fill(sheet, 0);
-    let array = here + fields::u16_at(table, here + 4);
+    let array = machine::state_array(table, here);
     let mut k: usize = 0;
     let mut i: usize = 0;
     while i < count {
@@ -130,7 +130,7 @@ fn put_cells(table: &[u8], here: usize, count: usize, sheet: &[u16], out: &mut [
     requires { ⌜ Covers (now sheet) (storedAt (now table) here count) count ⌝ }
     ensures { λ r. ⌜ now (out .exit) ≡ sets (now (out .entry)) to (cellBytes (now (sheet .entry)) (storedAt (now (table .entry)) here count)) ⌝ }
 {
-    let array = here + fields::u16_at(table, here + 4);
+    let array = machine::state_array(table, here);
     let mut i: usize = 0;
     while i < count {
         let stored = fields::u8_at(table, array + i);

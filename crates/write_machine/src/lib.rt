@@ -42,9 +42,9 @@ fn class_end(table: &[u8], glyphs: usize, here: usize, glyph: usize) -> usize
     requires { ⌜ (here < 2 ^ 32) × ((glyph < glyphs) × (glyphs < 2 ^ 16)) ⌝ }
     ensures { λ r. ⌜ OneClass (now (table .entry)) glyphs here glyph r ⌝ }
 {
-    let at = here + fields::u16_at(table, here + 2);
-    let first = fields::u16_at(table, at);
-    let past = first + fields::u16_at(table, at + 2);
+    let classes = machine::class_table(table, here);
+    let first = classes.first;
+    let past = first + classes.count;
     if past <= glyph {
         return glyphs;
     }
@@ -54,7 +54,7 @@ fn class_end(table: &[u8], glyphs: usize, here: usize, glyph: usize) -> usize
     glyph
         + same_count(
             table,
-            at + 4 + (glyph - first),
+            classes.at + 4 + (glyph - first),
             fields::lower(past, glyphs) - glyph,
         )
 }
@@ -116,7 +116,7 @@ fn put_at(table: &[u8], glyphs: usize, here: usize, out: &mut [u8], to: usize) -
         × (now (out .exit) ≡ sets (now (out .entry)) to (machineParts (some (machineAt (now (table .entry)) glyphs here)))) ⌝ }
 {
     let rows = machine::row_count(table, here);
-    let classes = fields::u16_at(table, here);
+    let classes = machine::class_count(table, here);
     put_sizes(out, to, rows, classes);
     let end = put_class_runs(table, glyphs, here, out, to + 12);
     write_entries::put_entry_sections(table, here, rows * classes, out, end)

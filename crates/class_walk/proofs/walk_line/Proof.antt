@@ -69,14 +69,14 @@ flags-are : (c : tie.After-entry-by Inv-loop μ-loop) → c .entry-by .result .f
 flags-are c =
     let i = in1 c in
     let a = i .before .before .before .before .before .before .before .args in
-    met-flags (a .table .now) (a .here) (row i) (i .before .loop .column) (i .before .before .before .before .u16-at .result) (i .before .before .before .before .u16-at .ensures .0) (i .before .loop .base) (i .before .loop .inv .1 .0)
+    met-flags (a .table .now) (a .here) (row i) (i .before .loop .column) (i .before .before .before .before .entry-table .result) (i .before .before .before .before .entry-table .ensures .0) (i .before .loop .base) (i .before .loop .inv .1 .0)
     (c .entry-by .result .flags) (c .entry-by .ensures .1)
 
 base-is : (c : tie.After-entry-by Inv-loop μ-loop) → let a = in1 c .before .before .before .before .before .before .before .args in c .entry-by .result .base ≡ rowPlace (a .table .now) (a .here) (entryOf c .row)
 base-is c =
     let i = in1 c in
     let a = i .before .before .before .before .before .before .before .args in
-    met-base (a .table .now) (a .here) (row i) (i .before .loop .column) (i .before .before .before .before .u16-at .result) (i .before .before .before .before .u16-at .ensures .0) (i .before .loop .base) (i .before .loop .inv .1 .0)
+    met-base (a .table .now) (a .here) (row i) (i .before .loop .column) (i .before .before .before .before .entry-table .result) (i .before .before .before .before .entry-table .ensures .0) (i .before .loop .base) (i .before .loop .inv .1 .0)
     (sound i) (c .entry-by .result .base) (c .entry-by .ensures .0 .0) (kept i .stands .row-low) (column-fits i)
 
 -- the turn's entry, seen from its last call
@@ -100,14 +100,8 @@ after-calls c =
 
 -- ---- what is asked
 
-add-u16-at : tie.Need-add-u16-at Inv-loop μ-loop
-add-u16-at c = omega (arith, c .before .before .pre .0 .near)
-
-u16-at-requires : tie.Need-u16-at-requires Inv-loop μ-loop
-u16-at-requires c κs = search needs
-
-add-entries : tie.Need-add-entries Inv-loop μ-loop
-add-entries c = omega (arith, c .before .before .before .pre .0 .near, c .u16-at .ensures .1)
+entry-table-requires : tie.Need-entry-table-requires Inv-loop μ-loop
+entry-table-requires c κs = c .before .before .pre .0 .near
 
 first-base-requires : tie.Need-first-base-requires Inv-loop μ-loop
 first-base-requires c κs = c .before .before .before .pre .0 .near
@@ -130,7 +124,7 @@ add-entry-by : tie.Need-add-entry-by Inv-loop μ-loop
 add-entry-by c = omega (arith, c .before .loop .inv .1 .1, column-fits c, sound c .classes-high)
 
 entry-by-requires : tie.Need-entry-by-requires Inv-loop μ-loop
-entry-by-requires c κs = (sound c .near, omega (arith, sound c .near, c .before .before .before .before .u16-at .ensures .1))
+entry-by-requires c κs = (sound c .near, omega (arith, sound c .near, c .before .before .before .before .entry-table .ensures .1))
 
 glyph-at-requires : tie.Need-glyph-at-requires Inv-loop μ-loop
 glyph-at-requires c κs = fit (in1 c) .short
@@ -215,9 +209,7 @@ walk-line-spec =
     (tie.spec
     Inv-loop
     μ-loop
-    add-u16-at
-    u16-at-requires
-    add-entries
+    entry-table-requires
     first-base-requires
     column-at-requires
     loop-holds

@@ -11,8 +11,8 @@ in-table-requires c κs = search needs
 u8-at-requires : tie.Need-u8-at-requires
 u8-at-requires c κs = search needs
 
-u16-at-requires : tie.Need-u16-at-requires
-u16-at-requires c κs = search needs
+class-count-requires : tie.Need-class-count-requires
+class-count-requires c κs = search needs
 
 ruled-requires : tie.Need-ruled-requires
 ruled-requires c κs = search needs
@@ -22,7 +22,7 @@ then-requires c κs = search needs
 
 returns : tie.Need-returns
 unfolding classFault
-returns c = then-of (c .then .ensures) (c .before .before .before .before .in-table .ensures) (rw (c .before .before .before .u8-at .ensures .0, c .before .before .u16-at .ensures .0) at (c .before .ruled .ensures))
+returns c = then-of (c .then .ensures) (c .before .before .before .before .in-table .ensures) (rw (c .before .before .before .u8-at .ensures .0, c .before .before .class-count .ensures .0) at (c .before .ruled .ensures))
 
 pub class-fault-spec : {M : Type 1} → statement M
 class-fault-spec =
@@ -30,7 +30,7 @@ class-fault-spec =
     (tie.spec
     in-table-requires
     u8-at-requires
-    u16-at-requires
+    class-count-requires
     ruled-requires
     then-requires
     returns)

@@ -15,8 +15,8 @@ Inv-loop table here first count classes end at₀ at = (classesFault table here 
 abbrev μ-loop : tie.MeasureT-loop
 μ-loop table here first count classes end at₀ at = end - at
 
-u16-at-requires : tie.Need-u16-at-requires Inv-loop μ-loop
-u16-at-requires c κs = search needs
+class-count-requires : tie.Need-class-count-requires Inv-loop μ-loop
+class-count-requires c κs = search needs
 
 add-end : tie.Need-add-end Inv-loop μ-loop
 add-end c = search needs
@@ -40,7 +40,7 @@ loop-less : tie.Need-loop-less Inv-loop μ-loop
 loop-less c = search needs
 
 loop-again : tie.Need-loop-again Inv-loop μ-loop
-loop-again c = (c .before .before .before .loop .inv .0 ∙ classes-next _ _ _ _ (c .before .before .loop-test .taken) (class-clear _ _ _ _ _ (omega arith) (c .before .u8-at .ensures .0) (c .before .before .before .before .before .u16-at .ensures .0) (c .if2 .left)), omega arith)
+loop-again c = (c .before .before .before .loop .inv .0 ∙ classes-next _ _ _ _ (c .before .before .loop-test .taken) (class-clear _ _ _ _ _ (omega arith) (c .before .u8-at .ensures .0) (c .before .before .before .before .before .class-count .ensures .0) (c .if2 .left)), omega arith)
 
 returns-3 : tie.Need-returns-3 Inv-loop μ-loop
 returns-3 c = λ e. c .before .loop .inv .0 ∙ classes-none _ _ _ _ (c .loop-test .left)
@@ -51,7 +51,7 @@ classes-are-clear-spec =
     (tie.spec
     Inv-loop
     μ-loop
-    u16-at-requires
+    class-count-requires
     add-end
     returns
     loop-holds

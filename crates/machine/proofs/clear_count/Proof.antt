@@ -18,30 +18,27 @@ Inv-loop table here row s classes array entries first class₀ left₀ rows₀ c
 abbrev μ-loop : tie.MeasureT-loop
 μ-loop table here row s classes array entries first class₀ left₀ rows₀ class left rows = left
 
-u16-at-requires : tie.Need-u16-at-requires Inv-loop μ-loop
-u16-at-requires c κs = search needs
+class-count-requires : tie.Need-class-count-requires Inv-loop μ-loop
+class-count-requires c κs = search needs
 
-add-u16-at : tie.Need-add-u16-at Inv-loop μ-loop
-add-u16-at c = search needs
+array-offset-requires : tie.Need-array-offset-requires Inv-loop μ-loop
+array-offset-requires c κs = search needs
 
-u16-at-requires-2 : tie.Need-u16-at-requires-2 Inv-loop μ-loop
-u16-at-requires-2 c κs = search needs
-
-entry-place-requires : tie.Need-entry-place-requires Inv-loop μ-loop
-entry-place-requires c κs = search needs
+entry-table-requires : tie.Need-entry-table-requires Inv-loop μ-loop
+entry-table-requires c κs = search needs
 
 cell-place-requires : tie.Need-cell-place-requires Inv-loop μ-loop
 cell-place-requires c κs = search needs
 
 loop-holds : tie.Need-loop-holds Inv-loop μ-loop
 unfolding rowFault raisedBy
-loop-holds c = (rw (c .before .before .before .u16-at .ensures .0), omega (arith, c .before .before .before .u16-at .ensures .0))
+loop-holds c = (rw (c .before .before .before .class-count .ensures .0), omega (arith, c .before .before .before .class-count .ensures .0))
 
 add-clear-row : tie.Need-add-clear-row Inv-loop μ-loop
-add-clear-row c = omega (arith, c .before .before .cell-place .ensures .1, c .before .before .before .before .before .u16-at .ensures .0, c .before .before .before .before .before .u16-at .ensures .1)
+add-clear-row c = omega (arith, c .before .before .cell-place .ensures .1, c .before .before .before .before .before .class-count .ensures .0, c .before .before .before .before .before .class-count .ensures .1)
 
 clear-row-requires : tie.Need-clear-row-requires Inv-loop μ-loop
-clear-row-requires c κs = (omega (arith, c .before .before .before .before .before .u16-at .ensures .0), (c .before .before .before .before .u16-at2 .ensures .1, omega (arith, c .before .before .before .entry-place .ensures .1)))
+clear-row-requires c κs = (omega (arith, c .before .before .before .before .before .class-count .ensures .0), (c .before .before .before .before .array-offset .ensures .1, omega (arith, c .before .before .before .entry-table .ensures .1)))
 
 returns : tie.Need-returns Inv-loop μ-loop
 returns c = λ h. absurd (omega arith)
@@ -53,7 +50,7 @@ larger-requires : tie.Need-larger-requires Inv-loop μ-loop
 larger-requires c κs = search needs
 
 add-class : tie.Need-add-class Inv-loop μ-loop
-add-class c = omega (arith, c .before .before .before .before .before .before .before .before .u16-at .ensures .0, c .before .before .before .before .before .before .before .before .u16-at .ensures .1)
+add-class c = omega (arith, c .before .before .before .before .before .before .before .before .class-count .ensures .0, c .before .before .before .before .before .before .before .before .class-count .ensures .1)
 
 sub-left : tie.Need-sub-left Inv-loop μ-loop
 sub-left c = search needs
@@ -64,9 +61,9 @@ loop-less c = search needs
 loop-again : tie.Need-loop-again Inv-loop μ-loop
 loop-again c =
     let a = c .before .before .before .before .before .before .before .before .before .before .args in
-    let entries : c .before .before .before .before .before .before .entry-place .result ≡ entryTable (now (a .table)) (a .here) = omega (arith, c .before .before .before .before .before .before .entry-place .ensures .0) in
+    let entries : c .before .before .before .before .before .before .entry-table .result ≡ entryTable (now (a .table)) (a .here) = omega (arith, c .before .before .before .before .before .before .entry-table .ensures .0) in
     let place : c .before .before .before .before .before .cell-place .result + c .before .before .before .before .loop .class ≡ cellPlace (now (a .table)) (a .here) (a .row) (c .before .before .before .before .loop .class) = omega (arith, c .before .before .before .before .before .cell-place .ensures .0) in
-    let w = c .before .before .clear-row .ensures (a .here) (a .row) (c .before .before .before .before .loop .class) (c .before .before .before .before .before .before .before .before .u16-at .ensures .0) (c .before .before .before .before .before .before .before .u16-at2 .ensures .0) entries place (omega arith) in
+    let w = c .before .before .clear-row .ensures (a .here) (a .row) (c .before .before .before .before .loop .class) (c .before .before .before .before .before .before .before .before .class-count .ensures .0) (c .before .before .before .before .before .before .before .array-offset .ensures .0) entries place (omega arith) in
     (c .before .before .before .before .loop .inv .0 ∙ cells-next _ _ _ _ _ _ _ (c .before .before .before .loop-test .taken) (w .0) (rw (w .1) at (c .larger .ensures)), omega arith)
 
 returns-2 : tie.Need-returns-2 Inv-loop μ-loop
@@ -78,10 +75,9 @@ clear-count-spec =
     (tie.spec
     Inv-loop
     μ-loop
-    u16-at-requires
-    add-u16-at
-    u16-at-requires-2
-    entry-place-requires
+    class-count-requires
+    array-offset-requires
+    entry-table-requires
     cell-place-requires
     loop-holds
     add-clear-row

@@ -11,14 +11,11 @@ entry-place-requires c κs = search needs
 u16-at-requires : tie.Need-u16-at-requires
 u16-at-requires c κs = search needs
 
-add-u16-at : tie.Need-add-u16-at
-add-u16-at c = search needs
+array-offset-requires : tie.Need-array-offset-requires
+array-offset-requires c κs = search needs
 
-u16-at-requires-2 : tie.Need-u16-at-requires-2
-u16-at-requires-2 c κs = search needs
-
-u16-at-requires-3 : tie.Need-u16-at-requires-3
-u16-at-requires-3 c κs = search needs
+class-count-requires : tie.Need-class-count-requires
+class-count-requires c κs = search needs
 
 entry-at-requires : tie.Need-entry-at-requires
 entry-at-requires c κs = search needs
@@ -64,8 +61,8 @@ unfolding entryFault
 returns c =
     let place = c .before .before .before .before .before .before .before .before .before .before .before .before .before .before .before .entry-place .ensures .0 in
     let to = c .before .before .before .before .before .before .before .before .before .before .before .before .before .before .u16-at .ensures .0 in
-    let array = c .before .before .before .before .before .before .before .before .before .before .before .before .before .u16-at2 .ensures .0 in
-    let classes = c .before .before .before .before .before .before .before .before .before .before .before .before .u16-at3 .ensures .0 in
+    let array = c .before .before .before .before .before .before .before .before .before .before .before .before .before .array-offset .ensures .0 in
+    let classes = c .before .before .before .before .before .before .before .before .before .before .before .before .class-count .ensures .0 in
     then-of (c .then4 .ensures) (rw place at (c .before .before .before .before .before .before .before .before .before .before .in-table .ensures))
     (then-of (c .before .then3 .ensures) (rw (to, array, place) at (c .before .before .before .before .before .before .before .before .before .ruled .ensures))
     (then-of (c .before .before .then2 .ensures) (rw (c .before .before .before .before .before .before .before .before .less .ensures, to, array, classes, place) at (c .before .before .before .before .before .before .before .ruled2 .ensures))
@@ -77,9 +74,8 @@ entry-fault-spec =
     (tie.spec
     entry-place-requires
     u16-at-requires
-    add-u16-at
-    u16-at-requires-2
-    u16-at-requires-3
+    array-offset-requires
+    class-count-requires
     entry-at-requires
     in-table-requires
     ruled-requires

@@ -8,8 +8,8 @@ use Rattle.machine.proofs.head_fault.Tie as tie
 in-table-requires : tie.Need-in-table-requires
 in-table-requires c κs = search needs
 
-u16-at-requires : tie.Need-u16-at-requires
-u16-at-requires c κs = search needs
+class-count-requires : tie.Need-class-count-requires
+class-count-requires c κs = search needs
 
 ruled-requires : tie.Need-ruled-requires
 ruled-requires c κs = search needs
@@ -53,7 +53,7 @@ then-requires-5 c κs = search needs
 returns : tie.Need-returns
 unfolding headFault
 returns c =
-    let count = c .before .before .before .before .before .before .before .before .before .before .u16-at .ensures .0 in
+    let count = c .before .before .before .before .before .before .before .before .before .before .class-count .ensures .0 in
     then-of (c .then5 .ensures) (c .before .before .before .before .before .before .before .before .before .before .before .in-table .ensures)
     (then-of (c .before .then4 .ensures) (rw count at (c .before .before .before .before .before .before .before .before .before .ruled .ensures))
     (then-of (c .before .before .then3 .ensures) (rw count at (c .before .before .before .before .before .before .before .before .ruled2 .ensures))
@@ -64,7 +64,7 @@ head-fault-spec =
     tie.close
     (tie.spec
     in-table-requires
-    u16-at-requires
+    class-count-requires
     ruled-requires
     ruled-requires-2
     add-in-table

@@ -18,12 +18,12 @@ Inv-loop table here row s class₀ left₀ rows₀ class left rows =
 abbrev μ-loop : tie.MeasureT-loop
 μ-loop table here row s class₀ left₀ rows₀ class left rows = left
 
-u16-at-requires : tie.Need-u16-at-requires Inv-loop μ-loop
-u16-at-requires c κs = search needs
+class-count-requires : tie.Need-class-count-requires Inv-loop μ-loop
+class-count-requires c κs = search needs
 
 loop-holds : tie.Need-loop-holds Inv-loop μ-loop
 unfolding rowFault raisedBy
-loop-holds c = (rw (c .u16-at .ensures .0), omega arith)
+loop-holds c = (rw (c .class-count .ensures .0), omega arith)
 
 cell-fault-requires : tie.Need-cell-fault-requires Inv-loop μ-loop
 cell-fault-requires c κs = search needs
@@ -74,7 +74,7 @@ row-cells-spec =
     (tie.spec
     Inv-loop
     μ-loop
-    u16-at-requires
+    class-count-requires
     loop-holds
     cell-fault-requires
     enum-told

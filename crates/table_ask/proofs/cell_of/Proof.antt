@@ -24,14 +24,14 @@ row-count-requires c κs = search needs
 returns-2 : tie.Need-returns-2
 returns-2 c = ap given (sym (row-past _ _ _ _ (c .before .before .before .machine-in .ensures .0) _ _ (c .before .before .if1 .left) (omega (arith, c .before .row-count .ensures, c .if2 .taken))))
 
-add-u16-at : tie.Need-add-u16-at
-add-u16-at c = search needs
+add-class-count : tie.Need-add-class-count
+add-class-count c = search needs
 
-u16-at-requires : tie.Need-u16-at-requires
-u16-at-requires c κs = search needs
+class-count-requires : tie.Need-class-count-requires
+class-count-requires c κs = search needs
 
 returns-3 : tie.Need-returns-3
-returns-3 c = ap given (sym (column-past _ _ _ _ (c .before .before .before .before .before .machine-in .ensures .0) _ _ (c .before .before .before .before .if1 .left) (omega (arith, c .before .u16-at .ensures .0, c .if3 .taken))))
+returns-3 c = ap given (sym (column-past _ _ _ _ (c .before .before .before .before .before .machine-in .ensures .0) _ _ (c .before .before .before .before .if1 .left) (omega (arith, c .before .class-count .ensures .0, c .if3 .taken))))
 
 add-cell : tie.Need-add-cell
 add-cell c = search needs
@@ -40,7 +40,7 @@ cell-requires : tie.Need-cell-requires
 cell-requires c κs = search needs
 
 returns-4 : tie.Need-returns-4
-returns-4 c = ap (λ (e : Entry). given (entry e)) (c .cell .ensures) ∙ ap given (sym (cell-is _ _ _ _ (c .before .before .before .before .before .before .machine-in .ensures .0) _ _ (c .before .before .before .before .before .if1 .left) (omega (arith, c .before .before .before .before .row-count .ensures, c .before .before .before .if2 .left)) (omega (arith, c .before .before .u16-at .ensures .0, c .before .if3 .left))))
+returns-4 c = ap (λ (e : Entry). given (entry e)) (c .cell .ensures) ∙ ap given (sym (cell-is _ _ _ _ (c .before .before .before .before .before .before .machine-in .ensures .0) _ _ (c .before .before .before .before .before .if1 .left) (omega (arith, c .before .before .before .before .row-count .ensures, c .before .before .before .if2 .left)) (omega (arith, c .before .before .class-count .ensures .0, c .before .if3 .left))))
 
 pub cell-of-spec : {M : Type 1} → statement M
 cell-of-spec =
@@ -51,8 +51,8 @@ cell-of-spec =
     add-row-count
     row-count-requires
     returns-2
-    add-u16-at
-    u16-at-requires
+    add-class-count
+    class-count-requires
     returns-3
     add-cell
     cell-requires

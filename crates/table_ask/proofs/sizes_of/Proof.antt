@@ -23,11 +23,11 @@ add-row-count c = search needs
 row-count-requires : tie.Need-row-count-requires
 row-count-requires c κs = search needs
 
-add-u16-at : tie.Need-add-u16-at
-add-u16-at c = search needs
+add-class-count : tie.Need-add-class-count
+add-class-count c = search needs
 
-u16-at-requires : tie.Need-u16-at-requires
-u16-at-requires c κs = search needs
+class-count-requires : tie.Need-class-count-requires
+class-count-requires c κs = search needs
 
 cast-t9 : tie.Need-cast-t9
 cast-t9 c = omega (arith, c .before .row-count .ensures, rows-most (now (c .before .before .before .before .before .args .table)) (c .before .before .before .machine-in .result + 8))
@@ -36,7 +36,7 @@ cast-t10 : tie.Need-cast-t10
 cast-t10 c = search needs
 
 returns-2 : tie.Need-returns-2
-returns-2 c = ap₂ (λ (s k : ℕ). given (both s k)) (c .before .row-count .ensures) (c .u16-at .ensures .0) ∙ ap given (sym (sizes-are _ _ _ _ (c .before .before .before .machine-in .ensures .0) (c .before .before .if1 .left)))
+returns-2 c = ap₂ (λ (s k : ℕ). given (both s k)) (c .before .row-count .ensures) (c .class-count .ensures .0) ∙ ap given (sym (sizes-are _ _ _ _ (c .before .before .before .machine-in .ensures .0) (c .before .before .if1 .left)))
 
 pub sizes-of-spec : {M : Type 1} → statement M
 sizes-of-spec =
@@ -46,8 +46,8 @@ sizes-of-spec =
     returns
     add-row-count
     row-count-requires
-    add-u16-at
-    u16-at-requires
+    add-class-count
+    class-count-requires
     cast-t9
     cast-t10
     returns-2)

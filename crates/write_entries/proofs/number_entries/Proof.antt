@@ -27,14 +27,8 @@ abbrev μ-loop : tie.MeasureT-loop
 fill-requires : tie.Need-fill-requires Inv-loop μ-loop
 fill-requires c κs = search needs
 
-add-u16-at : tie.Need-add-u16-at Inv-loop μ-loop
-add-u16-at c = search needs
-
-u16-at-requires : tie.Need-u16-at-requires Inv-loop μ-loop
-u16-at-requires c κs = search needs
-
-add-array : tie.Need-add-array Inv-loop μ-loop
-add-array c = search needs
+state-array-requires : tie.Need-state-array-requires Inv-loop μ-loop
+state-array-requires c κs = search needs
 
 loop-holds : tie.Need-loop-holds Inv-loop μ-loop
 unfolding distinctOf
@@ -48,7 +42,7 @@ loop-holds c =
     )
 
 add-u8-at : tie.Need-add-u8-at Inv-loop μ-loop
-add-u8-at c = omega (arith, (c .before .before .before .before .before .before .before .before .before .before .pre .0 .0), (c .before .before .before .before .before .before .before .before .before .before .pre .0 .1 .0), (c .before .before .u16-at .ensures .1))
+add-u8-at c = omega (arith, (c .before .before .before .before .before .before .before .before .before .before .pre .0 .0), (c .before .before .before .before .before .before .before .before .before .before .pre .0 .1 .0), (c .before .before .state-array .ensures .1))
 
 u8-at-requires : tie.Need-u8-at-requires Inv-loop μ-loop
 u8-at-requires c κs = search needs
@@ -98,7 +92,7 @@ loop-again c =
     let q = (c .before .before .before .before .u8-at .result) in
     let n = (c .before .number-of .result) in
     let hi : l .i < length (storedAt t (a .here) (a .count)) = omega (arith, stored-length t (a .here) (a .count)) in
-    let ep = stored-is t (a .here) (a .count) _ (l .i) q (ap (λ (x : ℕ). a .here + x) (c .before .before .before .before .before .before .before .u16-at .ensures .0)) (omega arith) (c .before .before .before .before .u8-at .ensures .0) in (
+    let ep = stored-is t (a .here) (a .count) _ (l .i) q (c .before .before .before .before .before .before .before .state-array .ensures .0) (omega arith) (c .before .before .before .before .u8-at .ensures .0) in (
       omega arith,
       l .inv .1,
       l .inv .2,
@@ -118,7 +112,7 @@ slice-write-firsts c =
     let q = (c .before .before .before .before .u8-at .result) in
     let n = (c .before .number-of .result) in
     let hi : l .i < length (storedAt t (a .here) (a .count)) = omega (arith, stored-length t (a .here) (a .count)) in
-    let ep = stored-is t (a .here) (a .count) _ (l .i) q (ap (λ (x : ℕ). a .here + x) (c .before .before .before .before .before .before .before .u16-at .ensures .0)) (omega arith) (c .before .before .before .before .u8-at .ensures .0) in
+    let ep = stored-is t (a .here) (a .count) _ (l .i) q (c .before .before .before .before .before .before .before .state-array .ensures .0) (omega arith) (c .before .before .before .before .u8-at .ensures .0) in
     omega (
       arith,
       space Entry-discrete (entryAt t (a .here)) (storedAt t (a .here) (a .count)) _ (l .firsts) (l .sheet) (l .k) (l .i) n q
@@ -143,7 +137,7 @@ loop-again-2 c =
     let n = (c .before .number-of .result) in
     let hi : l .i < length (storedAt t (a .here) (a .count)) = omega (arith, stored-length t (a .here) (a .count)) in
     let hp : q < length (l .sheet) = omega (arith, (c .before .before .before .before .u8-at .ensures .1), l .inv .3) in
-    let ep = stored-is t (a .here) (a .count) _ (l .i) q (ap (λ (x : ℕ). a .here + x) (c .before .before .before .before .before .before .before .u16-at .ensures .0)) (omega arith) (c .before .before .before .before .u8-at .ensures .0) in
+    let ep = stored-is t (a .here) (a .count) _ (l .i) q (c .before .before .before .before .before .before .before .state-array .ensures .0) (omega arith) (c .before .before .before .before .u8-at .ensures .0) in
     let room = space Entry-discrete (entryAt t (a .here)) (storedAt t (a .here) (a .count)) _ (l .firsts) (l .sheet) (l .k) (l .i) n q
     hi hp ep (omega arith) (c .before .number-of .ensures) (l .inv .4) (omega arith) in (
       omega arith,
@@ -183,9 +177,7 @@ number-entries-spec =
     Inv-loop
     μ-loop
     fill-requires
-    add-u16-at
-    u16-at-requires
-    add-array
+    state-array-requires
     loop-holds
     add-u8-at
     u8-at-requires

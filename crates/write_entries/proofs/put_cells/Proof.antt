@@ -20,14 +20,8 @@ Inv-loop table here count sheet out₀ to array i₀ out i =
 abbrev μ-loop : tie.MeasureT-loop
 μ-loop table here count sheet out₀ to array i₀ out i = count - i
 
-add-u16-at : tie.Need-add-u16-at Inv-loop μ-loop
-add-u16-at c = search needs
-
-u16-at-requires : tie.Need-u16-at-requires Inv-loop μ-loop
-u16-at-requires c κs = search needs
-
-add-array : tie.Need-add-array Inv-loop μ-loop
-add-array c = search needs
+state-array-requires : tie.Need-state-array-requires Inv-loop μ-loop
+state-array-requires c κs = search needs
 
 loop-holds : tie.Need-loop-holds Inv-loop μ-loop
 loop-holds c =
@@ -36,7 +30,7 @@ loop-holds c =
     (omega arith, refl, ap (λ (k : ℕ). sets (a .out .now) k (cellBytes (a .sheet .now) (storedAt (a .table .now) (a .here) (a .count)))) e)
 
 add-u8-at : tie.Need-add-u8-at Inv-loop μ-loop
-add-u8-at c = omega (arith, (c .before .before .before .before .before .before .pre .0 .0), (c .before .before .before .before .before .before .pre .0 .1 .0), (c .before .before .u16-at .ensures .1))
+add-u8-at c = omega (arith, (c .before .before .before .before .before .before .pre .0 .0), (c .before .before .before .before .before .before .pre .0 .1 .0), (c .before .before .state-array .ensures .1))
 
 u8-at-requires : tie.Need-u8-at-requires Inv-loop μ-loop
 u8-at-requires c κs = search needs
@@ -53,13 +47,13 @@ add-put-u8 c = search needs
 sub-put-u8 : tie.Need-sub-put-u8 Inv-loop μ-loop
 sub-put-u8 c =
     let a = (c .before .before .before .before .before .before .before .before .before .args) in
-    let ep = stored-is (a .table .now) (a .here) (a .count) _ ((c .before .before .before .before .loop .i)) (c .before .before .u8-at .result) (ap (λ (x : ℕ). a .here + x) (c .before .before .before .before .before .u16-at .ensures .0)) (omega arith) (c .before .before .u8-at .ensures .0) in
+    let ep = stored-is (a .table .now) (a .here) (a .count) _ ((c .before .before .before .before .loop .i)) (c .before .before .u8-at .result) (c .before .before .before .before .before .state-array .ensures .0) (omega arith) (c .before .before .u8-at .ensures .0) in
     omega (arith, (c .before .before .before .before .before .before .before .before .before .pre .1) ((c .before .before .before .before .loop .i)) (omega arith), ap (λ (q : ℕ). getD (a .sheet .now) q 0) ep)
 
 cast-put-u8 : tie.Need-cast-put-u8 Inv-loop μ-loop
 cast-put-u8 c =
     let a = (c .before .before .before .before .before .before .before .before .before .args) in
-    let ep = stored-is (a .table .now) (a .here) (a .count) _ ((c .before .before .before .before .loop .i)) (c .before .before .u8-at .result) (ap (λ (x : ℕ). a .here + x) (c .before .before .before .before .before .u16-at .ensures .0)) (omega arith) (c .before .before .u8-at .ensures .0) in
+    let ep = stored-is (a .table .now) (a .here) (a .count) _ ((c .before .before .before .before .loop .i)) (c .before .before .u8-at .result) (c .before .before .before .before .before .state-array .ensures .0) (omega arith) (c .before .before .u8-at .ensures .0) in
     omega (arith, (c .before .before .before .before .before .before .before .before .before .pre .1) ((c .before .before .before .before .loop .i)) (omega arith), ap (λ (q : ℕ). getD (a .sheet .now) q 0) ep)
 
 put-u8-requires : tie.Need-put-u8-requires Inv-loop μ-loop
@@ -79,7 +73,7 @@ loop-again c =
     let sheet = a .sheet .now in
     let v = getD sheet (c .before .before .before .before .before .u8-at .result) 0 - 1 in
     let hi : l .i < length cells = omega (arith, stored-length (a .table .now) (a .here) (a .count)) in
-    let ep = stored-is (a .table .now) (a .here) (a .count) _ (l .i) (c .before .before .before .before .before .u8-at .result) (ap (λ (x : ℕ). a .here + x) (c .before .before .before .before .before .before .before .before .u16-at .ensures .0)) (omega arith) (c .before .before .before .before .before .u8-at .ensures .0) in (
+    let ep = stored-is (a .table .now) (a .here) (a .count) _ (l .i) (c .before .before .before .before .before .u8-at .result) (c .before .before .before .before .before .before .before .before .state-array .ensures .0) (omega arith) (c .before .before .before .before .before .u8-at .ensures .0) in (
       omega arith,
       omega arith,
       put-next (v ∷ []) (cellBytes sheet (drop (l .i + 1) cells)) (cellBytes sheet (drop (l .i) cells)) (l .out) (c .before .before .put-u8 .last .0) _
@@ -103,9 +97,7 @@ put-cells-spec =
     (tie.spec
     Inv-loop
     μ-loop
-    add-u16-at
-    u16-at-requires
-    add-array
+    state-array-requires
     loop-holds
     add-u8-at
     u8-at-requires

@@ -20,11 +20,11 @@ use Rattle.write_machine.proofs.put_at.Tie as tie
 row-count-requires : tie.Need-row-count-requires
 row-count-requires c κs = search needs
 
-u16-at-requires : tie.Need-u16-at-requires
-u16-at-requires c κs = search needs
+class-count-requires : tie.Need-class-count-requires
+class-count-requires c κs = search needs
 
 put-sizes-requires : tie.Need-put-sizes-requires
-put-sizes-requires c κs = (omega (arith, (c .before .before .before .before .before .pre) .1), (omega (arith, (c .before .before .row-count) .ensures, rows-most ((c .before .before .before .before .before .args) .table .now) ((c .before .before .before .before .before .args) .glyphs) ((c .before .before .before .before .before .args) .here) ((c .before .before .before .before .before .pre) .0 .1 .1)), omega (arith, (c .before .u16-at) .ensures .1)))
+put-sizes-requires c κs = (omega (arith, (c .before .before .before .before .before .pre) .1), (omega (arith, (c .before .before .row-count) .ensures, rows-most ((c .before .before .before .before .before .args) .table .now) ((c .before .before .before .before .before .args) .glyphs) ((c .before .before .before .before .before .args) .here) ((c .before .before .before .before .before .pre) .0 .1 .1)), omega (arith, (c .before .class-count) .ensures .1)))
 
 add-put-class-runs : tie.Need-add-put-class-runs
 add-put-class-runs c = search needs
@@ -35,13 +35,13 @@ put-class-runs-requires c κs = search needs
 mul-put-entry-sections : tie.Need-mul-put-entry-sections
 mul-put-entry-sections c =
     let a = (c .before .before .before .before .before .before .before .before .before .before .before .before .args) in
-    let e : (c .before .before .before .before .before .before .before .before .before .row-count) .result * (c .before .before .before .before .before .before .before .before .u16-at) .result ≡ rowCount (a .table .now) (a .here) * classCount (a .table .now) (a .here) = ap₂ (λ (x y : ℕ). x * y) ((c .before .before .before .before .before .before .before .before .before .row-count) .ensures) ((c .before .before .before .before .before .before .before .before .u16-at) .ensures .0) in
+    let e : (c .before .before .before .before .before .before .before .before .before .row-count) .result * (c .before .before .before .before .before .before .before .before .class-count) .result ≡ rowCount (a .table .now) (a .here) * classCount (a .table .now) (a .here) = ap₂ (λ (x y : ℕ). x * y) ((c .before .before .before .before .before .before .before .before .before .row-count) .ensures) ((c .before .before .before .before .before .before .before .before .class-count) .ensures .0) in
     omega (arith, e, few-cells (rowCount (a .table .now) (a .here)) (classCount (a .table .now) (a .here)) (rows-most (a .table .now) (a .glyphs) (a .here) ((c .before .before .before .before .before .before .before .before .before .before .before .before .pre) .0 .1 .1)) (classes-most (a .table .now) (a .glyphs) (a .here) ((c .before .before .before .before .before .before .before .before .before .before .before .before .pre) .0 .1 .1)))
 
 put-entry-sections-requires : tie.Need-put-entry-sections-requires
 put-entry-sections-requires c κs =
     let a = (c .before .before .before .before .before .before .before .before .before .before .before .before .before .args) in
-    let e : (c .before .before .before .before .before .before .before .before .before .before .row-count) .result * (c .before .before .before .before .before .before .before .before .before .u16-at) .result ≡ rowCount (a .table .now) (a .here) * classCount (a .table .now) (a .here) = ap₂ (λ (x y : ℕ). x * y) ((c .before .before .before .before .before .before .before .before .before .before .row-count) .ensures) ((c .before .before .before .before .before .before .before .before .before .u16-at) .ensures .0) in
+    let e : (c .before .before .before .before .before .before .before .before .before .before .row-count) .result * (c .before .before .before .before .before .before .before .before .before .class-count) .result ≡ rowCount (a .table .now) (a .here) * classCount (a .table .now) (a .here) = ap₂ (λ (x y : ℕ). x * y) ((c .before .before .before .before .before .before .before .before .before .before .row-count) .ensures) ((c .before .before .before .before .before .before .before .before .before .class-count) .ensures .0) in
     let f = few-cells (rowCount (a .table .now) (a .here)) (classCount (a .table .now) (a .here)) (rows-most (a .table .now) (a .glyphs) (a .here) ((c .before .before .before .before .before .before .before .before .before .before .before .before .before .pre) .0 .1 .1)) (classes-most (a .table .now) (a .glyphs) (a .here) ((c .before .before .before .before .before .before .before .before .before .before .before .before .before .pre) .0 .1 .1)) in
     ((c .before .before .before .before .before .before .before .before .before .before .before .before .before .pre) .0 .0, (omega (arith, e, f), (omega (arith, (c .before .before .before .before .before .before .before .before .before .before .before .before .before .pre) .1, (c .before .before .before .put-class-runs) .ensures .1), omega (arith, classes-least (a .table .now) (a .glyphs) (a .here) ((c .before .before .before .before .before .before .before .before .before .before .before .before .before .pre) .0 .1 .1)))))
 
@@ -57,10 +57,10 @@ returns c =
     let l2 = (c .before .before .before .before .before .before .put-class-runs) .last .1 .1 .1 .0 in
     let l3 = (c .before .before .put-entry-sections) .last .1 .1 .1 .0 in
     let xs = upto (classAt t (a .here)) (a .glyphs) in
-    let k = (c .before .before .before .before .before .before .before .before .before .before .before .before .before .row-count) .result * (c .before .before .before .before .before .before .before .before .before .before .before .before .u16-at) .result in
-    let e : k ≡ rowCount t (a .here) * classCount t (a .here) = ap₂ (λ (x y : ℕ). x * y) ((c .before .before .before .before .before .before .before .before .before .before .before .before .before .row-count) .ensures) ((c .before .before .before .before .before .before .before .before .before .before .before .before .u16-at) .ensures .0) in
+    let k = (c .before .before .before .before .before .before .before .before .before .before .before .before .before .row-count) .result * (c .before .before .before .before .before .before .before .before .before .before .before .before .class-count) .result in
+    let e : k ≡ rowCount t (a .here) * classCount t (a .here) = ap₂ (λ (x y : ℕ). x * y) ((c .before .before .before .before .before .before .before .before .before .before .before .before .before .row-count) .ensures) ((c .before .before .before .before .before .before .before .before .before .before .before .before .class-count) .ensures .0) in
     let f = few-cells (rowCount t (a .here)) (classCount t (a .here)) (rows-most t (a .glyphs) (a .here) ((c .before .before .before .before .before .before .before .before .before .before .before .before .before .before .before .before .pre) .0 .1 .1)) (classes-most t (a .glyphs) (a .here) ((c .before .before .before .before .before .before .before .before .before .before .before .before .before .before .before .before .pre) .0 .1 .1)) in
-    let sizes = be32 1 ++ be32 ((c .before .before .before .before .before .before .before .before .before .before .before .before .before .row-count) .result) ++ be32 ((c .before .before .before .before .before .before .before .before .before .before .before .before .u16-at) .result) in
+    let sizes = be32 1 ++ be32 ((c .before .before .before .before .before .before .before .before .before .before .before .before .before .row-count) .result) ++ be32 ((c .before .before .before .before .before .before .before .before .before .before .before .before .class-count) .result) in
     let rs = runBytes 1 0 xs in
     let es = entryBytes t (a .here) k in
     let r = (c .before .before .before .before .before .before .put-class-runs) .ensures in
@@ -69,7 +69,7 @@ returns c =
       omega (arith, r .1, w .1, e, f),
       put-two sizes (rs ++ es) l0 l1 l3 (a .to) (a .to + 12) refl ((c .before .before .before .before .before .before .before .before .before .before .put-sizes) .ensures)
           (put-two rs es l1 l2 l3 (a .to + 12) ((c .before .before .before .before .before .before .put-class-runs) .result) (r .0) (r .2) (w .2))
-          ∙ ap₂ (λ (x y : ℕ). sets l0 (a .to) ((be32 1 ++ be32 x ++ be32 y) ++ (rs ++ es))) ((c .before .before .before .before .before .before .before .before .before .before .before .before .before .row-count) .ensures) ((c .before .before .before .before .before .before .before .before .before .before .before .before .u16-at) .ensures .0)
+          ∙ ap₂ (λ (x y : ℕ). sets l0 (a .to) ((be32 1 ++ be32 x ++ be32 y) ++ (rs ++ es))) ((c .before .before .before .before .before .before .before .before .before .before .before .before .before .row-count) .ensures) ((c .before .before .before .before .before .before .before .before .before .before .before .before .class-count) .ensures .0)
           ∙ ap (sets l0 (a .to)) (some-parts t (a .glyphs) (a .here) xs k refl e),
     )
 
@@ -78,7 +78,7 @@ put-at-spec =
     tie.close
     (tie.spec
     row-count-requires
-    u16-at-requires
+    class-count-requires
     put-sizes-requires
     add-put-class-runs
     put-class-runs-requires
