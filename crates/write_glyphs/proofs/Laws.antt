@@ -10,6 +10,7 @@ use lib.Dec.{ltb}
 use lib.ListN.{length, getD}
 use borrow.Author.Tests.{lt-ltb, le-ltb, ltb-true, ltb-false}
 use Rattle.fields.specs.Field.{u16At}
+use Rattle.encoding.specs.Tests.{Says}
 use Rattle.encoding.specs.Upto.{from}
 use Rattle.lookup.specs.declared.Found.{Found}
 use Rattle.lookup.specs.declared.Found.the-variants.{Value}
@@ -87,8 +88,8 @@ run-item kind t n at base glyph x r short few w h u l = go (ltb x (r .from)) ref
 -- ---- values
 
 -- a place that is noted with a number carries it
-pub carries-here : (kind : Kind) (t seen : List ℕ) (p place number : ℕ) → place ≡ p → KnownAs t seen place number → Carries kind t seen p number
-carries-here kind t seen p place number here m = record { other = place; item = sym (ap (itemAt kind t) here); noted = m }
+pub carries-here : (kind : Kind) (t seen : List ℕ) (p number : ℕ) (b : Bool) → b ≡ true → Says b (KnownAs t seen p number) → Carries kind t seen p number
+carries-here kind t seen p number b e h = record { other = p; item = refl; noted = subst (λ (x : Bool). Says x (KnownAs t seen p number)) e h }
 
 -- values that lead to an item, and more of them after those
 pub lead-more : (kind : Kind) (t : List ℕ) (base : ℕ) (seen : List ℕ) (place number n more p : ℕ) → p ≡ place + 2 * n

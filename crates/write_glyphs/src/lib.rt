@@ -1,15 +1,15 @@
 // What the glyphs have, clusters or action lists, numbered in order of first use (document 01, "The sheet", sections 5 to
 // 8), in one pass over the lookup: by stretches of glyphs that have the same.
 ghost use mathlib.Core.Path.{_≡_};
-ghost use mathlib.Core.Bool.{true};
 ghost use Prim.Native.Nat.{_+_, _*_, _≤_, _<_, _^_};
 ghost use lib.ListN.{length};
 ghost use Rattle.fields.specs.declared.Fault.the-variants.{Clear};
 ghost use Rattle.fields.specs.Field.{u16At};
 ghost use Rattle.lookup.specs.Lookup.{lookupFault};
-ghost use Rattle.write_numbers.specs.Numbered.{Blank};
+ghost use Rattle.encoding.specs.Tests.{Says};
+ghost use Rattle.write_numbers.specs.Numbered.{Blank, KnownAs};
 ghost use Rattle.lookup.specs.Pass.{Serves};
-ghost use Rattle.write_glyphs.specs.Places.{glyphItem, valuePlace, runPlace, Agree, Carries, Lead, OneItem, Alike, Rooms, Stands, Passed};
+ghost use Rattle.write_glyphs.specs.Places.{glyphItem, valuePlace, runPlace, Agree, Lead, OneItem, Alike, Rooms, Stands, Passed};
 use actions::Spot;
 use lookup::Cursor;
 use lookup::Found;
@@ -63,7 +63,7 @@ fn run_place(
 // Whether the value at `p` leads to the item that is known to have this number.
 fn leads(table: &[u8], kind: Kind, base: usize, seen: &[u16], p: usize, number: u16) -> bool
     requires { ⌜ base < 2 ^ 16 ⌝ }
-    ensures { λ r. ⌜ (r ≡ true → Carries kind (now (table .entry)) (now (seen .entry)) (valuePlace kind (now (table .entry)) base p) number) ⌝ }
+    ensures { λ r. ⌜ Says r (KnownAs (now (table .entry)) (now (seen .entry)) (valuePlace kind (now (table .entry)) base p) number) ⌝ }
 {
     write_numbers::is_known(table, seen, value_place(table, kind, base, p), number)
 }

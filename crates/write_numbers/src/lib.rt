@@ -4,7 +4,6 @@
 // of the first item whose slot it is. Those that find their slot taken are listed in `others`, which has how many they are and then
 // their indices, sorted as words in a dictionary, and searched by halves: many items of one slot cost little more.
 ghost use mathlib.Core.Path.{_≡_};
-ghost use mathlib.Core.Bool.{true};
 ghost use Prim.Native.Nat.{_+_, _%_, _≤_, _<_, _^_, max};
 ghost use lib.ListN.{length, getD, set, replicate};
 ghost use Rattle.fields.specs.Field.{u32At};
@@ -143,7 +142,7 @@ fn note(seen: &mut [u16], place: u16, number: u16)
 
 // Whether what is noted tells that the item at `place` has this number; none, which has the number 0, is not noted.
 pub fn is_known(table: &[u8], seen: &[u16], place: u16, number: u16) -> bool
-    ensures { λ r. ⌜ (r ≡ true → KnownAs (now (table .entry)) (now (seen .entry)) place number) ⌝ }
+    ensures { λ r. ⌜ Says r (KnownAs (now (table .entry)) (now (seen .entry)) place number) ⌝ }
 {
     if known_at(seen, place) != number {
         return false;

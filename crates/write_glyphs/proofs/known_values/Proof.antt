@@ -1,6 +1,6 @@
 -- `write_glyphs::known_values` meets its contract.
 use borrow.Author.Needs.{needs}
-use Rattle.write_glyphs.proofs.Laws.{lead-more, lead-alike}
+use Rattle.write_glyphs.proofs.Laws.{carries-here, lead-more, lead-alike}
 use Rattle.write_glyphs.specs.Places.{Lead}
 use native.Mathlib.Omega.{arith}
 use mathlib.Core.Path.{refl}
@@ -53,7 +53,7 @@ loop-again c =
     let n = (c .lower) in (
       omega (arith, n .ensures, l .inv .0),
       lead-more (a .kind) t (a .base) (a .seen .now) (a .place) (a .number) (l .values) (n .result) _ refl (l .inv .1)
-          (lead-alike (a .kind) t (a .base) (a .seen .now) (a .alike .now) _ (a .number) (n .result) ((c .before .before .before .before .before .before .before .before .before .before .pre) .1) ((c .before .before .before .before .leads) .ensures ((c .before .before .before .if1) .taken))
+          (lead-alike (a .kind) t (a .base) (a .seen .now) (a .alike .now) _ (a .number) (n .result) ((c .before .before .before .before .before .before .before .before .before .before .pre) .1) (carries-here (a .kind) t (a .seen .now) _ (a .number) (c .before .before .before .before .leads .result) (c .before .before .before .if1 .taken) (c .before .before .before .before .leads .ensures))
           (omega (arith, n .ensures, (c .before .larger) .ensures, (c .before .before .u8-at) .ensures .0))),
     )
 

@@ -1,5 +1,8 @@
 -- `write_glyphs::leads` meets its contract.
-use Rattle.write_glyphs.proofs.Laws.{carries-here}
+use Prim.Native.Nat.{ℕ}
+use mathlib.Core.Path.{subst}
+use Rattle.encoding.specs.Tests.{Says}
+use Rattle.write_numbers.specs.Numbered.{KnownAs}
 use borrow.Author.Needs.{needs}
 use Rattle.write_glyphs.proofs.leads.Statement.{statement}
 use Rattle.write_glyphs.proofs.leads.Tie as tie
@@ -13,7 +16,7 @@ is-known-requires c κs = search needs
 returns : tie.Need-returns
 returns c =
     let a = c .before .before .before .before .args in
-    λ e. carries-here (a .kind) (a .table .now) (a .seen .now) _ (c .before .value-place .result) (a .number) (c .before .value-place .ensures) (c .is-known .ensures e)
+    subst (λ (p : ℕ). Says (c .is-known .result) (KnownAs (a .table .now) (a .seen .now) p (a .number))) (c .before .value-place .ensures) (c .is-known .ensures)
 
 pub leads-spec : {M : Type 1} → statement M
 leads-spec = tie.close (tie.spec value-place-requires is-known-requires returns)
