@@ -15,26 +15,24 @@ use Rattle.sheet_sections.proofs.SectionLaws.{field16}
 use Rattle.types.specs.declared.Direction.{Direction}
 use Rattle.types.specs.declared.Pair.{Pair}
 use Rattle.meaning.specs.Meaning.{Action, Meaning}
-use Rattle.meaning.specs.Discrete.{cluster-discrete, list-discrete}
 use Rattle.meaning.specs.Limits.{OkCluster, OkActions, Valid}
 use Rattle.meaning.specs.Sheet.{write, clusterBytes, listBytes}
 use Rattle.meaning.specs.Ask.{along, width, action, nothing, pair, act, maybe, recordOf, sideOf, askSide, ask}
-use Rattle.meaning.specs.Wide.{FewPairs, FewActions}
-use Rattle.meaning.proofs.SheetLaws.{few-pairs, few-actions}
+use Rattle.actions.specs.declared.Spot.the-variants.{At, Nowhere}
 use Rattle.answers.specs.declared.RecordAnswer.{RecordAnswer}
 use Rattle.answers.specs.declared.ActionAnswer.{ActionAnswer}
 use Rattle.answers.specs.Says.{given, saysRecord, saysAction}
-use Rattle.sheet_cluster.specs.Clusters.{clusterCode}
-use Rattle.sheet_items.specs.declared.Sort.the-variants.{Clusters}
-use Rattle.sheet_items.proofs.Laws.{none-ok}
-use Rattle.sheet_list.specs.Action.{listCode}
-use Rattle.sheet_seek.specs.Passes.{Passes, Reaches, clustersOn, listsOn, afterSide}
+use Rattle.sheet_items.specs.declared.Sort.{Sort}
+use Rattle.sheet_items.specs.declared.Sort.the-variants.{Clusters, Lists}
+use Rattle.sheet_items.specs.Items.{itemsIn, noItem, item-discrete, itemCode, OkItem, FewItem, poolBytes, OkPool}
+use Rattle.sheet_items.proofs.Laws.{none-ok, none-few, item-few}
+use Rattle.sheet_seek.specs.Passes.{Passes, Reaches, listsOn, itemsOn, afterSide}
 use Rattle.sheet_seek.specs.LookUp.{runMore, lookUp, ValueIn}
 use Rattle.sheet_seek.proofs.PassLaws.{reach-end, items-there}
 use Rattle.sheet_seek.proofs.PoolLaws.{itemsOf, numbersOf, runsOf, items-few, runs-few, no-item, item-there, pool-runs}
 use Rattle.sheet_seek.proofs.SideLaws.{valid-side}
 use Rattle.sheet_seek.proofs.LookUpLaws.{element, items-are}
-use Rattle.sheet_ask.specs.Places.{RecordIn, ActionIn}
+use Rattle.sheet_ask.specs.Places.{ItemOf, RecordIn, ActionIn}
 
 -- ---- runs of numbers, as they are read
 
@@ -82,55 +80,53 @@ module _ {A : Type 0} (eq : Discrete A) (code : A → List ℕ) (none : A) (ok :
 -- ---- of a sheet
 
 module _ (s : List ℕ) (bytes : Bytes s) (m : Meaning) (v : Valid m) (w : write m ≡ s) (d : Direction) (at : ℕ) where
-  few : m .glyphs < 2 ^ 16
-  few = omega (arith, v .few-glyphs)
-
   whole : drop 0 s ≡ write m ++ []
   whole = sym w ∙ sym (append-nil (write m))
 
-  module _ (h : Passes write (clustersOn d) Valid s 0 at) (k p : ℕ) (ek : k ≡ u32At s at) (f : Reaches clusterCode FewPairs k s at p)
+  -- the items of a direction, and what follows them
+  items-stand : (sort : Sort) → Passes write (itemsOn sort d) Valid s 0 at → (rest : List ℕ) × (drop at s ≡ poolBytes sort (itemsIn sort (sideOf d m)) ++ rest)
+  items-stand Clusters h = (listsOn d m ++ [], h m [] v whole ∙ append-assoc (clusterBytes (sideOf d m .clusters)) (listsOn d m) [])
+  items-stand Lists h = (afterSide d m ++ [], h m [] v whole ∙ append-assoc (listBytes (sideOf d m .lists)) (afterSide d m) [])
+
+  items-ok : (sort : Sort) → OkPool sort (m .glyphs) (itemsIn sort (sideOf d m))
+  items-ok Clusters = (valid-side d m v .cluster-count, valid-side d m v .clusters)
+  items-ok Lists = (valid-side d m v .list-count, valid-side d m v .lists)
+
+  module _ (sort : Sort) (h : Passes write (itemsOn sort d) Valid s 0 at) (k p : ℕ) (ek : k ≡ u32At s at) (f : Reaches (itemCode sort) (FewItem sort) k s at p)
       (g y : ℕ) (fy : ValueIn 1 0 s p g y) where
-    clusters-there : drop at s ≡ clusterBytes (sideOf d m .clusters) ++ (listsOn d m ++ [])
-    clusters-there = h m [] v whole ∙ append-assoc (clusterBytes (sideOf d m .clusters)) (listsOn d m) []
+    wide : All (FewItem sort) (itemsIn sort (sideOf d m))
+    wide = all-map (OkItem sort (m .glyphs)) (FewItem sort) (item-few sort (m .glyphs)) (itemsIn sort (sideOf d m)) (items-ok sort .1)
 
-    wide-clusters : All FewPairs (sideOf d m .clusters)
-    wide-clusters = all-map OkCluster FewPairs few-pairs (sideOf d m .clusters) (valid-side d m v .clusters)
+    pub item-nowhere : y ≡ 0 → getD (itemsIn sort (sideOf d m)) g (noItem sort) ≡ noItem sort
+    item-nowhere z =
+        pool-nothing (item-discrete sort) (itemCode sort) (noItem sort) (FewItem sort) (none-few sort) s bytes (m .glyphs) (omega (arith, v .few-glyphs)) (itemsIn sort (sideOf d m))
+        (items-ok sort .0) wide at (items-stand sort h .0) (items-stand sort h .1) k p ek f g y fy z
 
-    pub no-record : (c : ℕ) → y ≡ 0 → given nothing ≡ given (ask m (along d (width g c)))
-    unfolding ask askSide
-    no-record c z =
-        ap (λ (l : List Pair). given (maybe pair (recordOf c l)))
-        (sym (pool-nothing cluster-discrete clusterCode [] FewPairs (omega arith, tt) s bytes (m .glyphs) few (sideOf d m .clusters) (valid-side d m v .cluster-count) wide-clusters
-        at (listsOn d m ++ []) clusters-there k p ek f g y fy z))
+    pub item-stands : (j q : ℕ) → y ≡ suc j → Reaches (itemCode sort) (FewItem sort) j s at q
+        → (rest : List ℕ) × (drop q s ≡ itemCode sort (getD (itemsIn sort (sideOf d m)) g (noItem sort)) ++ rest)
+    item-stands j q ej i =
+        pool-place (item-discrete sort) (itemCode sort) (noItem sort) (FewItem sort) (none-few sort) s bytes (m .glyphs) (omega (arith, v .few-glyphs)) (itemsIn sort (sideOf d m))
+        (items-ok sort .0) wide at (items-stand sort h .0) (items-stand sort h .1) k p ek f g y fy j q ej i
 
-    pub the-record : (c j q : ℕ) → y ≡ suc j → Reaches clusterCode FewPairs j s at q → (r : RecordAnswer) → RecordIn s q c r
-        → saysRecord r ≡ given (ask m (along d (width g c)))
-    unfolding ask askSide
-    the-record c j q ej i r fr =
-        let t = pool-place cluster-discrete clusterCode [] FewPairs (omega arith, tt) s bytes (m .glyphs) few (sideOf d m .clusters) (valid-side d m v .cluster-count) wide-clusters
-        at (listsOn d m ++ []) clusters-there k p ek f g y fy j q ej i in
-        fr (getD (sideOf d m .clusters) g []) (t .0) (all-getD OkCluster (sideOf d m .clusters) [] g (none-ok Clusters (m .glyphs)) (valid-side d m v .clusters)) (t .1)
+-- ---- the answers
 
-  module _ (h : Passes write (listsOn d) Valid s 0 at) (k p : ℕ) (ek : k ≡ u32At s at) (f : Reaches listCode FewActions k s at p)
-      (g y : ℕ) (fy : ValueIn 1 0 s p g y) where
-    lists-there : drop at s ≡ listBytes (sideOf d m .lists) ++ (afterSide d m ++ [])
-    lists-there = h m [] v whole ∙ append-assoc (listBytes (sideOf d m .lists)) (afterSide d m) []
+module _ (s : List ℕ) (m : Meaning) (v : Valid m) (w : write m ≡ s) (d : Direction) (g : ℕ) where
+  pub no-record : (c : ℕ) → ItemOf s d Clusters g Nowhere → given nothing ≡ given (ask m (along d (width g c)))
+  unfolding ask askSide
+  no-record c i = ap (λ (l : List Pair). given (maybe pair (recordOf c l))) (sym (i m v w))
 
-    wide-lists : All FewActions (sideOf d m .lists)
-    wide-lists = all-map (OkActions (m .glyphs)) FewActions (few-actions (m .glyphs)) (sideOf d m .lists) (valid-side d m v .lists)
+  pub the-record : (c q : ℕ) → ItemOf s d Clusters g (At q) → (r : RecordAnswer) → RecordIn s q c r → saysRecord r ≡ given (ask m (along d (width g c)))
+  unfolding ask askSide
+  the-record c q i r f =
+      let t = i m v w in
+      f (getD (sideOf d m .clusters) g []) (t .0) (all-getD OkCluster (sideOf d m .clusters) [] g (none-ok Clusters (m .glyphs)) (valid-side d m v .clusters)) (t .1)
 
-    pub no-action : (i : ℕ) → y ≡ 0 → given nothing ≡ given (ask m (along d (action g i)))
-    unfolding ask askSide
-    no-action i z =
-        ap (λ (l : List Action). given (maybe act (getElem? l i)))
-        (sym (pool-nothing list-discrete listCode [] FewActions (omega arith, tt) s bytes (m .glyphs) few (sideOf d m .lists) (valid-side d m v .list-count) wide-lists
-        at (afterSide d m ++ []) lists-there k p ek f g y fy z))
+  pub no-action : (k : ℕ) → ItemOf s d Lists g Nowhere → given nothing ≡ given (ask m (along d (action g k)))
+  unfolding ask askSide
+  no-action k i = ap (λ (l : List Action). given (maybe act (getElem? l k))) (sym (i m v w))
 
-    pub the-action : (i j q : ℕ) → y ≡ suc j → Reaches listCode FewActions j s at q → (r : ActionAnswer) → ActionIn s q i r
-        → saysAction r ≡ given (ask m (along d (action g i)))
-    unfolding ask askSide
-    the-action i j q ej x r fr =
-        let t = pool-place list-discrete listCode [] FewActions (omega arith, tt) s bytes (m .glyphs) few (sideOf d m .lists) (valid-side d m v .list-count) wide-lists
-        at (afterSide d m ++ []) lists-there k p ek f g y fy j q ej x in
-        fr .answer (m .glyphs) (getD (sideOf d m .lists) g []) (t .0)
-        (all-getD (OkActions (m .glyphs)) (sideOf d m .lists) [] g (omega arith, tt) (valid-side d m v .lists)) (t .1)
+  pub the-action : (k q : ℕ) → ItemOf s d Lists g (At q) → (r : ActionAnswer) → ActionIn s q k r → saysAction r ≡ given (ask m (along d (action g k)))
+  unfolding ask askSide
+  the-action k q i r f =
+      let t = i m v w in
+      f .answer (m .glyphs) (getD (sideOf d m .lists) g []) (t .0) (all-getD (OkActions (m .glyphs)) (sideOf d m .lists) [] g (none-ok Lists (m .glyphs)) (valid-side d m v .lists)) (t .1)

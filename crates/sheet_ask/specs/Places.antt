@@ -5,13 +5,16 @@ use mathlib.Core.List.{List, _++_}
 use lib.ListN.{length, getD, getElem?, drop}
 use Rattle.fields.specs.Field.{u32At}
 use Rattle.encoding.specs.Sections.{numbered}
+use Rattle.types.specs.declared.Direction.{Direction}
 use Rattle.types.specs.declared.Entry.{Entry}
 use Rattle.types.specs.declared.Pair.{Pair}
-use Rattle.meaning.specs.Meaning.{Action}
+use Rattle.meaning.specs.Meaning.{Action, Meaning}
 use Rattle.meaning.specs.Discrete.{Entry-discrete}
-use Rattle.meaning.specs.Limits.{OkCluster, OkActions}
-use Rattle.meaning.specs.Sheet.{entryCode}
-use Rattle.meaning.specs.Ask.{maybe, entry, pair, act, recordOf}
+use Rattle.meaning.specs.Limits.{OkCluster, OkActions, Valid}
+use Rattle.meaning.specs.Sheet.{entryCode, write}
+use Rattle.meaning.specs.Ask.{maybe, entry, pair, act, recordOf, sideOf}
+use Rattle.actions.specs.declared.Spot.{Spot}
+use Rattle.actions.specs.declared.Spot.the-variants.{At, Nowhere}
 use Rattle.answers.specs.declared.CellAnswer.{CellAnswer}
 use Rattle.answers.specs.declared.RecordAnswer.{RecordAnswer}
 use Rattle.answers.specs.declared.ActionAnswer.{ActionAnswer}
@@ -20,6 +23,8 @@ use Rattle.sheet_cells.specs.Cells.{OkCells}
 use Rattle.sheet_cluster.specs.Clusters.{clusterCode}
 use Rattle.sheet_list.specs.Action.{listCode}
 use Rattle.sheet_machine.specs.Machine.{Sizes}
+use Rattle.sheet_items.specs.declared.Sort.{Sort}
+use Rattle.sheet_items.specs.Items.{itemsIn, noItem, itemCode}
 
 -- section 1 stands there and has a machine
 abbrev pub HasMachine : List ℕ → ℕ → Type 0
@@ -31,6 +36,12 @@ CellIn bytes at k r =
     (rows classes : ℕ) (cells : List Entry) (rest : List ℕ) → Sizes rows classes → OkCells rows (rows * classes) cells
     → drop at bytes ≡ numbered Entry-discrete entryCode cells ++ rest → k < rows * classes
     → saysCell r ≡ given (entry (getD cells k (record { row = 0; flags = 0 })))
+
+-- where a glyph's cluster or action list stands, of the meaning that the bytes are written for; nowhere where it has none
+abbrev pub ItemOf : List ℕ → Direction → (sort : Sort) → ℕ → Spot → Type 0
+ItemOf bytes d sort glyph (At p) =
+    (m : Meaning) → Valid m → write m ≡ bytes → (rest : List ℕ) × (drop p bytes ≡ itemCode sort (getD (itemsIn sort (sideOf d m)) glyph (noItem sort)) ++ rest)
+ItemOf bytes d sort glyph Nowhere = (m : Meaning) → Valid m → write m ≡ bytes → getD (itemsIn sort (sideOf d m)) glyph (noItem sort) ≡ noItem sort
 
 -- the record of a class in the cluster that stands at a place
 abbrev pub RecordIn : List ℕ → ℕ → ℕ → RecordAnswer → Type 0

@@ -4,11 +4,12 @@ ghost use mathlib.Core.Path.{_≡_};
 ghost use Prim.Native.Nat.{_%_, _<_, _≤_, _^_};
 ghost use lib.ListN.{length};
 ghost use Rattle.encoding.specs.Tests.{Says};
-ghost use Rattle.sheet_ask.specs.Places.{HasMachine, CellIn, RecordIn, ActionIn};
+ghost use Rattle.sheet_ask.specs.Places.{HasMachine, CellIn, ItemOf, RecordIn, ActionIn};
 ghost use Rattle.sheet_ask.specs.Parts.{CountOf, SizesOf, ClassOf, CellOf, RecordOf, ActionOf};
 ghost use Rattle.meaning.specs.Ask.{glyphCount, along, sizes, class, cell, width};
 ghost use Rattle.answers.specs.Says.{saysCount, saysSizes, saysClass, saysCell, saysRecord};
 ghost use Rattle.sheet_ask.specs.Calls.{SheetReply, ActionReply};
+use actions::Spot;
 use answers::ActionAnswer;
 use answers::CellAnswer;
 use answers::ClassAnswer;
@@ -127,6 +128,19 @@ fn cell_of(bytes: &[u8], direction: Direction, row: u16, class: u16) -> CellAnsw
     cell_in(bytes, entries, row as usize * classes + class as usize)
 }
 
+// Where the cluster, or the action list, of a glyph stands.
+fn item_of(bytes: &[u8], direction: Direction, sort: Sort, glyph: u16) -> Spot
+    ensures { λ r. ⌜ ItemOf (now (bytes .entry)) direction sort glyph r ⌝ }
+{
+    let at = sheet_seek::items_at(bytes, direction, sort);
+    let runs = sheet_seek::item_place(bytes, at, sort, fields::u32_at(bytes, at));
+    let number = sheet_seek::value_of(bytes, runs, glyph as usize, 1, 0);
+    if number == 0 {
+        return Spot::Nowhere;
+    }
+    Spot::At(sheet_seek::item_place(bytes, at, sort, number - 1))
+}
+
 // The record of a class in the cluster at a position, which stands there as in a table.
 fn record_in(bytes: &[u8], at: usize, class: u8) -> RecordAnswer
     ensures { λ r. ⌜ RecordIn (now (bytes .entry)) at class r ⌝ }
@@ -144,13 +158,10 @@ fn record_in(bytes: &[u8], at: usize, class: u8) -> RecordAnswer
 fn record_of(bytes: &[u8], direction: Direction, glyph: u16, class: u8) -> RecordAnswer
     ensures { λ r. ⌜ RecordOf (now (bytes .entry)) direction glyph class r ⌝ }
 {
-    let at = sheet_seek::clusters_at(bytes, direction);
-    let runs = sheet_seek::item_place(bytes, at, Sort::Clusters, fields::u32_at(bytes, at));
-    let number = sheet_seek::value_of(bytes, runs, glyph as usize, 1, 0);
-    if number == 0 {
+    let spot = item_of(bytes, direction, Sort::Clusters, glyph);
+    let Spot::At(place) = spot else {
         return RecordAnswer::Nothing;
-    }
-    let place = sheet_seek::item_place(bytes, at, Sort::Clusters, number - 1);
+    };
     record_in(bytes, place, class)
 }
 
@@ -176,13 +187,10 @@ fn action_in(bytes: &[u8], at: usize, number: usize) -> ActionAnswer
 fn action_of(bytes: &[u8], direction: Direction, glyph: u16, number: u16) -> ActionAnswer
     ensures { λ r. ⌜ ActionOf (now (bytes .entry)) direction glyph number r ⌝ }
 {
-    let at = sheet_seek::lists_at(bytes, direction);
-    let runs = sheet_seek::item_place(bytes, at, Sort::Lists, fields::u32_at(bytes, at));
-    let list = sheet_seek::value_of(bytes, runs, glyph as usize, 1, 0);
-    if list == 0 {
+    let spot = item_of(bytes, direction, Sort::Lists, glyph);
+    let Spot::At(place) = spot else {
         return answers::no_action(Sought::Nothing);
-    }
-    let place = sheet_seek::item_place(bytes, at, Sort::Lists, list - 1);
+    };
     action_in(bytes, place, number as usize)
 }
 

@@ -6,7 +6,7 @@ use lib.ListN.{length}
 use Rattle.encoding.specs.Codes.{All, counted}
 use Rattle.encoding.specs.Sections.{pool}
 use Rattle.types.specs.declared.Pair.{Pair}
-use Rattle.meaning.specs.Meaning.{Action}
+use Rattle.meaning.specs.Meaning.{Action, Side}
 use Rattle.meaning.specs.Limits.{OkCluster, OkActions}
 use Rattle.meaning.specs.Discrete.{cluster-discrete, list-discrete}
 use Rattle.meaning.specs.Sheet.{pairCode, actionCode}
@@ -18,6 +18,11 @@ use Rattle.sheet_items.specs.declared.Sort.the-variants.{Clusters, Lists
 abbrev pub Item : Sort → Type 0
 Item Clusters = List Pair
 Item Lists = List Action
+
+-- each glyph's, in a direction
+abbrev pub itemsIn : (sort : Sort) → Side → List (Item sort)
+itemsIn Clusters s = s .clusters
+itemsIn Lists s = s .lists
 
 -- what a glyph without a cluster, or without actions, has
 abbrev pub noItem : (sort : Sort) → Item sort

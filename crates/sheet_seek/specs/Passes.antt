@@ -11,6 +11,8 @@ use Rattle.encoding.specs.Sections.{numbered}
 use Rattle.sheet_sections.specs.Section.{Room}
 use Rattle.types.specs.declared.Direction.{Direction}
 use Rattle.types.specs.declared.Direction.the-variants.{Horizontal, Vertical}
+use Rattle.sheet_items.specs.declared.Sort.{Sort}
+use Rattle.sheet_items.specs.declared.Sort.the-variants.{Clusters, Lists}
 use Rattle.meaning.specs.Meaning.{Machine, Meaning}
 use Rattle.meaning.specs.Discrete.{Entry-discrete}
 use Rattle.meaning.specs.Ask.{sideOf}
@@ -59,3 +61,7 @@ listsOn d m = listBytes (sideOf d m .lists) ++ afterSide d m
 
 abbrev pub clustersOn : Direction → Meaning → List ℕ
 clustersOn d m = clusterBytes (sideOf d m .clusters) ++ listsOn d m
+
+abbrev pub itemsOn : Sort → Direction → Meaning → List ℕ
+itemsOn Clusters = clustersOn
+itemsOn Lists = listsOn

@@ -11,7 +11,7 @@ ghost use Rattle.meaning.specs.Limits.{OkMaybe, Valid};
 ghost use Rattle.meaning.specs.Sheet.{actionCode, write, machineBytes};
 ghost use Rattle.meaning.specs.Wide.{WideAction};
 ghost use Rattle.sheet_items.specs.Items.{itemCode, FewItem, poolBytes, OkPool};
-ghost use Rattle.sheet_seek.specs.Passes.{Passes, ItemsEnd, Reaches, ByGlyphs, afterSizes, afterClasses, sideOn, clustersOn, listsOn};
+ghost use Rattle.sheet_seek.specs.Passes.{Passes, ItemsEnd, Reaches, ByGlyphs, afterSizes, afterClasses, sideOn, itemsOn};
 ghost use Rattle.sheet_seek.specs.LookUp.{runMore, lookUp, ValueIn};
 
 // Where a section of items of `width` bytes ends.
@@ -128,18 +128,15 @@ pub fn side_at(bytes: &[u8], direction: Direction) -> usize
     }
 }
 
-// Where section 5 of a direction begins.
-pub fn clusters_at(bytes: &[u8], direction: Direction) -> usize
-    ensures { λ r. ⌜ Passes write (clustersOn direction) Valid (now (bytes .entry)) 0 r ⌝ }
+// Where section 5, or 7, of a direction begins.
+pub fn items_at(bytes: &[u8], direction: Direction, sort: Sort) -> usize
+    ensures { λ r. ⌜ Passes write (itemsOn sort direction) Valid (now (bytes .entry)) 0 r ⌝ }
 {
-    after_machine(bytes, side_at(bytes, direction))
-}
-
-// Where section 7 of a direction begins.
-pub fn lists_at(bytes: &[u8], direction: Direction) -> usize
-    ensures { λ r. ⌜ Passes write (listsOn direction) Valid (now (bytes .entry)) 0 r ⌝ }
-{
-    after_pool(bytes, clusters_at(bytes, direction), Sort::Clusters)
+    let clusters = after_machine(bytes, side_at(bytes, direction));
+    match sort {
+        Sort::Clusters => clusters,
+        Sort::Lists => after_pool(bytes, clusters, Sort::Clusters),
+    }
 }
 
 // Of `count` runs from a position on, the value of the one that a glyph is in, with `more` added; `skip` for a glyph in
