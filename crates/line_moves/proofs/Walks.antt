@@ -26,13 +26,14 @@ use Rattle.machine.specs.Machine.{machineFault}
 use Rattle.machine.proofs.Laws.{rowCount-least, rows-two, rows-most, classes-least, classes-most, class-below, cell-exact}
 use Rattle.lookup_targets.specs.declared.Kind.the-variants.{Clusters}
 use Rattle.lookup_targets.specs.Values.{valuesFault}
-use Rattle.table.specs.Table.{machineOffset, widthOffset, actionOffset, widthLookup, present, offsetsFault, machinePart, actionPart, directionFault, tableFault}
+use Rattle.table.specs.Table.{directionAt, machinePart, tableFault}
+use Rattle.table.proofs.Laws.{present-some, direction-clear}
+use Rattle.table.proofs.Laws as table
 use Rattle.table.specs.Means.{cellBy, machineOf, meaningOf}
 use Rattle.table.specs.Means as means
-use Rattle.table_ask.specs.Places.{directionAt, machineIn}
+use Rattle.table_ask.specs.Places.{machineIn}
 use Rattle.table_ask.proofs.Rows.{cell-by, index-below}
 use Rattle.table_ask.proofs.Asked.{side-is, machine-is}
-use Rattle.table_ask.proofs.Laws.{direction-clear}
 use Rattle.class_walk.specs.Walk.{Machine, Line, Conf, Walk, going, stopped, Fits, glyphs, columnAt, met, onAt, givenBy, taken, step, begin, after, most, walked, noWalk}
 use Rattle.class_walk.specs.Line.{machineAt, lineOf, lineColumn, lineColumns, padded, handedOut, Sound, Columns}
 use Rattle.class_walk.specs.declared.Walked.{Walked}
@@ -164,17 +165,9 @@ module _ (t : List ℕ) (n : ℕ) (d : Direction) where
     one-there z = machine-of ∙ ap (machineOf t n) (sym e) ∙ rw (ne-eqb o 0 z)
 
     pub machine-clear : tableFault t n ≡ Clear → (o ≡ 0 → ⊥) → machineFault t n (o + 8) ≡ Clear
-    unfolding directionFault machinePart machineIn present
-    machine-clear ok z = by-direction (eqb (directionAt t d) 0) (direction-clear t n d ok) e
-      where
-        by-direction : (b : Bool)
-            → cond b Clear (offsetsFault t (directionAt t d) then machinePart t n (machineOffset t (directionAt t d))
-            then valuesFault t n Clusters (widthLookup (directionAt t d)) (widthOffset t (directionAt t d)) then actionPart t n (actionOffset t (directionAt t d))) ≡ Clear
-            → o ≡ cond b 0 (machineOffset t (directionAt t d)) → machineFault t n (o + 8) ≡ Clear
-        by-direction true f q = absurd (z q)
-        by-direction false f q =
-            let g : machinePart t n o ≡ Clear = ap (machinePart t n) q ∙ then-first _ _ (then-second _ _ f) in
-            sym (rw (ne-eqb o 0 z)) ∙ g
+    unfolding machinePart machineIn
+    machine-clear ok z =
+        sym (present-some o _ z) ∙ ap (machinePart t n) e ∙ table.machine-clear t (directionAt t d) n (direction-clear t n ok d)
 
     -- no machine: every class 0, no entry taken; over the size k, since `replicate 1024 0` is written out wherever it stands
     pub no-walk : o ≡ 0 → (gs : List ℕ) (starts ends : Bool)

@@ -1,6 +1,6 @@
 -- What the values of a direction's two lookups lead to (document 01, "The table"): a width value to a cluster, an action value to an action list; the first
 -- fault of the lookup and of all that its values lead to, glyph by glyph; and what each glyph has.
-use Prim.Native.Nat.{ℕ, zero, suc, _+_, _-_, _*_, _/_, _%_, _≤_, min, max}
+use Prim.Native.Nat.{ℕ, zero, suc, _+_, _-_, _*_, _/_, _%_, _≤_, _<_, _^_, min, max}
 use mathlib.Core.Bool.{cond}
 use mathlib.Core.Path.{_≡_}
 use mathlib.Core.List.{List, []}
@@ -27,6 +27,8 @@ use Rattle.actions.specs.Actions.{listAt}
 use Rattle.actions.specs.Notes.{Passed}
 use Rattle.lookup_targets.specs.declared.Kind.{Kind}
 use Rattle.lookup_targets.specs.declared.Kind.the-variants.{Clusters, Lists}
+use Rattle.lookup_targets.specs.declared.Source.{Source}
+use Rattle.lookup_targets.specs.declared.Source.the-variants.{Lookup, Absent}
 
 -- where the cluster or the list stands that a value leads to, an offset from `base`: a width value of 0 is an offset like any other, an action value of 0 means none
 abbrev pub spotOf : Kind → ℕ → Found → Spot
@@ -54,6 +56,16 @@ glyphFault t glyphs kind at base glyph = spotFault t glyphs kind (spotOf kind ba
 -- the lookup, then what its values lead to, glyphs upward
 unfoldable pub valuesFault : List ℕ → ℕ → Kind → ℕ → ℕ → Fault
 valuesFault t glyphs kind at base = lookupFault t glyphs at then each (glyphFault t glyphs kind at base) (λ g. g + 1) glyphs 0
+
+-- the same of a source, which has no fault where there is no lookup
+abbrev pub sourceFault : List ℕ → ℕ → Kind → Source → Fault
+sourceFault t glyphs kind (Lookup at base) = valuesFault t glyphs kind at base
+sourceFault t glyphs kind Absent = Clear
+
+-- its lookup, and what the values count from, stand where 16-bit offsets lead
+abbrev pub Near : Source → Type 0
+Near (Lookup at base) = (at < 2 ^ 17) × (base < 2 ^ 16)
+Near Absent = Unit {0}
 
 -- the cluster, and the action list, of a place; none where there is none
 abbrev pub clusterHere : List ℕ → Spot → List Pair

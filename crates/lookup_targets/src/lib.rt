@@ -21,6 +21,12 @@ pub enum Kind {
     Lists,
 }
 
+// Where the glyphs' clusters or lists come from: a lookup, whose values are offsets from `base`, or nothing.
+pub enum Source {
+    Lookup { at: usize, base: usize },
+    Absent,
+}
+
 // Where the list stands that an action value leads to, an offset from `base`; 0 leads nowhere.
 fn list_spot(base: usize, value: u16) -> Spot
     requires { ⌜ base < 2 ^ 16 ⌝ }

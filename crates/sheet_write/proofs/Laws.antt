@@ -10,26 +10,28 @@ use borrow.Author.Tests.{le-leb, lt-leb}
 use Rattle.fields.specs.declared.Refusal.{Refusal}
 use Rattle.fields.specs.declared.Fault.{Fault}
 use Rattle.fields.specs.declared.Fault.the-variants.{Clear, Bad}
-use Rattle.fields.specs.Field.{u16At, be32}
+use Rattle.fields.specs.Field.{be32}
 use Rattle.fields.specs.Stores.{sets-out, put-two}
 use Rattle.fields.specs.Refusals.{numberOf}
-use Rattle.fields.specs.Laws.{then-first, then-second}
+use Rattle.fields.specs.Laws.{then-first}
+use Rattle.types.specs.declared.Direction.{Direction}
+use Rattle.types.specs.declared.Direction.the-variants.{Horizontal, Vertical}
 use Rattle.meaning.specs.Sheet.{write}
-use Rattle.table.specs.Table.{headerFault, directionFault, tableFault}
+use Rattle.table.specs.Table.{directionAt, headerFault, directionFault, tableFault}
 use Rattle.table.specs.Means.{meaningOf}
-use Rattle.table.proofs.Laws.{short, few-glyphs}
+use Rattle.table.proofs.Laws.{direction-clear, short, few-glyphs}
 use Rattle.write_direction.specs.Side.{sideBytes, Ready as Ready-side}
 use Rattle.sheet_write.specs.Written.{sheetOf, refused, bytes, lengthBy, sheetLength, stored, writtenBy, written, Draft}
 
 -- ---- the sheet
 
 module _ (t : List ℕ) (n : ℕ) where
-  pub sheet-parts : sheetOf t n ≡ be32 n ++ (sideBytes t n (u16At t 6) ++ sideBytes t n (u16At t 8))
+  pub sheet-parts : sheetOf t n ≡ be32 n ++ (sideBytes t n (directionAt t Horizontal) ++ sideBytes t n (directionAt t Vertical))
   unfolding sheetOf write meaningOf sideBytes
   sheet-parts = refl
 
-  pub sheet-length : length (sheetOf t n) ≡ 4 + length (sideBytes t n (u16At t 6)) + length (sideBytes t n (u16At t 8))
-  sheet-length = omega (arith, ap length sheet-parts, length-append (sideBytes t n (u16At t 6)) (sideBytes t n (u16At t 8)))
+  pub sheet-length : length (sheetOf t n) ≡ 4 + length (sideBytes t n (directionAt t Horizontal)) + length (sideBytes t n (directionAt t Vertical))
+  sheet-length = omega (arith, ap length sheet-parts, length-append (sideBytes t n (directionAt t Horizontal)) (sideBytes t n (directionAt t Vertical)))
 
   module _ (e : tableFault t n ≡ Clear) where
     header-clear : headerFault t n ≡ Clear
@@ -42,25 +44,12 @@ module _ (t : List ℕ) (n : ℕ) where
     pub glyphs-few : n < 65536
     glyphs-few = omega (arith, few-glyphs t n header-clear)
 
-    pub first-clear : directionFault t n (u16At t 6) ≡ Clear
-    unfolding tableFault
-    first-clear = then-first _ _ (then-second _ _ e)
-
-    pub second-clear : directionFault t n (u16At t 8) ≡ Clear
-    unfolding tableFault
-    second-clear = then-second _ _ (then-second _ _ e)
-
-    side-ready : (at : ℕ) → at < 2 ^ 16 → directionFault t n at ≡ Clear → Ready-side t n at
-    side-ready at h c = record { bytes = bytes-few; few = glyphs-few; near = h; clear = c }
-
-    pub first-ready : (at : ℕ) → at < 2 ^ 16 → at ≡ u16At t 6 → Ready-side t n at
-    first-ready at h e = side-ready at h (ap (directionFault t n) e ∙ first-clear)
-
-    pub second-ready : (at : ℕ) → at < 2 ^ 16 → at ≡ u16At t 8 → Ready-side t n at
-    second-ready at h e = side-ready at h (ap (directionFault t n) e ∙ second-clear)
+    pub side-ready : (d : Direction) (at : ℕ) → at < 2 ^ 16 → at ≡ directionAt t d → Ready-side t n at
+    side-ready d at h c =
+        record { bytes = bytes-few; few = glyphs-few; near = h; clear = ap (directionFault t n) c ∙ direction-clear t n e d }
 
   -- the number of glyphs stored, then the one direction, then the other
-  module _ (first second end r : ℕ) (e₁ : first ≡ u16At t 6) (e₂ : second ≡ u16At t 8) (p : end ≡ 4 + length (sideBytes t n first))
+  module _ (first second end r : ℕ) (e₁ : first ≡ directionAt t Horizontal) (e₂ : second ≡ directionAt t Vertical) (p : end ≡ 4 + length (sideBytes t n first))
       (q : r ≡ end + length (sideBytes t n second)) where
     pub parts-length : r ≡ length (sheetOf t n)
     parts-length =

@@ -10,6 +10,7 @@ ghost use Rattle.table.specs.Table.{tableFault};
 ghost use Rattle.sheet_write.specs.Written.{sheetOf, saysLength, saysWritten, sheetLength, Outcome, stored, written, Draft};
 use fields::Fault;
 use fields::Refusal;
+use types::Direction;
 
 // How long the sheet is, in bytes.
 pub enum LengthAnswer {
@@ -43,9 +44,9 @@ fn put_sheet(table: &[u8], glyphs: usize, room: &mut [u8]) -> usize
         × (now (room .exit) ≡ sets (now (room .entry)) 0 (sheetOf (now (table .entry)) glyphs)) ⌝ }
 {
     fields::put_u32(room, 0, glyphs as u32);
-    let first = fields::u16_at(table, 6);
+    let first = table::direction_at(table, Direction::Horizontal);
     let end = write_direction::put_side(table, glyphs, first, room, 4);
-    let second = fields::u16_at(table, 8);
+    let second = table::direction_at(table, Direction::Vertical);
     // directions at one offset are written alike
     if first == second {
         put_copy(room, 4, end);

@@ -5,7 +5,7 @@ use mathlib.Core.Option.{Option, none, some}
 use mathlib.Core.List.{List, []}
 use lib.ListN.{getD, replicate}
 use lib.Dec.{eqb}
-use Rattle.fields.specs.Field.{u16At}
+use Rattle.types.specs.declared.Direction.the-variants.{Horizontal, Vertical}
 use Rattle.encoding.specs.Upto.{upto}
 use Rattle.types.specs.declared.Entry.{Entry}
 use Rattle.types.specs.declared.Pair.{Pair}
@@ -13,7 +13,7 @@ use Rattle.machine.specs.Cells.{classCount, classAt, entryAt, stateArray}
 use Rattle.machine.specs.Rows.{rowCount}
 use Rattle.lookup_targets.specs.Values.{clusterOf, listOf}
 use Rattle.meaning.specs.Meaning.{Machine, Action, Side, emptySide, Meaning}
-use Rattle.table.specs.Table.{machineOffset, widthOffset, actionOffset, widthLookup}
+use Rattle.table.specs.Table.{directionAt, machineOffset, widthOffset, actionOffset, widthLookup}
 
 -- the cell with an index, counted row by row
 unfoldable pub cellBy : List ℕ → ℕ → ℕ → Entry
@@ -49,4 +49,4 @@ unfoldable pub directionOf : List ℕ → ℕ → ℕ → Side
 directionOf t n at = cond (eqb at 0) (emptySide n) (sideAt t n at)
 
 unfoldable pub meaningOf : List ℕ → ℕ → Meaning
-meaningOf t n = record { glyphs = n; horizontal = directionOf t n (u16At t 6); vertical = directionOf t n (u16At t 8) }
+meaningOf t n = record { glyphs = n; horizontal = directionOf t n (directionAt t Horizontal); vertical = directionOf t n (directionAt t Vertical) }

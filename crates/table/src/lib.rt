@@ -4,14 +4,67 @@ ghost use mathlib.Core.Path.{_≡_};
 ghost use Prim.Native.Nat.{ℕ, _+_, _≤_, _<_, _^_};
 ghost use lib.ListN.{length};
 ghost use Rattle.answers.specs.Says.{checkedBy};
-ghost use Rattle.fields.specs.Field.{u16At};
 ghost use Rattle.fields.specs.Faults.{_then_};
-ghost use Rattle.lookup_targets.specs.Values.{Judged};
-ghost use Rattle.table.specs.Table.{headerFault, offsetsFault, machinePart, actionPart, directionFault, tableFault};
+ghost use Rattle.types.specs.declared.Direction.the-variants.{Horizontal, Vertical};
+ghost use Rattle.lookup_targets.specs.Values.{sourceFault, Near, Judged};
+ghost use Rattle.table.specs.Table.{directionAt, machinePlace, listSource, sourceAt, headerFault, offsetsFault, machinePart, directionFault, tableFault};
 use answers::Checked;
 use fields::Fault;
 use fields::Refusal;
 use lookup_targets::Kind;
+use lookup_targets::Source;
+use types::Direction;
+
+// Where a direction's offsets stand; 0 for an absent one.
+pub fn direction_at(table: &[u8], direction: Direction) -> usize
+    ensures { λ r. ⌜ (r ≡ directionAt (now (table .entry)) direction) × (r < 2 ^ 16) ⌝ }
+{
+    match direction {
+        Direction::Horizontal => fields::u16_at(table, 6),
+        Direction::Vertical => fields::u16_at(table, 8),
+    }
+}
+
+// The offset of the machine of the direction at `at`; 0 for none.
+pub fn machine_place(table: &[u8], at: usize) -> usize
+    ensures { λ r. ⌜ (r ≡ machinePlace (now (table .entry)) at) × (r < 2 ^ 16) ⌝ }
+{
+    if at == 0 {
+        return 0;
+    }
+    fields::u16_at(table, at)
+}
+
+// Where the lists come from that an action lookup at an offset leads to, 0 for none.
+fn list_source(offset: usize) -> Source
+    requires { ⌜ offset < 2 ^ 16 ⌝ }
+    ensures { λ r. ⌜ (r ≡ listSource offset) × Near r ⌝ }
+{
+    if offset == 0 {
+        return Source::Absent;
+    }
+    Source::Lookup {
+        at: offset,
+        base: offset,
+    }
+}
+
+// Where the clusters, or the lists, of the direction at `at` come from.
+pub fn source_at(table: &[u8], at: usize, kind: Kind) -> Source
+    requires { ⌜ at < 2 ^ 16 ⌝ }
+    ensures { λ r. ⌜ (r ≡ sourceAt (now (table .entry)) at kind) × Near r ⌝ }
+{
+    if at == 0 {
+        return Source::Absent;
+    }
+    match kind {
+        Kind::Clusters => Source::Lookup {
+            at: at + 6,
+            base: fields::u16_at(table, at + 2),
+        },
+        Kind::Lists => list_source(fields::u16_at(table, at + 4)),
+    }
+}
 
 // The machine at an offset, 0 for none.
 fn machine_part(table: &[u8], glyphs: usize, offset: usize) -> Fault
@@ -24,16 +77,16 @@ fn machine_part(table: &[u8], glyphs: usize, offset: usize) -> Fault
     machine::machine_fault(table, glyphs, offset + 8)
 }
 
-// The action lookup at an offset, 0 for none, and the lists that its values lead to.
-fn action_part(table: &[u8], glyphs: usize, offset: usize, judged: &mut [u8]) -> Fault
-    requires { ⌜ (offset < 2 ^ 16) × (glyphs < 2 ^ 16) ⌝ }
+// The lookup of a source, and the clusters or lists that its values lead to.
+fn source_fault(table: &[u8], glyphs: usize, kind: Kind, source: Source, judged: &mut [u8]) -> Fault
+    requires { ⌜ Near source × (glyphs < 2 ^ 16) ⌝ }
     requires { ⌜ Judged (now table) glyphs (now judged) ⌝ }
-    ensures { λ r. ⌜ (r ≡ actionPart (now (table .entry)) glyphs offset) × Judged (now (table .entry)) glyphs (now (judged .exit)) ⌝ }
+    ensures { λ r. ⌜ (r ≡ sourceFault (now (table .entry)) glyphs kind source) × Judged (now (table .entry)) glyphs (now (judged .exit)) ⌝ }
 {
-    if offset == 0 {
+    let Source::Lookup { at, base } = source else {
         return Fault::Clear;
-    }
-    lookup_targets::values_fault(table, glyphs, Kind::Lists, offset, offset, judged)
+    };
+    lookup_targets::values_fault(table, glyphs, kind, at, base, judged)
 }
 
 // The three offsets of the direction at `at`.
@@ -60,16 +113,17 @@ fn direction_fault(table: &[u8], glyphs: usize, at: usize, judged: &mut [u8]) ->
     if let Fault::Bad { refusal: _, at: _ } = offsets {
         return offsets;
     }
-    let machine = machine_part(table, glyphs, fields::u16_at(table, at));
+    let machine = machine_part(table, glyphs, machine_place(table, at));
     if let Fault::Bad { refusal: _, at: _ } = machine {
         return machine;
     }
-    let base = fields::u16_at(table, at + 2);
-    let widths = lookup_targets::values_fault(table, glyphs, Kind::Clusters, at + 6, base, judged);
+    let clusters = source_at(table, at, Kind::Clusters);
+    let widths = source_fault(table, glyphs, Kind::Clusters, clusters, judged);
     if let Fault::Bad { refusal: _, at: _ } = widths {
         return widths;
     }
-    action_part(table, glyphs, fields::u16_at(table, at + 4), judged)
+    let lists = source_at(table, at, Kind::Lists);
+    source_fault(table, glyphs, Kind::Lists, lists, judged)
 }
 
 // Length, glyph count, version and format.
@@ -92,14 +146,14 @@ fn header_fault(table: &[u8], count: u32) -> Fault
 fn directions_fault(table: &[u8], glyphs: usize, judged: &mut [u8]) -> Fault
     requires { ⌜ glyphs < 2 ^ 16 ⌝ }
     requires { ⌜ Judged (now table) glyphs (now judged) ⌝ }
-    ensures { λ r. ⌜ (r ≡ (directionFault (now (table .entry)) glyphs (u16At (now (table .entry)) 6) then directionFault (now (table .entry)) glyphs (u16At (now (table .entry)) 8))) × Judged (now (table .entry)) glyphs (now (judged .exit)) ⌝ }
+    ensures { λ r. ⌜ (r ≡ (directionFault (now (table .entry)) glyphs (directionAt (now (table .entry)) Horizontal) then directionFault (now (table .entry)) glyphs (directionAt (now (table .entry)) Vertical))) × Judged (now (table .entry)) glyphs (now (judged .exit)) ⌝ }
 {
-    let first = fields::u16_at(table, 6);
+    let first = direction_at(table, Direction::Horizontal);
     let horizontal = direction_fault(table, glyphs, first, judged);
     if let Fault::Bad { refusal: _, at: _ } = horizontal {
         return horizontal;
     }
-    let second = fields::u16_at(table, 8);
+    let second = direction_at(table, Direction::Vertical);
     if second == first {
         return Fault::Clear;
     }

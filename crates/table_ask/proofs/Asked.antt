@@ -25,12 +25,11 @@ use Rattle.actions.specs.Actions.{placeOf}
 use Rattle.actions.proofs.Laws.{place-at, place-none}
 use Rattle.lookup_targets.specs.declared.Kind.{Kind}
 use Rattle.lookup_targets.specs.declared.Kind.the-variants.{Clusters, Lists}
+use Rattle.lookup_targets.specs.declared.Source.the-variants.{Lookup, Absent}
 use Rattle.lookup_targets.specs.Values.{spotOf, clusterHere, listHere, clusterOf, listOf}
-use Rattle.table.specs.Table.{machineOffset, widthOffset, actionOffset, widthLookup}
+use Rattle.table.specs.Table.{directionAt, machineOffset, widthOffset, actionOffset, widthLookup, machinePlace, sourceAt}
 use Rattle.table.specs.Means.{cellBy, machineAt, machineOf, listsOf, sideAt, directionOf, meaningOf}
-use Rattle.lookup_find.specs.Halves.{headAt}
-use Rattle.table_ask.specs.declared.Lookup.the-variants.{Absent, There}
-use Rattle.table_ask.specs.Places.{directionAt, machineIn, clustersIn, listsIn, lookupIn, spotBy, spotIn, numbered, actionSpot, actionHere}
+use Rattle.table_ask.specs.Places.{machineIn, headed, lookupIn, spotBy, spotIn, numbered, actionSpot, actionHere}
 use Rattle.table_ask.proofs.Rows.{cell-by, index-below}
 
 -- ---- lists of N elements
@@ -92,7 +91,7 @@ module _ (t : List ℕ) (n : ℕ) (d : Direction) where
       go Vertical = refl
 
   pub machine-is : side .machine ≡ machineOf t n (machineIn t d)
-  unfolding directionOf emptySide sideAt machineOf machineIn
+  unfolding directionOf emptySide sideAt machineOf machineIn machinePlace
   machine-is = go (eqb (directionAt t d) 0)
     where
       go : (b : Bool) → cond b (emptySide n) (sideAt t n (directionAt t d)) .machine ≡ machineOf t n (cond b 0 (machineOffset t (directionAt t d)))
@@ -178,28 +177,27 @@ module _ (t : List ℕ) (n : ℕ) (d : Direction) where
 
   module _ (g : ℕ) where
     pub clusters-are : getD (side .clusters) g [] ≡ clusterHere t (spotIn t n d Clusters g)
-    unfolding directionOf emptySide sideAt clustersIn lookupIn spotIn clusterOf
+    unfolding directionOf emptySide sideAt sourceAt lookupIn spotIn clusterOf
     clusters-are = go (eqb (directionAt t d) 0)
       where
         go : (b : Bool) → getD (cond b (emptySide n) (sideAt t n (directionAt t d)) .clusters) g []
-            ≡ clusterHere t (spotBy t n Clusters (cond b Absent
-            (There (widthLookup (directionAt t d)) (widthOffset t (directionAt t d)) (headAt t (widthLookup (directionAt t d))))) g)
+            ≡ clusterHere t (spotBy t n Clusters (headed t (cond b Absent (Lookup (widthLookup (directionAt t d)) (widthOffset t (directionAt t d))))) g)
         go true = getD-none n g
         go false = cluster-of t n (widthLookup (directionAt t d)) (widthOffset t (directionAt t d)) g
 
     pub lists-are : getD (side .lists) g [] ≡ listHere t (spotIn t n d Lists g)
-    unfolding directionOf emptySide sideAt listsOf listsIn lookupIn spotIn listOf
+    unfolding directionOf emptySide sideAt listsOf sourceAt lookupIn spotIn listOf
     lists-are = by-direction (eqb (directionAt t d) 0)
       where
         off : ℕ
         off = actionOffset t (directionAt t d)
 
-        by-offset : (b : Bool) → getD (cond b (replicate n []) (upto (listOf t n off off) n)) g [] ≡ listHere t (spotBy t n Lists (cond b Absent (There off off (headAt t off))) g)
+        by-offset : (b : Bool) → getD (cond b (replicate n []) (upto (listOf t n off off) n)) g [] ≡ listHere t (spotBy t n Lists (headed t (cond b Absent (Lookup off off))) g)
         by-offset true = getD-none n g
         by-offset false = list-of t n off off g
 
         by-direction : (b : Bool) → getD (cond b (emptySide n) (sideAt t n (directionAt t d)) .lists) g []
-            ≡ listHere t (spotBy t n Lists (cond b Absent (cond (eqb off 0) Absent (There off off (headAt t off)))) g)
+            ≡ listHere t (spotBy t n Lists (headed t (cond b Absent (cond (eqb off 0) Absent (Lookup off off)))) g)
         by-direction true = getD-none n g
         by-direction false = by-offset (eqb off 0)
 

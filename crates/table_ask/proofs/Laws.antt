@@ -12,11 +12,9 @@ use borrow.Author.Tests.{eqb-true, eqb-false}
 use Rattle.fields.specs.declared.Fault.{Fault}
 use Rattle.fields.specs.declared.Fault.the-variants.{Clear, Bad}
 use Rattle.fields.specs.Field.{u16At, Bytes}
-use Rattle.fields.specs.Faults.{_then_}
 use Rattle.fields.specs.Walk.{walk-each}
-use Rattle.fields.specs.Laws.{then-first, then-second}
+use Rattle.fields.specs.Laws.{then-second}
 use Rattle.types.specs.declared.Direction.{Direction}
-use Rattle.types.specs.declared.Direction.the-variants.{Horizontal, Vertical}
 use Rattle.meaning.specs.Ask.{Answer, action, along, act, ask}
 use Rattle.answers.specs.declared.ActionAnswer.{ActionAnswer}
 use Rattle.answers.specs.Says.{given, unlessBad, saysAction, roomAfter}
@@ -29,13 +27,14 @@ use Rattle.actions.specs.Actions.{actionAt}
 use Rattle.actions.proofs.Laws.{list-each, action-ok, clipped-ok, components-ordered, components-inside, components-are}
 use Rattle.actions.proofs.Steps.{components-none}
 use Rattle.lookup_targets.specs.declared.Kind.{Kind}
-use Rattle.lookup_targets.specs.declared.Kind.the-variants.{Clusters, Lists}
-use Rattle.lookup_targets.specs.Values.{spotOf, spotFault, glyphFault, valuesFault}
-use Rattle.table.specs.Table.{actionOffset, widthOffset, widthLookup, machineOffset, present, offsetsFault, machinePart, actionPart, directionFault, tableFault}
+use Rattle.lookup_targets.specs.declared.Kind.the-variants.{Lists}
+use Rattle.lookup_targets.specs.declared.Source.{Source}
+use Rattle.lookup_targets.specs.declared.Source.the-variants.{Lookup, Absent}
+use Rattle.lookup_targets.specs.Values.{spotOf, spotFault, glyphFault, valuesFault, sourceFault}
+use Rattle.table.specs.Table.{directionAt, sourceAt, tableFault}
+use Rattle.table.proofs.Laws.{direction-clear, source-clear}
 use Rattle.table.specs.Means.{meaningOf}
-use Rattle.lookup_find.specs.Halves.{headAt}
-use Rattle.table_ask.specs.declared.Lookup.the-variants.{Absent, There}
-use Rattle.table_ask.specs.Places.{directionAt, listsIn, lookupIn, spotBy, spotIn, numbered, actionSpot, cut}
+use Rattle.table_ask.specs.Places.{headed, lookupIn, spotBy, spotIn, numbered, actionSpot, cut}
 use Rattle.table_ask.specs.Components.{empty, componentsHere, unlessFault, componentsOf, stretch, listed}
 use Rattle.table_ask.proofs.Steps.{judged}
 use Rattle.table_ask.proofs.Asked.{value-past, action-here}
@@ -55,35 +54,14 @@ value-clear t n kind at base g q e f = go (decLt g n)
     go (no h) = let p = value-past t n at g (omega arith) kind base in let z : _≡_ {A = ℕ} 0 1 = cc in absurd (omega arith)
 
 module _ (t : List ℕ) (n : ℕ) (d : Direction) (ok : tableFault t n ≡ Clear) where
-  pub direction-clear : directionFault t n (directionAt t d) ≡ Clear
-  unfolding tableFault
-  direction-clear = go d
-    where
-      go : (e : Direction) → directionFault t n (directionAt t e) ≡ Clear
-      go Horizontal = then-first _ _ (then-second _ _ ok)
-      go Vertical = then-second _ _ (then-second _ _ ok)
-
   -- a glyph's list is without fault
   pub list-clear : (g q : ℕ) → spotIn t n d Lists g ≡ At q → listFault t n q ≡ Clear
-  unfolding spotIn lookupIn listsIn directionFault actionPart present
-  list-clear g q e = by-direction (eqb at 0) direction-clear e
+  unfolding spotIn lookupIn
+  list-clear g q e = go (sourceAt t (directionAt t d) Lists) (source-clear t (directionAt t d) n (direction-clear t n ok d) Lists) e
     where
-      at : ℕ
-      at = directionAt t d
-
-      off : ℕ
-      off = actionOffset t at
-
-      by-offset : (b : Bool) → cond b Clear (valuesFault t n Lists off off) ≡ Clear → spotBy t n Lists (cond b Absent (There off off (headAt t off))) g ≡ At q
-          → listFault t n q ≡ Clear
-      by-offset true f e = let z : _≡_ {A = ℕ} 0 1 = cc in absurd (omega arith)
-      by-offset false f e = value-clear t n Lists off off g q f e
-
-      by-direction : (b : Bool)
-          → cond b Clear (offsetsFault t at then machinePart t n (machineOffset t at) then valuesFault t n Clusters (widthLookup at) (widthOffset t at) then actionPart t n off) ≡ Clear
-          → spotBy t n Lists (cond b Absent (cond (eqb off 0) Absent (There off off (headAt t off)))) g ≡ At q → listFault t n q ≡ Clear
-      by-direction true f e = let z : _≡_ {A = ℕ} 0 1 = cc in absurd (omega arith)
-      by-direction false f e = by-offset (eqb off 0) (then-second _ _ (then-second _ _ (then-second _ _ f))) e
+      go : (s : Source) → sourceFault t n Lists s ≡ Clear → spotBy t n Lists (headed t s) g ≡ At q → listFault t n q ≡ Clear
+      go (Lookup at base) f e = value-clear t n Lists at base g q f e
+      go Absent f e = let z : _≡_ {A = ℕ} 0 1 = cc in absurd (omega arith)
 
   -- and so is each of its actions
   pub action-clear : (g k p : ℕ) → actionSpot t n d g k ≡ At p → actionFault t n p ≡ Clear

@@ -1,13 +1,9 @@
--- Where the parts of a table's meaning stand in its bytes (document 01, "The table"): a direction's offsets, its machine, a glyph's cluster and a glyph's
--- actions. Offset 0 is an absent direction, no machine, no actions. Fields are read as if zeros followed the table.
+-- Where the parts of a table's meaning stand in its bytes (document 01, "The table"): a direction's machine and lookups, a glyph's cluster and a glyph's
+-- actions. Fields are read as if zeros followed the table.
 use Prim.Native.Nat.{ℕ, _<_, _^_}
 use mathlib.Core.Path.{_≡_}
-use mathlib.Core.Bool.{cond}
 use mathlib.Core.List.{List}
-use lib.Dec.{eqb}
-use Rattle.fields.specs.Field.{u16At}
 use Rattle.types.specs.declared.Direction.{Direction}
-use Rattle.types.specs.declared.Direction.the-variants.{Horizontal, Vertical}
 use Rattle.meaning.specs.Ask.{Answer, nothing, number, both, entry, pair, act}
 use Rattle.fields.specs.declared.Fault.the-variants.{Clear}
 use Rattle.lookup.specs.Lookup.{lookupFault}
@@ -17,38 +13,26 @@ use Rattle.actions.specs.declared.Spot.{Spot}
 use Rattle.actions.specs.declared.Spot.the-variants.{At, Nowhere}
 use Rattle.actions.specs.Actions.{actionAt, placeOf, clipped}
 use Rattle.lookup_targets.specs.declared.Kind.{Kind}
-use Rattle.lookup_targets.specs.declared.Kind.the-variants.{Clusters, Lists}
+use Rattle.lookup_targets.specs.declared.Kind.the-variants.{Lists}
+use Rattle.lookup_targets.specs.declared.Source.{Source}
+use Rattle.lookup_targets.specs.declared.Source.the-variants as source
 use Rattle.lookup_targets.specs.Values.{spotOf}
 use Rattle.table_ask.specs.declared.Lookup.{Lookup}
 use Rattle.table_ask.specs.declared.Lookup.the-variants.{Absent, There}
-use Rattle.table.specs.Table.{machineOffset, widthOffset, actionOffset, widthLookup}
-
--- where a direction's three offsets stand
-abbrev pub directionAt : List ℕ → Direction → ℕ
-directionAt t Horizontal = u16At t 6
-directionAt t Vertical = u16At t 8
+use Rattle.table.specs.Table.{directionAt, machinePlace, sourceAt}
 
 -- the offset of a direction's machine
 unfoldable pub machineIn : List ℕ → Direction → ℕ
-machineIn t d = cond (eqb (directionAt t d) 0) 0 (machineOffset t (directionAt t d))
+machineIn t d = machinePlace t (directionAt t d)
 
--- the lookup of a direction's clusters
-unfoldable pub clustersIn : List ℕ → Direction → Lookup
-clustersIn t d =
-    cond (eqb (directionAt t d) 0) Absent
-    (There (widthLookup (directionAt t d)) (widthOffset t (directionAt t d)) (headAt t (widthLookup (directionAt t d))))
-
--- the lookup of a direction's action lists
-unfoldable pub listsIn : List ℕ → Direction → Lookup
-listsIn t d =
-    cond (eqb (directionAt t d) 0) Absent
-    (cond (eqb (actionOffset t (directionAt t d)) 0) Absent
-    (There (actionOffset t (directionAt t d)) (actionOffset t (directionAt t d)) (headAt t (actionOffset t (directionAt t d)))))
+-- a source with the head of its lookup
+abbrev pub headed : List ℕ → Source → Lookup
+headed t (source.Lookup at base) = There at base (headAt t at)
+headed t source.Absent = Absent
 
 -- the lookup of a kind in a direction
 unfoldable pub lookupIn : List ℕ → Direction → Kind → Lookup
-lookupIn t d Clusters = clustersIn t d
-lookupIn t d Lists = listsIn t d
+lookupIn t d kind = headed t (sourceAt t (directionAt t d) kind)
 
 -- what is kept of a lookup was read of this table
 abbrev pub Readable : List ℕ → Lookup → Type 0

@@ -9,10 +9,9 @@ ghost use Rattle.answers.specs.Says.{given, unlessBad, saysCount, saysSizes, sa
 ghost use Rattle.fields.specs.declared.Fault.the-variants.{Clear};
 ghost use Rattle.cluster.specs.Pairs.{clusterAt};
 ghost use Rattle.actions.specs.Actions.{Below};
-ghost use Rattle.lookup_targets.specs.declared.Kind.the-variants.{Clusters, Lists};
 ghost use Rattle.table.specs.Table.{tableFault};
 ghost use Rattle.table.specs.Means.{meaningOf};
-ghost use Rattle.table_ask.specs.Places.{directionAt, machineIn, clustersIn, listsIn, lookupIn, Readable, Sound, spotBy, spotIn, actionSpot, cut};
+ghost use Rattle.table_ask.specs.Places.{machineIn, lookupIn, Readable, Sound, spotBy, spotIn, actionSpot, cut};
 ghost use Rattle.table_ask.specs.Components.{componentsOf, stretch, placeIn};
 use actions::Spot;
 use actions::Stretch;
@@ -26,33 +25,20 @@ use answers::Sought;
 use fields::Fault;
 use lookup_find::Head;
 use lookup_targets::Kind;
+use lookup_targets::Source;
 use types::Direction;
 
-// A direction's lookup of one kind, read once: where it stands, what its values count from, and its head.
+// A direction's source of one kind (`lookup_targets::Source`), with the lookup's head, read once.
 pub enum Lookup {
     Absent,
     There { at: usize, base: usize, head: Head },
-}
-
-// Where a direction's offsets stand; 0 for an absent one.
-pub fn direction_at(table: &[u8], direction: Direction) -> usize
-    ensures { λ r. ⌜ (r ≡ directionAt (now (table .entry)) direction) × (r < 2 ^ 16) ⌝ }
-{
-    match direction {
-        Direction::Horizontal => fields::u16_at(table, 6),
-        Direction::Vertical => fields::u16_at(table, 8),
-    }
 }
 
 // The offset of a direction's machine; 0 for none.
 pub fn machine_in(table: &[u8], direction: Direction) -> usize
     ensures { λ r. ⌜ (r ≡ machineIn (now (table .entry)) direction) × (r < 2 ^ 16) ⌝ }
 {
-    let at = direction_at(table, direction);
-    if at == 0 {
-        return 0;
-    }
-    fields::u16_at(table, at)
+    table::machine_place(table, table::direction_at(table, direction))
 }
 
 // The row count and the class count of a direction's machine.
@@ -102,47 +88,18 @@ pub fn cell_of(table: &[u8], count: u32, direction: Direction, row: u16, class: 
     CellAnswer::Cell(machine::cell(table, offset + 8, row as usize, class as usize))
 }
 
-// The lookup of a direction's clusters.
-fn clusters_in(table: &[u8], direction: Direction) -> Lookup
-    ensures { λ r. ⌜ (r ≡ clustersIn (now (table .entry)) direction) × Readable (now (table .entry)) r ⌝ }
-{
-    let at = direction_at(table, direction);
-    if at == 0 {
-        return Lookup::Absent;
-    }
-    Lookup::There {
-        at: at + 6,
-        base: fields::u16_at(table, at + 2),
-        head: lookup_find::head_at(table, at + 6),
-    }
-}
-
-// The lookup of a direction's action lists.
-fn lists_in(table: &[u8], direction: Direction) -> Lookup
-    ensures { λ r. ⌜ (r ≡ listsIn (now (table .entry)) direction) × Readable (now (table .entry)) r ⌝ }
-{
-    let at = direction_at(table, direction);
-    if at == 0 {
-        return Lookup::Absent;
-    }
-    let offset = fields::u16_at(table, at + 4);
-    if offset == 0 {
-        return Lookup::Absent;
-    }
-    Lookup::There {
-        at: offset,
-        base: offset,
-        head: lookup_find::head_at(table, offset),
-    }
-}
-
 // A direction's lookup of a kind.
 pub fn lookup_in(table: &[u8], direction: Direction, kind: Kind) -> Lookup
     ensures { λ r. ⌜ (r ≡ lookupIn (now (table .entry)) direction kind) × Readable (now (table .entry)) r ⌝ }
 {
-    match kind {
-        Kind::Clusters => clusters_in(table, direction),
-        Kind::Lists => lists_in(table, direction),
+    let source = table::source_at(table, table::direction_at(table, direction), kind);
+    let Source::Lookup { at, base } = source else {
+        return Lookup::Absent;
+    };
+    Lookup::There {
+        at,
+        base,
+        head: lookup_find::head_at(table, at),
     }
 }
 

@@ -3,13 +3,12 @@ use Prim.Native.Nat.{ℕ, _<_}
 use mathlib.Core.Path.{_≡_}
 use mathlib.Core.Logic.{_⊎_}
 use mathlib.Core.List.{List, []}
-use Rattle.fields.specs.Field.{u16At}
 use Rattle.types.specs.declared.Direction.{Direction}
 use Rattle.types.specs.declared.Direction.the-variants.{Horizontal, Vertical}
 use Rattle.lookup.specs.declared.Found.the-variants.{Nothing}
 use Rattle.lookup.specs.Find.{valueOf}
 use Rattle.lookup_targets.specs.Values.{listOf}
-use Rattle.table.specs.Table.{machineOffset, actionOffset, widthLookup}
+use Rattle.table.specs.Table.{directionAt, machineOffset, actionOffset, widthLookup}
 
 -- a direction with no machine, no width value at any glyph, and no action lookup or one that leads to no action
 pub record EmptyDirection (t : List ℕ) (n at : ℕ) : Type 0 where
@@ -19,8 +18,7 @@ pub record EmptyDirection (t : List ℕ) (n at : ℕ) : Type 0 where
 
 -- where a table's header says that a direction stands, and the other of the two directions
 abbrev pub offsetOf : List ℕ → Direction → ℕ
-offsetOf t Horizontal = u16At t 6
-offsetOf t Vertical = u16At t 8
+offsetOf t d = directionAt t d
 
 abbrev pub other : Direction → Direction
 other Horizontal = Vertical

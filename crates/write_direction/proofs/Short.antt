@@ -26,7 +26,7 @@ use Rattle.lookup_targets.specs.declared.Kind.the-variants.{Clusters, Lists}
 use Rattle.lookup_targets.specs.Values.{spotOf, spotFault, glyphFault, valuesFault}
 use Rattle.encoding.proofs.SectionLaws.{many-byte}
 use Rattle.write_item.specs.Items.{noItem, itemAt, itemCode}
-use Rattle.write_glyphs.specs.declared.Source.the-variants.{Lookup, Absent}
+use Rattle.lookup_targets.specs.declared.Source.the-variants.{Lookup, Absent}
 use Rattle.write_glyphs.specs.Places.{itemHere, itemsFrom}
 use Rattle.write_pool.specs.Pool.{Short}
 use Rattle.write_pool.proofs.Laws.{none-short}

@@ -21,8 +21,8 @@ use Rattle.write_item.specs.Items.{Item, noItem, itemAt, item-discrete}
 use Rattle.write_numbers.specs.Numbered.{placed, distinctOf, Kept, Seen, KnownAs, Numbered}
 use Rattle.write_runs.specs.Spread.{spread, Rise}
 use Rattle.write_glyphs.specs.declared.Pass.{Pass}
-use Rattle.write_glyphs.specs.declared.Source.{Source}
-use Rattle.write_glyphs.specs.declared.Source.the-variants.{Lookup, Absent}
+use Rattle.lookup_targets.specs.declared.Source.{Source}
+use Rattle.lookup_targets.specs.declared.Source.the-variants.{Lookup, Absent}
 
 -- the item of a place; none where there is none
 abbrev pub itemHere : (kind : Kind) → List ℕ → Spot → Item kind

@@ -15,12 +15,6 @@ use lookup::Cursor;
 use lookup::Found;
 use lookup_targets::Kind;
 
-// Where the glyphs' clusters or lists come from: a lookup, whose values are offsets from `base`, or nothing.
-pub enum Source {
-    Lookup { at: usize, base: usize },
-    Absent,
-}
-
 // The place that the value at `p` leads to; 65,535 for none.
 fn value_place(table: &[u8], kind: Kind, base: usize, p: usize) -> u16
     requires { ⌜ base < 2 ^ 16 ⌝ }

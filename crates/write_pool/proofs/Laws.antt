@@ -21,8 +21,8 @@ use Rattle.write_item.specs.Items.{Item, noItem, itemAt, item-discrete, itemCod
 use Rattle.write_numbers.specs.Numbered.{placed, distinctOf}
 use Rattle.write_numbers.proofs.Laws.{map-length, map-drop}
 use Rattle.write_glyphs.specs.declared.Pass.{Pass}
-use Rattle.write_glyphs.specs.declared.Source.{Source}
-use Rattle.write_glyphs.specs.declared.Source.the-variants.{Lookup, Absent}
+use Rattle.lookup_targets.specs.declared.Source.{Source}
+use Rattle.lookup_targets.specs.declared.Source.the-variants.{Lookup, Absent}
 use Rattle.write_glyphs.specs.Places.{itemsFrom, Rooms, Passed}
 use Rattle.write_runs.specs.RunCode.{runBytes}
 use Rattle.write_runs.specs.Spread.{spread, Stretches}

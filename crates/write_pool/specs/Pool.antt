@@ -10,7 +10,7 @@ use Rattle.encoding.specs.Sections.{pool}
 use Rattle.lookup_targets.specs.declared.Kind.{Kind}
 use Rattle.write_item.specs.Items.{Item, noItem, item-discrete, itemCode}
 use Rattle.write_numbers.specs.Numbered.{placed}
-use Rattle.write_glyphs.specs.declared.Source.{Source}
+use Rattle.lookup_targets.specs.declared.Source.{Source}
 use Rattle.write_glyphs.specs.Places.{itemsFrom, Sound}
 use Rattle.write_runs.specs.RunCode.{runBytes}
 use Rattle.write_runs.specs.Spread.{spread}

@@ -15,7 +15,7 @@ ghost use Rattle.write_glyphs.specs.Places.{Rooms};
 ghost use Rattle.write_runs.specs.Spread.{Stretches};
 ghost use Rattle.write_pool.specs.Pool.{sections, Short, Ready, Placed, Tried};
 use lookup_targets::Kind;
-use write_glyphs::Source;
+use lookup_targets::Source;
 
 // Stores the items at these places, and answers where they end.
 fn put_items(table: &[u8], kind: Kind, firsts: &[u16], out: &mut [u8], to: usize) -> usize

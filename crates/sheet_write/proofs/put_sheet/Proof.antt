@@ -4,8 +4,9 @@ use mathlib.Core.Path.{_≡_, ap, _∙_}
 use native.Mathlib.Omega.{arith}
 use lib.Seq.{sets}
 use lib.ListN.{length}
+use Rattle.types.specs.declared.Direction.the-variants.{Horizontal, Vertical}
 use Rattle.write_direction.specs.Side.{sideBytes}
-use Rattle.sheet_write.proofs.Laws.{parts-length, parts-stored, put-twice, first-ready, second-ready, glyphs-few}
+use Rattle.sheet_write.proofs.Laws.{parts-length, parts-stored, put-twice, side-ready, glyphs-few}
 use borrow.Author.Needs.{needs}
 use Rattle.sheet_write.proofs.put_sheet.Statement.{statement}
 use Rattle.sheet_write.proofs.put_sheet.Tie as tie
@@ -16,14 +17,14 @@ cast-put-u32 c = omega (arith, glyphs-few ((c .before .before .before .args) .ta
 put-u32-requires : tie.Need-put-u32-requires
 put-u32-requires c κs = search needs
 
-u16-at-requires : tie.Need-u16-at-requires
-u16-at-requires c κs = search needs
+direction-at-requires : tie.Need-direction-at-requires
+direction-at-requires c κs = search needs
 
 put-side-requires : tie.Need-put-side-requires
-put-side-requires c κs = (first-ready ((c .before .before .before .before .before .before .before .before .args) .table .now) ((c .before .before .before .before .before .before .before .before .args) .glyphs) ((c .before .before .before .before .before .before .before .before .pre)) ((c .before .u16-at) .result) ((c .before .u16-at) .ensures .1) ((c .before .u16-at) .ensures .0), omega arith)
+put-side-requires c κs = (side-ready ((c .before .before .before .before .before .before .before .before .args) .table .now) ((c .before .before .before .before .before .before .before .before .args) .glyphs) ((c .before .before .before .before .before .before .before .before .pre)) Horizontal ((c .before .direction-at) .result) ((c .before .direction-at) .ensures .1) ((c .before .direction-at) .ensures .0), omega arith)
 
-u16-at-requires-2 : tie.Need-u16-at-requires-2
-u16-at-requires-2 c κs = search needs
+direction-at-requires-2 : tie.Need-direction-at-requires-2
+direction-at-requires-2 c κs = search needs
 
 put-copy-requires : tie.Need-put-copy-requires
 put-copy-requires c κs = search needs
@@ -45,8 +46,8 @@ returns c =
     let l1 = (c .before .before .before .before .before .before .before .before .before .before .before .before .before .put-u32) .last .0 in
     let l2 = (c .before .before .before .before .before .before .before .before .put-side) .last .1 .1 .1 .0 in
     let l3 = (c .before .before .put-copy) .last .0 in
-    let first = (c .before .before .before .before .before .before .before .before .before .before .u16-at) in
-    let second = (c .before .before .before .before .before .u16-at2) in
+    let first = (c .before .before .before .before .before .before .before .before .before .before .direction-at) in
+    let second = (c .before .before .before .before .before .direction-at2) in
     let side = (c .before .before .before .before .before .before .before .before .put-side) in
     let end = side .result in
     let same : first .result ≡ second .result = (c .before .before .before .before .if1) .taken in
@@ -59,7 +60,7 @@ returns c =
     )
 
 put-side-requires-2 : tie.Need-put-side-requires-2
-put-side-requires-2 c κs = (second-ready ((c .before .before .before .before .before .before .before .before .before .before .before .before .before .before .args) .table .now) ((c .before .before .before .before .before .before .before .before .before .before .before .before .before .before .args) .glyphs) ((c .before .before .before .before .before .before .before .before .before .before .before .before .before .before .pre)) ((c .before .before .u16-at2) .result) ((c .before .before .u16-at2) .ensures .1) ((c .before .before .u16-at2) .ensures .0), omega (arith, (c .before .before .before .before .before .put-side) .ensures .1))
+put-side-requires-2 c κs = (side-ready ((c .before .before .before .before .before .before .before .before .before .before .before .before .before .before .args) .table .now) ((c .before .before .before .before .before .before .before .before .before .before .before .before .before .before .args) .glyphs) ((c .before .before .before .before .before .before .before .before .before .before .before .before .before .before .pre)) Vertical ((c .before .before .direction-at2) .result) ((c .before .before .direction-at2) .ensures .1) ((c .before .before .direction-at2) .ensures .0), omega (arith, (c .before .before .before .before .before .put-side) .ensures .1))
 
 same-length-2 : tie.Need-same-length-2
 same-length-2 c = search needs
@@ -72,8 +73,8 @@ returns-2 c =
     let l1 = (c .before .before .before .before .before .before .before .before .before .before .before .before .before .put-u32) .last .0 in
     let l2 = (c .before .before .before .before .before .before .before .before .put-side) .last .1 .1 .1 .0 in
     let l3 = (c .before .before .put-side2) .last .1 .1 .1 .0 in
-    let first = (c .before .before .before .before .before .before .before .before .before .before .u16-at) in
-    let second = (c .before .before .before .before .before .u16-at2) in
+    let first = (c .before .before .before .before .before .before .before .before .before .before .direction-at) in
+    let second = (c .before .before .before .before .before .direction-at2) in
     let side = (c .before .before .before .before .before .before .before .before .put-side) in
     let other = (c .before .before .put-side2) in (
       parts-length t n (first .result) (second .result) (side .result) (other .result) (first .ensures .0) (second .ensures .0) (side .ensures .0) (other .ensures .0),
@@ -88,9 +89,9 @@ put-sheet-spec =
     (tie.spec
     cast-put-u32
     put-u32-requires
-    u16-at-requires
+    direction-at-requires
     put-side-requires
-    u16-at-requires-2
+    direction-at-requires-2
     put-copy-requires
     sub-result
     add-result

@@ -1,8 +1,10 @@
 -- `table::direction_fault` meets its contract.
-use mathlib.Core.Path.{sym, _∙_}
-use Rattle.table.proofs.Laws.{present-none, present-some}
+use mathlib.Core.Path.{ap, sym, _∙_}
+use Rattle.table.proofs.Laws.{present-none, present-some, place-some, source-some, lists-part}
 use Rattle.fields.specs.Laws.{then-stop, then-go}
-use Rattle.table.specs.Table.{directionFault}
+use Rattle.lookup_targets.specs.declared.Kind.the-variants.{Clusters, Lists}
+use Rattle.lookup_targets.specs.Values.{sourceFault}
+use Rattle.table.specs.Table.{machinePart, directionFault}
 use borrow.Author.Needs.{needs}
 use Rattle.table.proofs.direction_fault.Statement.{statement}
 use Rattle.table.proofs.direction_fault.Tie as tie
@@ -24,8 +26,8 @@ returns-2 c = let o = c .before .before .offsets-fault .ensures in (o ∙ sym (p
 enum-told-2 : tie.Need-enum-told-2
 enum-told-2 c = search needs
 
-u16-at-requires : tie.Need-u16-at-requires
-u16-at-requires c κs = search needs
+machine-place-requires : tie.Need-machine-place-requires
+machine-place-requires c κs = search needs
 
 machine-part-requires : tie.Need-machine-part-requires
 machine-part-requires c κs = search needs
@@ -36,23 +38,19 @@ enum-told-3 c = search needs
 returns-3 : tie.Need-returns-3
 unfolding directionFault
 returns-3 c =
-    let m = rw (c .before .before .before .u16-at .ensures .0) at (c .before .before .machine-part .ensures) in
+    let a = c .before .before .before .before .before .before .before .before .before .before .args in
+    let z = c .before .before .before .before .before .before .before .if1 .left in
+    let m = c .before .before .machine-part .ensures ∙ ap (machinePart (a .table .now) (a .glyphs)) (c .before .before .before .machine-place .ensures .0 ∙ place-some _ _ z) in
     (m ∙ sym (present-some _ _ (c .before .before .before .before .before .before .before .if1 .left) ∙ then-go _ (sym (c .before .before .before .before .before .before .offsets-fault .ensures) ∙ c .before .before .before .before .enum-told2 .given .1) ∙ then-stop _ (sym m ∙ c .enum-told3 .given .1)), c .before .before .before .before .before .before .before .before .before .before .pre .1)
 
 enum-told-4 : tie.Need-enum-told-4
 enum-told-4 c = search needs
 
-add-u16-at : tie.Need-add-u16-at
-add-u16-at c = search needs
+source-at-requires : tie.Need-source-at-requires
+source-at-requires c κs = search needs
 
-u16-at-requires-2 : tie.Need-u16-at-requires-2
-u16-at-requires-2 c κs = search needs
-
-add-values-fault : tie.Need-add-values-fault
-add-values-fault c = search needs
-
-values-fault-requires : tie.Need-values-fault-requires
-values-fault-requires c κs = search needs
+source-fault-requires : tie.Need-source-fault-requires
+source-fault-requires c κs = search needs
 
 enum-told-5 : tie.Need-enum-told-5
 enum-told-5 c = search needs
@@ -63,21 +61,20 @@ same-length c = search needs
 returns-4 : tie.Need-returns-4
 unfolding directionFault
 returns-4 c =
-    let m = rw (c .before .before .before .before .before .before .before .before .before .before .u16-at .ensures .0) at (c .before .before .before .before .before .before .before .before .before .machine-part .ensures) in
-    let w = rw (c .before .before .before .before .before .before .u16-at2 .ensures .0) at (c .before .before .before .before .values-fault .ensures .0) in
-    (w ∙ sym (present-some _ _ (c .before .before .before .before .before .before .before .before .before .before .before .before .before .before .if1 .left) ∙ then-go _ (sym (c .before .before .before .before .before .before .before .before .before .before .before .before .before .offsets-fault .ensures) ∙ c .before .before .before .before .before .before .before .before .before .before .before .enum-told2 .given .1) ∙ then-go _ (sym m ∙ c .before .before .before .before .before .before .before .enum-told4 .given .1) ∙ then-stop _ (sym w ∙ c .enum-told5 .given .1)), c .before .before .before .before .values-fault .ensures .1)
+    let a = c .before .before .before .before .before .before .before .before .before .before .before .before .before .before .before .before .before .args in
+    let z = c .before .before .before .before .before .before .before .before .before .before .before .before .before .before .if1 .left in
+    let m = c .before .before .before .before .before .before .before .before .before .machine-part .ensures ∙ ap (machinePart (a .table .now) (a .glyphs)) (c .before .before .before .before .before .before .before .before .before .before .machine-place .ensures .0 ∙ place-some _ _ z) in
+    let w = c .before .before .before .before .source-fault .ensures .0 ∙ ap (sourceFault (a .table .now) (a .glyphs) Clusters) (c .before .before .before .before .before .before .source-at .ensures .0 ∙ source-some _ _ Clusters z) in
+    (w ∙ sym (present-some _ _ (c .before .before .before .before .before .before .before .before .before .before .before .before .before .before .if1 .left) ∙ then-go _ (sym (c .before .before .before .before .before .before .before .before .before .before .before .before .before .offsets-fault .ensures) ∙ c .before .before .before .before .before .before .before .before .before .before .before .enum-told2 .given .1) ∙ then-go _ (sym m ∙ c .before .before .before .before .before .before .before .enum-told4 .given .1) ∙ then-stop _ (sym w ∙ c .enum-told5 .given .1)), c .before .before .before .before .source-fault .ensures .1)
 
 enum-told-6 : tie.Need-enum-told-6
 enum-told-6 c = search needs
 
-add-u16-at-2 : tie.Need-add-u16-at-2
-add-u16-at-2 c = search needs
+source-at-requires-2 : tie.Need-source-at-requires-2
+source-at-requires-2 c κs = search needs
 
-u16-at-requires-3 : tie.Need-u16-at-requires-3
-u16-at-requires-3 c κs = search needs
-
-action-part-requires : tie.Need-action-part-requires
-action-part-requires c κs = search needs
+source-fault-requires-2 : tie.Need-source-fault-requires-2
+source-fault-requires-2 c κs = search needs
 
 same-length-2 : tie.Need-same-length-2
 same-length-2 c = search needs
@@ -85,9 +82,12 @@ same-length-2 c = search needs
 returns-5 : tie.Need-returns-5
 unfolding directionFault
 returns-5 c =
-    let m = rw (c .before .before .before .before .before .before .before .before .before .before .before .before .before .before .before .u16-at .ensures .0) at (c .before .before .before .before .before .before .before .before .before .before .before .before .before .before .machine-part .ensures) in
-    let w = rw (c .before .before .before .before .before .before .before .before .before .before .before .u16-at2 .ensures .0) at (c .before .before .before .before .before .before .before .before .before .values-fault .ensures .0) in
-    (rw (c .before .before .before .before .u16-at3 .ensures .0) at (c .before .before .action-part .ensures .0) ∙ sym (present-some _ _ (c .before .before .before .before .before .before .before .before .before .before .before .before .before .before .before .before .before .before .before .if1 .left) ∙ then-go _ (sym (c .before .before .before .before .before .before .before .before .before .before .before .before .before .before .before .before .before .before .offsets-fault .ensures) ∙ c .before .before .before .before .before .before .before .before .before .before .before .before .before .before .before .before .enum-told2 .given .1) ∙ then-go _ (sym m ∙ c .before .before .before .before .before .before .before .before .before .before .before .before .enum-told4 .given .1) ∙ then-go _ (sym w ∙ c .before .before .before .before .before .enum-told6 .given .1)), c .before .before .action-part .ensures .1)
+    let a = c .before .before .before .before .before .before .before .before .before .before .before .before .before .before .before .before .before .before .before .before .before .before .args in
+    let z = c .before .before .before .before .before .before .before .before .before .before .before .before .before .before .before .before .before .before .before .if1 .left in
+    let m = c .before .before .before .before .before .before .before .before .before .before .before .before .before .before .machine-part .ensures ∙ ap (machinePart (a .table .now) (a .glyphs)) (c .before .before .before .before .before .before .before .before .before .before .before .before .before .before .before .machine-place .ensures .0 ∙ place-some _ _ z) in
+    let w = c .before .before .before .before .before .before .before .before .before .source-fault .ensures .0 ∙ ap (sourceFault (a .table .now) (a .glyphs) Clusters) (c .before .before .before .before .before .before .before .before .before .before .before .source-at .ensures .0 ∙ source-some _ _ Clusters z) in
+    let l = c .before .before .source-fault2 .ensures .0 ∙ ap (sourceFault (a .table .now) (a .glyphs) Lists) (c .before .before .before .before .source-at2 .ensures .0 ∙ source-some _ _ Lists z) ∙ lists-part (a .table .now) (a .at) (a .glyphs) in
+    (l ∙ sym (present-some _ _ (c .before .before .before .before .before .before .before .before .before .before .before .before .before .before .before .before .before .before .before .if1 .left) ∙ then-go _ (sym (c .before .before .before .before .before .before .before .before .before .before .before .before .before .before .before .before .before .before .offsets-fault .ensures) ∙ c .before .before .before .before .before .before .before .before .before .before .before .before .before .before .before .before .enum-told2 .given .1) ∙ then-go _ (sym m ∙ c .before .before .before .before .before .before .before .before .before .before .before .before .enum-told4 .given .1) ∙ then-go _ (sym w ∙ c .before .before .before .before .before .enum-told6 .given .1)), c .before .before .source-fault2 .ensures .1)
 
 pub direction-fault-spec : {M : Type 1} → statement M
 direction-fault-spec =
@@ -98,21 +98,18 @@ direction-fault-spec =
     enum-told
     returns-2
     enum-told-2
-    u16-at-requires
+    machine-place-requires
     machine-part-requires
     enum-told-3
     returns-3
     enum-told-4
-    add-u16-at
-    u16-at-requires-2
-    add-values-fault
-    values-fault-requires
+    source-at-requires
+    source-fault-requires
     enum-told-5
     same-length
     returns-4
     enum-told-6
-    add-u16-at-2
-    u16-at-requires-3
-    action-part-requires
+    source-at-requires-2
+    source-fault-requires-2
     same-length-2
     returns-5)

@@ -7,8 +7,8 @@ use borrow.Author.Needs.{needs}
 use Rattle.table.proofs.directions_fault.Statement.{statement}
 use Rattle.table.proofs.directions_fault.Tie as tie
 
-u16-at-requires : tie.Need-u16-at-requires
-u16-at-requires c κs = search needs
+direction-at-requires : tie.Need-direction-at-requires
+direction-at-requires c κs = search needs
 
 direction-fault-requires : tie.Need-direction-fault-requires
 direction-fault-requires c κs = search needs
@@ -20,22 +20,22 @@ same-length : tie.Need-same-length
 same-length c = search needs
 
 returns : tie.Need-returns
-returns c = let d = rw (c .before .before .before .before .before .before .u16-at .ensures .0) at (c .before .before .before .before .direction-fault .ensures .0) in (d ∙ sym (then-stop _ (sym d ∙ c .enum-told .given .1)), c .before .before .before .before .direction-fault .ensures .1)
+returns c = let d = rw (c .before .before .before .before .before .before .direction-at .ensures .0) at (c .before .before .before .before .direction-fault .ensures .0) in (d ∙ sym (then-stop _ (sym d ∙ c .enum-told .given .1)), c .before .before .before .before .direction-fault .ensures .1)
 
 enum-told-2 : tie.Need-enum-told-2
 enum-told-2 c = search needs
 
-u16-at-requires-2 : tie.Need-u16-at-requires-2
-u16-at-requires-2 c κs = search needs
+direction-at-requires-2 : tie.Need-direction-at-requires-2
+direction-at-requires-2 c κs = search needs
 
 same-length-2 : tie.Need-same-length-2
 same-length-2 c = search needs
 
 returns-2 : tie.Need-returns-2
 returns-2 c =
-    let d = rw (c .before .before .before .before .before .before .before .before .u16-at .ensures .0) at (c .before .before .before .before .before .before .direction-fault .ensures .0) in
+    let d = rw (c .before .before .before .before .before .before .before .before .direction-at .ensures .0) at (c .before .before .before .before .before .before .direction-fault .ensures .0) in
     let clear = sym d ∙ c .before .before .enum-told2 .given .1 in
-    (sym (then-go _ clear ∙ ap (directionFault (now (c .before .before .before .before .before .before .before .before .before .before .before .args .table)) (c .before .before .before .before .before .before .before .before .before .before .before .args .glyphs)) (sym (c .before .u16-at2 .ensures .0) ∙ c .if1 .taken ∙ c .before .before .before .before .before .before .before .before .u16-at .ensures .0) ∙ clear), c .before .before .before .before .before .before .direction-fault .ensures .1)
+    (sym (then-go _ clear ∙ ap (directionFault (now (c .before .before .before .before .before .before .before .before .before .before .before .args .table)) (c .before .before .before .before .before .before .before .before .before .before .before .args .glyphs)) (sym (c .before .direction-at2 .ensures .0) ∙ c .if1 .taken ∙ c .before .before .before .before .before .before .before .before .direction-at .ensures .0) ∙ clear), c .before .before .before .before .before .before .direction-fault .ensures .1)
 
 direction-fault-requires-2 : tie.Need-direction-fault-requires-2
 direction-fault-requires-2 c κs = search needs
@@ -45,20 +45,20 @@ same-length-3 c = search needs
 
 returns-3 : tie.Need-returns-3
 returns-3 c =
-    let d = rw (c .before .before .before .before .before .before .before .before .before .before .before .before .u16-at .ensures .0) at (c .before .before .before .before .before .before .before .before .before .before .direction-fault .ensures .0) in
-    (rw (c .before .before .before .before .before .u16-at2 .ensures .0) at (c .before .before .direction-fault2 .ensures .0) ∙ sym (then-go _ (sym d ∙ c .before .before .before .before .before .before .enum-told2 .given .1)), c .before .before .direction-fault2 .ensures .1)
+    let d = rw (c .before .before .before .before .before .before .before .before .before .before .before .before .direction-at .ensures .0) at (c .before .before .before .before .before .before .before .before .before .before .direction-fault .ensures .0) in
+    (rw (c .before .before .before .before .before .direction-at2 .ensures .0) at (c .before .before .direction-fault2 .ensures .0) ∙ sym (then-go _ (sym d ∙ c .before .before .before .before .before .before .enum-told2 .given .1)), c .before .before .direction-fault2 .ensures .1)
 
 pub directions-fault-spec : {M : Type 1} → statement M
 directions-fault-spec =
     tie.close
     (tie.spec
-    u16-at-requires
+    direction-at-requires
     direction-fault-requires
     enum-told
     same-length
     returns
     enum-told-2
-    u16-at-requires-2
+    direction-at-requires-2
     same-length-2
     returns-2
     direction-fault-requires-2

@@ -6,12 +6,12 @@ use native.Mathlib.Omega.{arith}
 use lib.ListN.{length}
 use lib.Seq.{sets}
 use Rattle.fields.specs.Stores.{put-two}
-use Rattle.table.specs.Table.{machinePart}
+use Rattle.table.specs.Table.{machinePart, machinePlace}
+use Rattle.table.proofs.Laws.{machine-clear}
 use Rattle.lookup_targets.specs.declared.Kind.the-variants.{Clusters, Lists}
 use Rattle.write_pool.specs.Pool.{poolBytes}
 use Rattle.write_machine.specs.Parts.{machineBytes}
-use Rattle.write_direction.specs.Side.{machinePlace}
-use Rattle.write_direction.proofs.Laws.{side-parts, side-length, machine-clear, clusters-ready, lists-ready}
+use Rattle.write_direction.proofs.Laws.{side-parts, side-length, pool-ready}
 use borrow.Author.Needs.{needs}
 use Rattle.write_direction.proofs.put_side.Statement.{statement}
 use Rattle.write_direction.proofs.put_side.Tie as tie
@@ -23,23 +23,23 @@ put-machine-requires : tie.Need-put-machine-requires
 put-machine-requires c κs =
     let a = (c .before .before .before .before .args) in
     let m = (c .before .machine-place) .ensures in
-    ((m .1, ((c .before .before .before .before .pre) .0 .few, ap (machinePart (a .table .now) (a .glyphs)) (m .0) ∙ machine-clear (a .table .now) (a .glyphs) (a .at) ((c .before .before .before .before .pre) .0 .clear))), omega (arith, (c .before .before .before .before .pre) .1))
+    ((m .1, ((c .before .before .before .before .pre) .0 .few, ap (machinePart (a .table .now) (a .glyphs)) (m .0) ∙ machine-clear (a .table .now) (a .at) (a .glyphs) ((c .before .before .before .before .pre) .0 .clear))), omega (arith, (c .before .before .before .before .pre) .1))
 
-cluster-source-requires : tie.Need-cluster-source-requires
-cluster-source-requires c κs = (c .before .before .before .before .before .before .before .pre) .0 .near
+source-at-requires : tie.Need-source-at-requires
+source-at-requires c κs = (c .before .before .before .before .before .before .before .pre) .0 .near
 
 put-pool-requires : tie.Need-put-pool-requires
 put-pool-requires c κs =
     let a = (c .before .before .before .before .before .before .before .before .before .args) in
-    (clusters-ready (a .table .now) (a .glyphs) (a .at) ((c .before .before .before .before .before .before .before .before .before .pre) .0) (λ i. omega (arith, (c .before .before .before .before .before .before .before .before .shared-slice-known) .given i)) ((c .before .cluster-source) .result) ((c .before .cluster-source) .ensures), omega (arith, (c .before .before .before .before .before .before .before .before .before .pre) .1, (c .before .before .before .before .put-machine) .ensures .1))
+    (pool-ready (a .table .now) (a .glyphs) (a .at) ((c .before .before .before .before .before .before .before .before .before .pre) .0) (λ i. omega (arith, (c .before .before .before .before .before .before .before .before .shared-slice-known) .given i)) Clusters ((c .before .source-at) .result) ((c .before .source-at) .ensures), omega (arith, (c .before .before .before .before .before .before .before .before .before .pre) .1, (c .before .before .before .before .put-machine) .ensures .1))
 
-list-source-requires : tie.Need-list-source-requires
-list-source-requires c κs = (c .before .before .before .before .before .before .before .before .before .before .before .before .pre) .0 .near
+source-at-requires-2 : tie.Need-source-at-requires-2
+source-at-requires-2 c κs = (c .before .before .before .before .before .before .before .before .before .before .before .before .pre) .0 .near
 
 put-pool-requires-2 : tie.Need-put-pool-requires-2
 put-pool-requires-2 c κs =
     let a = (c .before .before .before .before .before .before .before .before .before .before .before .before .before .before .args) in
-    (lists-ready (a .table .now) (a .glyphs) (a .at) ((c .before .before .before .before .before .before .before .before .before .before .before .before .before .before .pre) .0) (λ i. omega (arith, (c .before .before .before .before .before .before .before .before .before .before .before .before .before .shared-slice-known) .given i)) ((c .before .list-source) .result) ((c .before .list-source) .ensures), omega (arith, (c .before .before .before .before .before .before .before .before .before .before .before .before .before .before .pre) .1, (c .before .before .before .before .before .before .before .before .before .put-machine) .ensures .1, (c .before .before .before .before .put-pool) .ensures .near))
+    (pool-ready (a .table .now) (a .glyphs) (a .at) ((c .before .before .before .before .before .before .before .before .before .before .before .before .before .before .pre) .0) (λ i. omega (arith, (c .before .before .before .before .before .before .before .before .before .before .before .before .before .shared-slice-known) .given i)) Lists ((c .before .source-at2) .result) ((c .before .source-at2) .ensures), omega (arith, (c .before .before .before .before .before .before .before .before .before .before .before .before .before .before .pre) .1, (c .before .before .before .before .before .before .before .before .before .put-machine) .ensures .1, (c .before .before .before .before .put-pool) .ensures .near))
 
 same-length : tie.Need-same-length
 same-length c = search needs
@@ -53,11 +53,11 @@ returns c =
     let l2 = (c .before .before .before .before .before .before .before .put-pool) .last .1 .1 .1 .1 .0 in
     let l3 = (c .before .before .put-pool2) .last .1 .1 .1 .1 .0 in
     let em = ap (machineBytes t (a .glyphs)) ((c .before .before .before .before .before .before .before .before .before .before .before .before .before .before .machine-place) .ensures .0) in
-    let ep = ap (poolBytes Clusters t (a .glyphs)) ((c .before .before .before .before .before .before .before .before .before .cluster-source) .ensures) in
-    let eq = ap (poolBytes Lists t (a .glyphs)) ((c .before .before .before .before .list-source) .ensures) in
+    let ep = ap (poolBytes Clusters t (a .glyphs)) ((c .before .before .before .before .before .before .before .before .before .source-at) .ensures .0) in
+    let eq = ap (poolBytes Lists t (a .glyphs)) ((c .before .before .before .before .source-at2) .ensures .0) in
     let mb = machineBytes t (a .glyphs) ((c .before .before .before .before .before .before .before .before .before .before .before .before .before .before .machine-place) .result) in
-    let pb = poolBytes Clusters t (a .glyphs) ((c .before .before .before .before .before .before .before .before .before .cluster-source) .result) in
-    let qb = poolBytes Lists t (a .glyphs) ((c .before .before .before .before .list-source) .result) in
+    let pb = poolBytes Clusters t (a .glyphs) ((c .before .before .before .before .before .before .before .before .before .source-at) .result) in
+    let qb = poolBytes Lists t (a .glyphs) ((c .before .before .before .before .source-at2) .result) in
     let x = (c .before .before .before .before .before .before .before .before .before .before .before .before .put-machine) .ensures in
     let y = (c .before .before .before .before .before .before .before .put-pool) .ensures in
     let z = (c .before .before .put-pool2) .ensures in (
@@ -75,9 +75,9 @@ put-side-spec =
     (tie.spec
     machine-place-requires
     put-machine-requires
-    cluster-source-requires
+    source-at-requires
     put-pool-requires
-    list-source-requires
+    source-at-requires-2
     put-pool-requires-2
     same-length
     returns)

@@ -1,5 +1,5 @@
 -- `write_pool::put_lookup` meets its contract.
-use Rattle.write_glyphs.specs.declared.Source.the-variants.{Lookup}
+use Rattle.lookup_targets.specs.declared.Source.the-variants.{Lookup}
 use Rattle.write_pool.proofs.Laws.{tried-again}
 use borrow.Author.Needs.{needs}
 use Rattle.write_pool.proofs.put_lookup.Statement.{statement}

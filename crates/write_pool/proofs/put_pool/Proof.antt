@@ -1,6 +1,6 @@
 -- `write_pool::put_pool` meets its contract.
 use mathlib.Core.Path.{sym, subst}
-use Rattle.write_glyphs.specs.declared.Source.{Source}
+use Rattle.lookup_targets.specs.declared.Source.{Source}
 use Rattle.write_pool.specs.Pool.{Ready, Placed}
 use Rattle.write_pool.proofs.Laws.{absent-placed}
 use borrow.Author.Needs.{needs}

@@ -1,6 +1,6 @@
 -- `write_pool::put_with` meets its contract.
 use Rattle.write_pool.proofs.Laws.{pass-few, pass-stretches, pass-sections, pass-short, tried-full, tried-done}
-use Rattle.write_glyphs.specs.declared.Source.the-variants.{Lookup}
+use Rattle.lookup_targets.specs.declared.Source.the-variants.{Lookup}
 use lib.Seq.{length-take-le}
 use lib.ListN.{length, take}
 use Prim.Native.Nat.{_≤_}

@@ -1,10 +1,10 @@
--- `table_ask::direction_at` meets its contract.
-use Rattle.table_ask.specs.Places.{directionAt}
+-- `table::direction_at` meets its contract.
+use Rattle.table.specs.Table.{directionAt}
 use denote.Ref.{now}
 use mathlib.Core.Path.{sym, ap, _∙_}
 use borrow.Author.Needs.{needs}
-use Rattle.table_ask.proofs.direction_at.Statement.{statement}
-use Rattle.table_ask.proofs.direction_at.Tie as tie
+use Rattle.table.proofs.direction_at.Statement.{statement}
+use Rattle.table.proofs.direction_at.Tie as tie
 
 enum-told : tie.Need-enum-told
 enum-told c = search needs
