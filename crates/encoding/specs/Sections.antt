@@ -20,9 +20,12 @@ runCode r = be16 (r .first) ++ be16 (r .last) ++ be16 (r .value)
 abbrev pub runLessCode : Run ℕ → List ℕ
 runLessCode r = be16 (r .first) ++ be16 (r .last) ++ be16 (r .value - 1)
 
--- the section of the maximal runs of a value other than skip
+-- the section of the maximal runs of a value other than skip; and of a number other than 0, the numbers written less one
 abbrev pub runSection : ℕ → List ℕ → List ℕ
 runSection skip xs = counted runCode (runs ℕ-discrete skip 0 xs)
+
+abbrev pub numberRunSection : List ℕ → List ℕ
+numberRunSection ns = counted runLessCode (runs ℕ-discrete 0 0 ns)
 
 module _ {A : Type 0} (eq : Discrete A) where
   -- the section of the distinct elements in order of first use, and the section of each place's number among them
@@ -38,7 +41,7 @@ module _ {A : Type 0} (eq : Discrete A) where
   othersSection code none xs = counted code (drop 1 (distinct eq (none ∷ []) xs))
 
   abbrev pub othersRunSection : A → List A → List ℕ
-  othersRunSection none xs = counted runLessCode (runs ℕ-discrete 0 0 (numbers eq (distinct eq (none ∷ []) xs) xs))
+  othersRunSection none xs = numberRunSection (numbers eq (distinct eq (none ∷ []) xs) xs)
 
   -- the two sections together
   abbrev pub numbered : (A → List ℕ) → List A → List ℕ

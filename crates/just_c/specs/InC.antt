@@ -38,43 +38,53 @@ abbrev pub countIn : Reply → JustCount
 countIn (refused n) = record { refusal = n; count = 0 }
 countIn (given a) = record { refusal = 0; count = numberIn a }
 
+-- zeros beside a number, which is that of a refusal, or 0 where a part is not there
+abbrev pub noSizes : ℕ → JustSizes
+noSizes n = record { refusal = n; found = false; rows = 0; classes = 0 }
+
 abbrev pub sizesGiven : Answer → JustSizes
 sizesGiven (both s c) = record { refusal = 0; found = true; rows = s; classes = c }
-sizesGiven nothing = record { refusal = 0; found = false; rows = 0; classes = 0 }
-sizesGiven (number n) = record { refusal = 0; found = false; rows = 0; classes = 0 }
-sizesGiven (entry e) = record { refusal = 0; found = false; rows = 0; classes = 0 }
-sizesGiven (pair p) = record { refusal = 0; found = false; rows = 0; classes = 0 }
-sizesGiven (act a) = record { refusal = 0; found = false; rows = 0; classes = 0 }
+sizesGiven nothing = noSizes 0
+sizesGiven (number n) = noSizes 0
+sizesGiven (entry e) = noSizes 0
+sizesGiven (pair p) = noSizes 0
+sizesGiven (act a) = noSizes 0
 
 abbrev pub sizesIn : Reply → JustSizes
-sizesIn (refused n) = record { refusal = n; found = false; rows = 0; classes = 0 }
+sizesIn (refused n) = noSizes n
 sizesIn (given a) = sizesGiven a
+
+abbrev pub noClass : ℕ → JustClass
+noClass n = record { refusal = n; found = false; class = 0 }
 
 abbrev pub classGiven : Answer → JustClass
 classGiven (number c) = record { refusal = 0; found = true; class = c }
-classGiven nothing = record { refusal = 0; found = false; class = 0 }
-classGiven (both s c) = record { refusal = 0; found = false; class = 0 }
-classGiven (entry e) = record { refusal = 0; found = false; class = 0 }
-classGiven (pair p) = record { refusal = 0; found = false; class = 0 }
-classGiven (act a) = record { refusal = 0; found = false; class = 0 }
+classGiven nothing = noClass 0
+classGiven (both s c) = noClass 0
+classGiven (entry e) = noClass 0
+classGiven (pair p) = noClass 0
+classGiven (act a) = noClass 0
 
 abbrev pub classIn : Reply → JustClass
-classIn (refused n) = record { refusal = n; found = false; class = 0 }
+classIn (refused n) = noClass n
 classIn (given a) = classGiven a
 
 abbrev pub noEntry : Entry
 noEntry = record { row = 0; flags = 0 }
 
+abbrev pub noCell : ℕ → JustCell
+noCell n = record { refusal = n; found = false; entry = noEntry }
+
 abbrev pub cellGiven : Answer → JustCell
 cellGiven (entry e) = record { refusal = 0; found = true; entry = e }
-cellGiven nothing = record { refusal = 0; found = false; entry = noEntry }
-cellGiven (number n) = record { refusal = 0; found = false; entry = noEntry }
-cellGiven (both s c) = record { refusal = 0; found = false; entry = noEntry }
-cellGiven (pair p) = record { refusal = 0; found = false; entry = noEntry }
-cellGiven (act a) = record { refusal = 0; found = false; entry = noEntry }
+cellGiven nothing = noCell 0
+cellGiven (number n) = noCell 0
+cellGiven (both s c) = noCell 0
+cellGiven (pair p) = noCell 0
+cellGiven (act a) = noCell 0
 
 abbrev pub cellIn : Reply → JustCell
-cellIn (refused n) = record { refusal = n; found = false; entry = noEntry }
+cellIn (refused n) = noCell n
 cellIn (given a) = cellGiven a
 
 abbrev pub noPair : Pair
@@ -86,28 +96,34 @@ noPair =
       flags = record { grow = 0; shrink = 0 };
     }
 
+abbrev pub noRecord : ℕ → JustRecord
+noRecord n = record { refusal = n; found = false; pair = noPair }
+
 abbrev pub recordGiven : Answer → JustRecord
 recordGiven (pair p) = record { refusal = 0; found = true; pair = p }
-recordGiven nothing = record { refusal = 0; found = false; pair = noPair }
-recordGiven (number n) = record { refusal = 0; found = false; pair = noPair }
-recordGiven (both s c) = record { refusal = 0; found = false; pair = noPair }
-recordGiven (entry e) = record { refusal = 0; found = false; pair = noPair }
-recordGiven (act a) = record { refusal = 0; found = false; pair = noPair }
+recordGiven nothing = noRecord 0
+recordGiven (number n) = noRecord 0
+recordGiven (both s c) = noRecord 0
+recordGiven (entry e) = noRecord 0
+recordGiven (act a) = noRecord 0
 
 abbrev pub recordIn : Reply → JustRecord
-recordIn (refused n) = record { refusal = n; found = false; pair = noPair }
+recordIn (refused n) = noRecord n
 recordIn (given a) = recordGiven a
+
+abbrev pub noHeld : ℕ → JustAction
+noHeld n = record { refusal = n; found = false; action = noAction }
 
 abbrev pub actionGiven : Answer → JustAction
 actionGiven (act a) = record { refusal = 0; found = true; action = held a }
-actionGiven nothing = record { refusal = 0; found = false; action = noAction }
-actionGiven (number n) = record { refusal = 0; found = false; action = noAction }
-actionGiven (both s c) = record { refusal = 0; found = false; action = noAction }
-actionGiven (entry e) = record { refusal = 0; found = false; action = noAction }
-actionGiven (pair p) = record { refusal = 0; found = false; action = noAction }
+actionGiven nothing = noHeld 0
+actionGiven (number n) = noHeld 0
+actionGiven (both s c) = noHeld 0
+actionGiven (entry e) = noHeld 0
+actionGiven (pair p) = noHeld 0
 
 abbrev pub actionIn : Reply → JustAction
-actionIn (refused n) = record { refusal = n; found = false; action = noAction }
+actionIn (refused n) = noHeld n
 actionIn (given a) = actionGiven a
 
 -- an action's answer with its room, as it was found or not

@@ -16,7 +16,7 @@ use Rattle.types.specs.declared.Direction.the-variants.{Horizontal, Vertical}
 use Rattle.types.specs.declared.Entry.{Entry}
 use Rattle.types.specs.declared.Pair.{Pair}
 use Rattle.meaning.specs.Meaning.{Machine, Action, Side, Meaning}
-use Rattle.meaning.specs.Ask.{Part, sizes, class, cell, width, action, Question, glyphCount, along, Answer, nothing, number, both, entry, pair, act, maybe, machinePart, cellOf, recordOf, askSide, ask}
+use Rattle.meaning.specs.Ask.{Part, sizes, class, cell, width, action, Question, glyphCount, along, Answer, nothing, number, both, entry, pair, act, maybe, cellOf, recordOf, askSide, ask}
 use Rattle.meaning.specs.Limits.{OkMachine, OkMaybe, OkPair, Rising, OkCluster, OkActions, OkSide, Valid}
 use Rattle.meaning.specs.Sheet.{write}
 use Rattle.meaning.specs.Same.{AskedPart, Same}
@@ -124,11 +124,11 @@ module _ (n : ℕ) (hn : n < 2 ^ 16) where
 
   -- a machine or none
   any-same : (a b : Option Machine) → OkMaybe n a → OkMaybe n b
-      → machinePart (λ (m : Machine). both (m .rows) (m .classes)) a ≡ machinePart (λ (m : Machine). both (m .rows) (m .classes)) b
+      → maybe (λ (m : Machine). both (m .rows) (m .classes)) a ≡ maybe (λ (m : Machine). both (m .rows) (m .classes)) b
       → ((g : ℕ) → g < 2 ^ 16
-      → machinePart (λ (m : Machine). maybe number (getElem? (m .columns) g)) a ≡ machinePart (λ (m : Machine). maybe number (getElem? (m .columns) g)) b)
+      → maybe (λ (m : Machine). maybe number (getElem? (m .columns) g)) a ≡ maybe (λ (m : Machine). maybe number (getElem? (m .columns) g)) b)
       → ((r c : ℕ) → r < 2 ^ 16 → c < 2 ^ 16
-      → machinePart (λ (m : Machine). maybe entry (cellOf m r c)) a ≡ machinePart (λ (m : Machine). maybe entry (cellOf m r c)) b)
+      → maybe (λ (m : Machine). maybe entry (cellOf m r c)) a ≡ maybe (λ (m : Machine). maybe entry (cellOf m r c)) b)
       → a ≡ b
   any-same none none ha hb e ks cs = refl
   any-same none (some b) ha hb e ks cs = let z : _≡_ {A = ℕ} 0 1 = cc in absurd (omega arith)

@@ -39,11 +39,6 @@ abbrev pub maybe : {A : Type 0} → (A → Answer) → Option A → Answer
 maybe f none = nothing
 maybe f (some x) = f x
 
--- what a machine's part is; nothing where there is no machine
-abbrev pub machinePart : (Machine → Answer) → Option Machine → Answer
-machinePart f none = nothing
-machinePart f (some m) = f m
-
 -- the cell of a row and a class
 abbrev pub cellOf : Machine → ℕ → ℕ → Option Entry
 cellOf m r c = cond (ltb r (m .rows) && ltb c (m .classes)) (getElem? (m .cells) (r * m .classes + c)) none
@@ -58,9 +53,9 @@ sideOf Horizontal m = m .horizontal
 sideOf Vertical m = m .vertical
 
 unfoldable pub askSide : Side → Part → Answer
-askSide s sizes = machinePart (λ (m : Machine). both (m .rows) (m .classes)) (s .machine)
-askSide s (class g) = machinePart (λ (m : Machine). maybe number (getElem? (m .columns) g)) (s .machine)
-askSide s (cell r c) = machinePart (λ (m : Machine). maybe entry (cellOf m r c)) (s .machine)
+askSide s sizes = maybe (λ (m : Machine). both (m .rows) (m .classes)) (s .machine)
+askSide s (class g) = maybe (λ (m : Machine). maybe number (getElem? (m .columns) g)) (s .machine)
+askSide s (cell r c) = maybe (λ (m : Machine). maybe entry (cellOf m r c)) (s .machine)
 askSide s (width g c) = maybe pair (recordOf c (getD (s .clusters) g []))
 askSide s (action g k) = maybe act (getElem? (getD (s .lists) g []) k)
 

@@ -27,7 +27,7 @@ use Rattle.meaning.specs.Meaning.{Machine, Meaning}
 use Rattle.meaning.specs.Discrete.{Entry-discrete}
 use Rattle.meaning.specs.Limits.{OkMachine, OkMaybe, Valid}
 use Rattle.meaning.specs.Sheet.{sizesCode, entryCode, write, machineBytes}
-use Rattle.meaning.specs.Ask.{glyphCount, along, sizes, class, cell, nothing, number, both, entry, maybe, machinePart, cellOf, sideOf, askSide, ask}
+use Rattle.meaning.specs.Ask.{glyphCount, along, sizes, class, cell, nothing, number, both, entry, maybe, cellOf, sideOf, askSide, ask}
 use Rattle.meaning.specs.Wide.{WideSizes}
 use Rattle.answers.specs.declared.CellAnswer.{CellAnswer}
 use Rattle.answers.specs.Says.{given, saysCell}
@@ -59,7 +59,7 @@ pub past-class : (s : List ℕ) → Bytes s → (m : Meaning) → Valid m → wr
 unfolding ask askSide
 past-class s bytes m v w d g h = ap given (go (sideOf d m .machine) (valid-side d m v .machine))
   where
-    go : (y : Option Machine) → OkMaybe (m .glyphs) y → nothing ≡ machinePart (λ (x : Machine). maybe number (getElem? (x .columns) g)) y
+    go : (y : Option Machine) → OkMaybe (m .glyphs) y → nothing ≡ maybe (λ (x : Machine). maybe number (getElem? (x .columns) g)) y
     go none o = refl
     go (some x) o = sym (ap (maybe number) (elem-none (x .columns) g (omega (arith, h, o .column-count, opened-sheet s bytes m v w .count))))
 
@@ -121,7 +121,7 @@ module _ (s : List ℕ) (bytes : Bytes s) where
     unfolding ask askSide
     no-sizes k =
         cases
-        (λ e z. ap given (sym (ap (machinePart (λ (x : Machine). both (x .rows) (x .classes))) e)))
+        (λ e z. ap given (sym (ap (maybe (λ (x : Machine). both (x .rows) (x .classes))) e)))
         (λ x e o a. absurd (k (a .room, (λ z. omega (arith, z, a .one)))))
 
     pub the-sizes : HasMachine s at → (r c : ℕ) → r ≡ u32At s (at + 4) % 2 ^ 16 → c ≡ u32At s (at + 8) % 2 ^ 16
@@ -133,7 +133,7 @@ module _ (s : List ℕ) (bytes : Bytes s) where
         (λ x e o a.
         let p : r ≡ x .rows = omega (arith, er, a .rows, o .few-rows) in
         let q : c ≡ x .classes = omega (arith, ec, a .classes, o .few-classes) in
-        ap given (ap₂ both p q ∙ sym (ap (machinePart (λ (x : Machine). both (x .rows) (x .classes))) e)))
+        ap given (ap₂ both p q ∙ sym (ap (maybe (λ (x : Machine). both (x .rows) (x .classes))) e)))
 
     -- ---- a glyph's class
 
@@ -141,7 +141,7 @@ module _ (s : List ℕ) (bytes : Bytes s) where
     unfolding ask askSide
     no-class g k =
         cases
-        (λ e z. ap given (sym (ap (machinePart (λ (x : Machine). maybe number (getElem? (x .columns) g))) e)))
+        (λ e z. ap given (sym (ap (maybe (λ (x : Machine). maybe number (getElem? (x .columns) g))) e)))
         (λ x e o a. absurd (k (a .room, (λ z. omega (arith, z, a .one)))))
 
     -- the runs of section 2
@@ -174,7 +174,7 @@ module _ (s : List ℕ) (bytes : Bytes s) where
           let below : g < length (x .columns) = omega (arith, l, o .column-count, opened-sheet s bytes m v w .count) in
           let small : getD (x .columns) g 1 < x .classes = all-at (λ (c : ℕ). c < x .classes) (x .columns) 1 g (o .columns) below in
           let q : r ≡ getD (x .columns) g 1 = omega (arith, er, value-is x e o g y f, small, o .few-classes) in
-          ap given (ap number q ∙ sym (ap (machinePart (λ (x : Machine). maybe number (getElem? (x .columns) g))) e ∙ ap (maybe number) (at-some (x .columns) g 1 below))))
+          ap given (ap number q ∙ sym (ap (maybe (λ (x : Machine). maybe number (getElem? (x .columns) g))) e ∙ ap (maybe number) (at-some (x .columns) g 1 below))))
 
     -- ---- a cell
 
@@ -182,7 +182,7 @@ module _ (s : List ℕ) (bytes : Bytes s) where
     unfolding ask askSide
     no-cell r c k =
         cases
-        (λ e z. ap given (sym (ap (machinePart (λ (x : Machine). maybe entry (cellOf x r c))) e)))
+        (λ e z. ap given (sym (ap (maybe (λ (x : Machine). maybe entry (cellOf x r c))) e)))
         (λ x e o a. absurd (k (a .room, (λ z. omega (arith, z, a .one)))))
 
     -- a row or a class that the machine does not have
@@ -191,8 +191,8 @@ module _ (s : List ℕ) (bytes : Bytes s) where
     outside r c k =
         let f : Machine → _ = λ (x : Machine). maybe entry (cellOf x r c) in
         cases
-        (λ e z. ap given (sym (ap (machinePart f) e)))
-        (λ x e o a. ap given (sym (ap (machinePart f) e ∙ ap (maybe entry) (k x a))))
+        (λ e z. ap given (sym (ap (maybe f) e)))
+        (λ x e o a. ap given (sym (ap (maybe f) e ∙ ap (maybe entry) (k x a))))
 
     pub past-row : (r c : ℕ) → u32At s (at + 4) ≤ r → given nothing ≡ given (ask m (along d (cell r c)))
     past-row r c l =
@@ -229,7 +229,7 @@ module _ (s : List ℕ) (bytes : Bytes s) where
         fy (x .rows) (x .classes) (x .cells) (clustersOn d m)
         (record { some-rows = o .some-rows; few-rows = o .few-rows; some-classes = o .some-classes; few-classes = o .few-classes })
         (o .cell-count, o .cells, o .few-entries) cells inside
-        ∙ ap given (sym (ap (machinePart (λ (x : Machine). maybe entry (cellOf x r c))) e
+        ∙ ap given (sym (ap (maybe (λ (x : Machine). maybe entry (cellOf x r c))) e
         ∙ ap (maybe entry) (ap₂ (λ (a b : Bool). cond (a && b) (getElem? (x .cells) (r * x .classes + c)) none) (lt-ltb r (x .rows) er) (lt-ltb c (x .classes) ec)
         ∙ ap (getElem? (x .cells)) (sym ek′) ∙ at-some (x .cells) k z there))))
 

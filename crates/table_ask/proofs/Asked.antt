@@ -15,7 +15,7 @@ use Rattle.types.specs.declared.Pair.{Pair}
 use Rattle.encoding.specs.Upto.{upto}
 use Rattle.encoding.proofs.UptoLaws.{length-from, getD-upto, elem-upto, elem-past}
 use Rattle.meaning.specs.Meaning.{Machine, Action, Side, emptySide}
-use Rattle.meaning.specs.Ask.{Part, sizes, class, cell, width, action, along, Answer, nothing, number, both, entry, pair, act, maybe, machinePart, cellOf, recordOf, sideOf, askSide, ask}
+use Rattle.meaning.specs.Ask.{Part, sizes, class, cell, width, action, along, Answer, nothing, number, both, entry, pair, act, maybe, cellOf, recordOf, sideOf, askSide, ask}
 use Rattle.machine.specs.Cells.{classCount, classAt, cellAt}
 use Rattle.machine.specs.Rows.{rowCount}
 use Rattle.lookup.specs.Find.{valueOf}
@@ -109,11 +109,11 @@ module _ (t : List ℕ) (n : ℕ) (d : Direction) where
 
     pub no-sizes : o ≡ 0 → ask (meaningOf t n) (along d sizes) ≡ nothing
     unfolding askSide
-    no-sizes z = asked sizes ∙ ap (machinePart (λ (m : Machine). both (m .rows) (m .classes))) (none-there z)
+    no-sizes z = asked sizes ∙ ap (maybe (λ (m : Machine). both (m .rows) (m .classes))) (none-there z)
 
     pub sizes-are : (o ≡ 0 → ⊥) → ask (meaningOf t n) (along d sizes) ≡ both (rowCount t (o + 8)) (classCount t (o + 8))
     unfolding askSide machineAt
-    sizes-are z = asked sizes ∙ ap (machinePart (λ (m : Machine). both (m .rows) (m .classes))) (one-there z)
+    sizes-are z = asked sizes ∙ ap (maybe (λ (m : Machine). both (m .rows) (m .classes))) (one-there z)
 
     module _ (g : ℕ) where
       classed : Machine → Answer
@@ -121,11 +121,11 @@ module _ (t : List ℕ) (n : ℕ) (d : Direction) where
 
       pub no-class : o ≡ 0 → ask (meaningOf t n) (along d (class g)) ≡ nothing
       unfolding askSide classed
-      no-class z = asked (class g) ∙ ap (machinePart classed) (none-there z)
+      no-class z = asked (class g) ∙ ap (maybe classed) (none-there z)
 
       pub class-is : (o ≡ 0 → ⊥) → g < n → ask (meaningOf t n) (along d (class g)) ≡ number (classAt t (o + 8) g)
       unfolding askSide classed machineAt
-      class-is z h = asked (class g) ∙ ap (machinePart classed) (one-there z) ∙ ap (maybe number) (elem-upto (classAt t (o + 8)) n g h)
+      class-is z h = asked (class g) ∙ ap (maybe classed) (one-there z) ∙ ap (maybe number) (elem-upto (classAt t (o + 8)) n g h)
 
     module _ (r c : ℕ) where
       celled : Machine → Answer
@@ -133,12 +133,12 @@ module _ (t : List ℕ) (n : ℕ) (d : Direction) where
 
       pub no-cell : o ≡ 0 → ask (meaningOf t n) (along d (cell r c)) ≡ nothing
       unfolding askSide celled
-      no-cell z = asked (cell r c) ∙ ap (machinePart celled) (none-there z)
+      no-cell z = asked (cell r c) ∙ ap (maybe celled) (none-there z)
 
       module _ (z : o ≡ 0 → ⊥) where
         cell-asked : ask (meaningOf t n) (along d (cell r c)) ≡ maybe entry (cellOf (machineAt t n (o + 8)) r c)
         unfolding askSide celled
-        cell-asked = asked (cell r c) ∙ ap (machinePart celled) (one-there z)
+        cell-asked = asked (cell r c) ∙ ap (maybe celled) (one-there z)
 
         pub row-past : rowCount t (o + 8) ≤ r → ask (meaningOf t n) (along d (cell r c)) ≡ nothing
         unfolding machineAt
@@ -164,12 +164,12 @@ module _ (t : List ℕ) (n : ℕ) (d : Direction) where
   -- a glyph past N has no class, machine or not
   pub class-past : (g : ℕ) → n ≤ g → ask (meaningOf t n) (along d (class g)) ≡ nothing
   unfolding askSide machineOf machineAt
-  class-past g h = asked (class g) ∙ ap (machinePart classed) machine-is ∙ go (eqb (machineIn t d) 0)
+  class-past g h = asked (class g) ∙ ap (maybe classed) machine-is ∙ go (eqb (machineIn t d) 0)
     where
       classed : Machine → Answer
       classed m = maybe number (getElem? (m .columns) g)
 
-      go : (b : Bool) → machinePart classed (cond b none (some (machineAt t n (machineIn t d + 8)))) ≡ nothing
+      go : (b : Bool) → maybe classed (cond b none (some (machineAt t n (machineIn t d + 8)))) ≡ nothing
       go true = refl
       go false = ap (maybe number) (elem-past (classAt t (machineIn t d + 8)) n 0 g h)
 

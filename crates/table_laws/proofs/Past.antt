@@ -16,7 +16,7 @@ use Rattle.types.specs.declared.Direction.{Direction}
 use Rattle.types.specs.declared.Direction.the-variants.{Horizontal, Vertical}
 use Rattle.types.specs.declared.Pair.{Pair}
 use Rattle.meaning.specs.Meaning.{Machine, Action, emptySide}
-use Rattle.meaning.specs.Ask.{class, width, action, along, nothing, number, pair, act, maybe, machinePart, recordOf, askSide, ask}
+use Rattle.meaning.specs.Ask.{class, width, action, along, nothing, number, pair, act, maybe, recordOf, askSide, ask}
 use Rattle.machine.specs.Cells.{classAt}
 use Rattle.lookup_targets.specs.Values.{clusterOf, listOf}
 use Rattle.table.specs.Table.{machineOffset, widthOffset, actionOffset, widthLookup, Accepted, tableFault}
@@ -51,11 +51,11 @@ module _ (t : List ℕ) (n : ℕ) where
       go false = lists-count (actionOffset t at)
 
   module _ (g : ℕ) (past : n ≤ g) where
-    machine-past : (offset : ℕ) → machinePart (λ (m : Machine). maybe number (getElem? (m .columns) g)) (machineOf t n offset) ≡ nothing
+    machine-past : (offset : ℕ) → maybe (λ (m : Machine). maybe number (getElem? (m .columns) g)) (machineOf t n offset) ≡ nothing
     unfolding machineOf machineAt
     machine-past offset = go (eqb offset 0)
       where
-        go : (b : Bool) → machinePart (λ (m : Machine). maybe number (getElem? (m .columns) g)) (cond b none (some (machineAt t n (offset + 8)))) ≡ nothing
+        go : (b : Bool) → maybe (λ (m : Machine). maybe number (getElem? (m .columns) g)) (cond b none (some (machineAt t n (offset + 8)))) ≡ nothing
         go true = refl
         go false = ap (maybe number) (elem-past (classAt t (offset + 8)) n 0 g past)
 

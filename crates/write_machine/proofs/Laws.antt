@@ -23,8 +23,7 @@ use Rattle.table.specs.Means.{cellBy, machineAt, machineOf}
 use Rattle.table.specs.Table.{machinePart}
 use Rattle.table.proofs.Laws.{present-some}
 use Rattle.write_glyphs.proofs.Laws.{map-from}
-use Rattle.write_runs.specs.RunCode.{runBytes}
-use Rattle.write_runs.proofs.Laws.{class-runs, runs-pass, runs-first}
+use Rattle.write_runs.proofs.Laws.{runs-pass, runs-first}
 use Rattle.write_runs.proofs.Stretch.{from-stretch}
 use Rattle.write_entries.specs.Entries.{storedAt, entriesOf, entryBytes}
 use Rattle.write_machine.specs.Parts.{machineParts, machineBytes, OneClass}
@@ -52,19 +51,19 @@ module _ (t : List ℕ) (n here : ℕ) where
 
   -- the classes and the number of cells as the code has them
   pub some-parts : (xs : List ℕ) (k : ℕ) → xs ≡ upto (classAt t here) n → k ≡ rowCount t here * classCount t here
-      → (be32 1 ++ be32 (rowCount t here) ++ be32 (classCount t here)) ++ (runBytes 1 0 xs ++ entryBytes t here k) ≡ machineParts (some (machineAt t n here))
+      → (be32 1 ++ be32 (rowCount t here) ++ be32 (classCount t here)) ++ (runSection 1 xs ++ entryBytes t here k) ≡ machineParts (some (machineAt t n here))
   unfolding machineParts machineAt
   some-parts xs k ex ek =
       let sizes = be32 1 ++ be32 (rowCount t here) ++ be32 (classCount t here) in
       let cells = upto (cellBy t here) (rowCount t here * classCount t here) in
-      ap₂ (λ (a b : List ℕ). sizes ++ (a ++ b)) (class-runs xs ∙ ap (runSection 1) ex)
+      ap₂ (λ (a b : List ℕ). sizes ++ (a ++ b)) (ap (runSection 1) ex)
       (entries-are k ∙ ap (λ (m : ℕ). numbered Entry-discrete entryCode (upto (cellBy t here) m)) ek)
       ∙ ap (λ (l : List ℕ). sizes ++ l)
       (sym (append-assoc (runSection 1 (upto (classAt t here) n)) (distinctSection Entry-discrete entryCode cells) (numberSection Entry-discrete cells)))
 
   pub some-length : (xs : List ℕ) (k : ℕ) → xs ≡ upto (classAt t here) n → k ≡ rowCount t here * classCount t here
-      → length (machineParts (some (machineAt t n here))) ≡ 12 + length (runBytes 1 0 xs) + length (entryBytes t here k)
-  some-length xs k ex ek = omega (arith, ap length (some-parts xs k ex ek), length-append (runBytes 1 0 xs) (entryBytes t here k))
+      → length (machineParts (some (machineAt t n here))) ≡ 12 + length (runSection 1 xs) + length (entryBytes t here k)
+  some-length xs k ex ek = omega (arith, ap length (some-parts xs k ex ek), length-append (runSection 1 xs) (entryBytes t here k))
 
 -- ---- by the offset
 

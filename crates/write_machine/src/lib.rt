@@ -11,12 +11,12 @@ ghost use Rattle.fields.specs.declared.Fault.the-variants.{Clear};
 ghost use Rattle.fields.specs.Field.{be32};
 ghost use Rattle.encoding.specs.Codes.{many};
 ghost use Rattle.encoding.specs.Runs.{runs};
+ghost use Rattle.encoding.specs.Sections.{runCode, runSection};
 ghost use Rattle.encoding.specs.Upto.{upto};
 ghost use Rattle.machine.specs.Cells.{classAt};
 ghost use Rattle.machine.specs.Machine.{machineFault};
 ghost use Rattle.table.specs.Means.{machineAt};
 ghost use Rattle.table.specs.Table.{machinePart};
-ghost use Rattle.write_runs.specs.RunCode.{lessCode, runBytes};
 ghost use Rattle.write_machine.specs.Parts.{machineParts, machineBytes, OneClass};
 
 // How many bytes from `at` on, of `most`, are the same, one after the other.
@@ -63,7 +63,7 @@ fn class_end(table: &[u8], glyphs: usize, here: usize, glyph: usize) -> usize
 fn put_each(table: &[u8], glyphs: usize, here: usize, out: &mut [u8], to: usize) -> usize
     requires { ⌜ (here < 2 ^ 32) × ((glyphs < 2 ^ 16) × (to < 2 ^ 60)) ⌝ }
     ensures { λ r. ⌜ (r ≡ length (runs ℕ-discrete 1 0 (upto (classAt (now (table .entry)) here) glyphs))) × (r < 2 ^ 16)
-        × (now (out .exit) ≡ sets (now (out .entry)) to (many (lessCode 0) (runs ℕ-discrete 1 0 (upto (classAt (now (table .entry)) here) glyphs)))) ⌝ }
+        × (now (out .exit) ≡ sets (now (out .entry)) to (many runCode (runs ℕ-discrete 1 0 (upto (classAt (now (table .entry)) here) glyphs)))) ⌝ }
 {
     let mut glyph: usize = 0;
     let mut count: usize = 0;
@@ -90,8 +90,8 @@ fn put_each(table: &[u8], glyphs: usize, here: usize, out: &mut [u8], to: usize)
 // Stores section 2, and answers where it ends.
 fn put_class_runs(table: &[u8], glyphs: usize, here: usize, out: &mut [u8], to: usize) -> usize
     requires { ⌜ (here < 2 ^ 32) × ((glyphs < 2 ^ 16) × (to < 2 ^ 40)) ⌝ }
-    ensures { λ r. ⌜ (r ≡ to + length (runBytes 1 0 (upto (classAt (now (table .entry)) here) glyphs))) × (r < to + 2 ^ 19)
-        × (now (out .exit) ≡ sets (now (out .entry)) to (runBytes 1 0 (upto (classAt (now (table .entry)) here) glyphs))) ⌝ }
+    ensures { λ r. ⌜ (r ≡ to + length (runSection 1 (upto (classAt (now (table .entry)) here) glyphs))) × (r < to + 2 ^ 19)
+        × (now (out .exit) ≡ sets (now (out .entry)) to (runSection 1 (upto (classAt (now (table .entry)) here) glyphs))) ⌝ }
 {
     let count = put_each(table, glyphs, here, out, to + 4);
     fields::put_u32(out, to, count as u32);

@@ -11,7 +11,7 @@ use Rattle.fields.specs.Field.{be32}
 use Rattle.encoding.specs.Codes.{All, many, counted}
 use Rattle.encoding.specs.Distinct.{index, distinct, numbers}
 use Rattle.encoding.specs.Runs.{Run, runs}
-use Rattle.encoding.specs.Sections.{runLessCode}
+use Rattle.encoding.specs.Sections.{runLessCode, numberRunSection}
 use Rattle.encoding.proofs.ListLaws.{all-append}
 use Rattle.encoding.proofs.RunsLaws.{runs-skips}
 use Rattle.encoding.proofs.DistinctLaws.{index-self}
@@ -24,9 +24,7 @@ use Rattle.write_glyphs.specs.declared.Pass.{Pass}
 use Rattle.lookup_targets.specs.declared.Source.{Source}
 use Rattle.lookup_targets.specs.declared.Source.the-variants.{Lookup, Absent}
 use Rattle.write_glyphs.specs.Places.{itemsFrom, Rooms, Passed}
-use Rattle.write_runs.specs.RunCode.{runBytes}
 use Rattle.write_runs.specs.Spread.{spread, Stretches}
-use Rattle.write_runs.proofs.Laws.{number-runs}
 use Rattle.write_runs.proofs.Spread.{rise-few}
 use Rattle.write_pool.specs.Pool.{poolBytes, sections, Short, Placed, Tried}
 
@@ -60,15 +58,15 @@ module _ (kind : Kind) (t firsts : List ℕ) where
   -- ---- the two sections
 
   pub sections-parts : (ends nums : List ℕ)
-      → sections kind t firsts ends nums ≡ be32 (length firsts) ++ (many (itemCode kind) (placed kind t firsts) ++ runBytes 0 1 (spread 0 ends nums))
+      → sections kind t firsts ends nums ≡ be32 (length firsts) ++ (many (itemCode kind) (placed kind t firsts) ++ numberRunSection (spread 0 ends nums))
   unfolding sections
   sections-parts ends nums =
-      ap (λ (n : ℕ). be32 n ++ (many (itemCode kind) (placed kind t firsts) ++ runBytes 0 1 (spread 0 ends nums))) (map-length (itemAt kind t) firsts)
+      ap (λ (n : ℕ). be32 n ++ (many (itemCode kind) (placed kind t firsts) ++ numberRunSection (spread 0 ends nums))) (map-length (itemAt kind t) firsts)
 
   pub sections-length : (ends nums : List ℕ)
-      → length (sections kind t firsts ends nums) ≡ 4 + length (many (itemCode kind) (placed kind t firsts)) + length (runBytes 0 1 (spread 0 ends nums))
+      → length (sections kind t firsts ends nums) ≡ 4 + length (many (itemCode kind) (placed kind t firsts)) + length (numberRunSection (spread 0 ends nums))
   sections-length ends nums =
-      omega (arith, ap length (sections-parts ends nums), length-append (many (itemCode kind) (placed kind t firsts)) (runBytes 0 1 (spread 0 ends nums)))
+      omega (arith, ap length (sections-parts ends nums), length-append (many (itemCode kind) (placed kind t firsts)) (numberRunSection (spread 0 ends nums)))
 
 -- ---- what was numbered is what is written
 
@@ -115,8 +113,7 @@ module _ (kind : Kind) (t : List ℕ) (n at base : ℕ) (ends nums firsts : List
   pub pass-sections : sections kind t (take (pass .items) firsts) (take (pass .stretches) ends) (take (pass .stretches) nums) ≡ poolBytes kind t n (Lookup at base)
   unfolding sections poolBytes
   pass-sections =
-      ap (λ (b : List ℕ). counted (itemCode kind) (placed kind t (take (pass .items) firsts)) ++ b) (number-runs (spread 0 (take (pass .stretches) ends) (take (pass .stretches) nums)))
-      ∙ ap₂ (λ (ys : List (Item kind)) (ns : List ℕ). counted (itemCode kind) ys ++ counted runLessCode (runs ℕ-discrete 0 0 ns)) (ap (drop 1) (sym found)) (sym numbered)
+      ap₂ (λ (ys : List (Item kind)) (ns : List ℕ). counted (itemCode kind) ys ++ numberRunSection ns) (ap (drop 1) (sym found)) (sym numbered)
 
   pub pass-short : All (Short kind) (placed kind t (take (pass .items) firsts))
   pass-short =
@@ -144,8 +141,8 @@ unfolding poolBytes itemsFrom
 absent-bytes kind t n =
     let eq = item-discrete kind in
     let xs = replicate n (noItem kind) in
-    ap (λ (d : List (Item kind)). counted (itemCode kind) (drop 1 d) ++ counted runLessCode (runs ℕ-discrete 0 0 (numbers eq d xs))) (none-distinct eq (noItem kind) n)
-    ∙ ap (λ (l : List ℕ). counted (itemCode kind) [] ++ counted runLessCode (runs ℕ-discrete 0 0 l)) (none-numbers eq (noItem kind) n)
+    ap (λ (d : List (Item kind)). counted (itemCode kind) (drop 1 d) ++ numberRunSection (numbers eq d xs)) (none-distinct eq (noItem kind) n)
+    ∙ ap (λ (l : List ℕ). counted (itemCode kind) [] ++ numberRunSection l) (none-numbers eq (noItem kind) n)
     ∙ ap (λ (l : List (Run ℕ)). counted (itemCode kind) [] ++ counted runLessCode l) (none-runs n)
 
 pub absent-placed : (kind : Kind) (t : List ℕ) (n : ℕ) (source : Source) (out₀ out : List ℕ) (to : ℕ) → source ≡ Absent → out ≡ sets out₀ to (be32 0 ++ be32 0)

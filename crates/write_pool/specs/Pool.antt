@@ -6,13 +6,12 @@ use mathlib.Core.List.{List, _++_}
 use lib.ListN.{length}
 use lib.Seq.{sets}
 use Rattle.encoding.specs.Codes.{All, counted}
-use Rattle.encoding.specs.Sections.{pool}
+use Rattle.encoding.specs.Sections.{numberRunSection, pool}
 use Rattle.lookup_targets.specs.declared.Kind.{Kind}
 use Rattle.write_item.specs.Items.{Item, noItem, item-discrete, itemCode}
 use Rattle.write_numbers.specs.Numbered.{placed}
 use Rattle.lookup_targets.specs.declared.Source.{Source}
 use Rattle.write_glyphs.specs.Places.{itemsFrom, Sound}
-use Rattle.write_runs.specs.RunCode.{runBytes}
 use Rattle.write_runs.specs.Spread.{spread}
 
 -- the two sections for what n glyphs have of a kind
@@ -21,7 +20,7 @@ poolBytes kind t n source = pool (item-discrete kind) (itemCode kind) (noItem ki
 
 -- the same from a numbering: the items that stand at `firsts`, and the runs of the glyphs' numbers, which are given by stretches, none being 0
 unfoldable pub sections : (kind : Kind) → List ℕ → List ℕ → List ℕ → List ℕ → List ℕ
-sections kind t firsts ends nums = counted (itemCode kind) (placed kind t firsts) ++ runBytes 0 1 (spread 0 ends nums)
+sections kind t firsts ends nums = counted (itemCode kind) (placed kind t firsts) ++ numberRunSection (spread 0 ends nums)
 
 -- written in at most 5,380 bytes, as every item of an accepted table is: the longest is a list of 64 actions with 76 bytes of data each
 abbrev pub Short : (kind : Kind) → Item kind → Type 0

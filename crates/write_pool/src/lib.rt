@@ -52,7 +52,7 @@ fn put_sections(
 {
     fields::put_u32(out, to, firsts.len() as u32);
     let end = put_items(table, kind, firsts, out, to + 4);
-    write_runs::put_runs(ends, nums, 0, 1, out, end)
+    write_runs::put_runs(ends, nums, out, end)
 }
 
 // Stores the two sections for the lookup at `at`, and answers where they end; or, where the rooms do not hold all

@@ -8,15 +8,13 @@ use native.Mathlib.Omega.{arith}
 use native.Mathlib.Nat.{add-zero}
 use lib.ListN.{length, drop, getD, set, replicate, length-drop}
 use lib.Seq.{sets, drop-cons, getD-drop, drop-drop}
-use Rattle.fields.specs.Field.{be16, be32}
+use Rattle.fields.specs.Field.{be32}
 use Rattle.fields.specs.Stores.{sets-append}
 use Rattle.encoding.specs.Codes.{many, counted}
 use Rattle.encoding.specs.Runs.{Run, push, runs, OkRuns}
-use Rattle.encoding.specs.Sections.{runCode, runLessCode, runSection}
 use Rattle.encoding.proofs.RunsLaws.{Apart, runs-ok, runs-skips, runs-block}
 use Rattle.encoding.proofs.CodeLaws.{many-length}
-use Rattle.write_runs.specs.RunCode.{lessCode, runBytes, RunTo}
-use Rattle.write_runs.specs.Spread.{spread, Rise}
+use Rattle.write_runs.specs.Spread.{spread, RunTo, Rise}
 use Rattle.write_runs.proofs.Spread.{spread-same, spread-first, spread-none}
 
 -- ---- a stretch of equal elements
@@ -145,32 +143,13 @@ sets-before (x ∷ xs) ys l i j h = ap (λ (m : List ℕ). sets m (suc i) xs) (s
 
 -- ---- runs as bytes
 
-pub run-bytes : (skip less : ℕ) (xs : List ℕ) → length (runBytes skip less xs) ≡ 4 + 6 * length (runs ℕ-discrete skip 0 xs)
-unfolding runBytes
-run-bytes skip less xs = omega (arith, many-length (lessCode less) 6 (λ r. refl) (runs ℕ-discrete skip 0 xs))
+module _ (code : Run ℕ → List ℕ) (rs : List (Run ℕ)) where
+  pub section-length : ((r : Run ℕ) → length (code r) ≡ 6) → length (counted code rs) ≡ 4 + 6 * length rs
+  section-length each = omega (arith, many-length code 6 each rs)
 
--- a section, its runs stored before its count
-pub section-stored : (skip less : ℕ) (xs out₀ out₁ out₂ : List ℕ) (to count : ℕ) → count ≡ length (runs ℕ-discrete skip 0 xs)
-    → out₁ ≡ sets out₀ (to + 4) (many (lessCode less) (runs ℕ-discrete skip 0 xs)) → out₂ ≡ sets out₁ to (be32 count) → out₂ ≡ sets out₀ to (runBytes skip less xs)
-unfolding runBytes
-section-stored skip less xs out₀ out₁ out₂ to count n e f =
-    let bs = many (lessCode less) (runs ℕ-discrete skip 0 xs) in
-    f ∙ ap (λ (l : List ℕ). sets l to (be32 count)) e ∙ sets-before (be32 count) bs out₀ to (to + 4) (omega arith)
-    ∙ sym (sets-append (be32 count) bs out₀ to) ∙ ap (λ (k : ℕ). sets out₀ to (be32 k ++ bs)) n
-
-many-same : {A : Type 0} (f g : A → List ℕ) → ((x : A) → f x ≡ g x) → (xs : List A) → many f xs ≡ many g xs
-many-same f g e [] = refl
-many-same f g e (x ∷ xs) = ap₂ (λ (a b : List ℕ). a ++ b) (e x) (many-same f g e xs)
-
-less-none : (r : Run ℕ) → lessCode 0 r ≡ runCode r
-less-none r = let e : r .value - 0 ≡ r .value = omega arith in ap (λ (v : ℕ). be16 (r .first) ++ be16 (r .last) ++ be16 v) e
-
--- the section of document 01 that it is
-pub class-runs : (xs : List ℕ) → runBytes 1 0 xs ≡ runSection 1 xs
-unfolding runBytes
-class-runs xs =
-    ap (λ (l : List ℕ). be32 (length (runs ℕ-discrete 1 0 xs)) ++ l) (many-same (lessCode 0) runCode less-none (runs ℕ-discrete 1 0 xs))
-
-pub number-runs : (xs : List ℕ) → runBytes 0 1 xs ≡ counted runLessCode (runs ℕ-discrete 0 0 xs)
-unfolding runBytes
-number-runs xs = refl
+  -- a section, its runs stored before its count
+  pub section-stored : (out₀ out₁ out₂ : List ℕ) (to count : ℕ) → count ≡ length rs
+      → out₁ ≡ sets out₀ (to + 4) (many code rs) → out₂ ≡ sets out₁ to (be32 count) → out₂ ≡ sets out₀ to (counted code rs)
+  section-stored out₀ out₁ out₂ to count n e f =
+      f ∙ ap (λ (l : List ℕ). sets l to (be32 count)) e ∙ sets-before (be32 count) (many code rs) out₀ to (to + 4) (omega arith)
+      ∙ sym (sets-append (be32 count) (many code rs) out₀ to) ∙ ap (λ (k : ℕ). sets out₀ to (be32 k ++ many code rs)) n

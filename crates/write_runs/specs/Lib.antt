@@ -1,2 +1,1 @@
-pub mod RunCode
 pub mod Spread

@@ -2,13 +2,18 @@
 use Prim.Native.Nat.{ℕ, _+_, _-_, _≤_, _<_, _^_}
 use mathlib.Core.Path.{_≡_}
 use mathlib.Core.List.{List, [], _∷_, _++_}
-use lib.ListN.{length, getD, take, replicate}
+use lib.ListN.{length, getD, take, drop, replicate}
 
 -- the list's elements from index i on: each of vs up to, but not with, the index that stands for it in the list of ends
 unfoldable pub spread : {A : Type 0} → ℕ → List ℕ → List A → List A
 spread i [] vs = []
 spread i (e ∷ es) [] = []
 spread i (e ∷ es) (v ∷ vs) = replicate (e - i) v ++ spread e es vs
+
+-- the elements from index i to index r - 1 are equal, and the one at r, if there is one, is another
+abbrev pub RunTo : List ℕ → ℕ → ℕ → Type 0
+RunTo xs i r =
+    (i < r) × (r ≤ length xs) × (drop i xs ≡ replicate (r - i) (getD xs i 0) ++ drop r xs) × (r < length xs → getD xs r 0 ≡ getD xs i 0 → ⊥)
 
 -- the ends rise from i on, so that no stretch is empty, and the last of them is n
 abbrev pub Rise : ℕ → List ℕ → ℕ → Type 0

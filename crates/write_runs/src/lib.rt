@@ -7,9 +7,9 @@ ghost use lib.ListN.{length, getD, take};
 ghost use lib.Seq.{sets};
 ghost use Rattle.encoding.specs.Codes.{many};
 ghost use Rattle.encoding.specs.Runs.{runs};
-ghost use Rattle.write_runs.specs.RunCode.{lessCode, runBytes, RunTo};
+ghost use Rattle.encoding.specs.Sections.{runCode, runLessCode, numberRunSection};
 ghost use Rattle.encoding.specs.Tests.{Says};
-ghost use Rattle.write_runs.specs.Spread.{spread, Rise, Stretches, Extended};
+ghost use Rattle.write_runs.specs.Spread.{spread, RunTo, Rise, Stretches, Extended};
 
 // Whether the last of the first `m` stretches has this number.
 fn goes_on(nums: &[u16], m: usize, number: u16) -> bool
@@ -58,18 +58,18 @@ fn run_end(xs: &[u16], first: usize) -> usize
 // Stores a run.
 pub fn put_run(out: &mut [u8], to: usize, first: u16, last: u16, value: u16)
     requires { ⌜ to < 2 ^ 62 ⌝ }
-    ensures { λ r. ⌜ now (out .exit) ≡ sets (now (out .entry)) to (lessCode 0 (record { first = first; last = last; value = value })) ⌝ }
+    ensures { λ r. ⌜ now (out .exit) ≡ sets (now (out .entry)) to (runCode (record { first = first; last = last; value = value })) ⌝ }
 {
     fields::put_u16(out, to, first);
     fields::put_u16(out, to + 2, last);
     fields::put_u16(out, to + 4, value);
 }
 
-// Stores the runs of a value other than `skip`, each value less `less`, and answers how many there are.
-fn put_each(ends: &[u16], nums: &[u16], skip: u16, less: u16, out: &mut [u8], to: usize) -> usize
-    requires { ⌜ Stretches (now ends) (now nums) × ((to < 2 ^ 60) × ((v : ℕ) → (v ≡ skip → ⊥) → less ≤ v)) ⌝ }
-    ensures { λ r. ⌜ (r ≡ length (runs ℕ-discrete skip 0 (spread 0 (now (ends .entry)) (now (nums .entry))))) × (r < 2 ^ 16)
-        × (now (out .exit) ≡ sets (now (out .entry)) to (many (lessCode less) (runs ℕ-discrete skip 0 (spread 0 (now (ends .entry)) (now (nums .entry)))))) ⌝ }
+// Stores the runs of a number other than 0, each number less one, and answers how many there are.
+fn put_each(ends: &[u16], nums: &[u16], out: &mut [u8], to: usize) -> usize
+    requires { ⌜ Stretches (now ends) (now nums) × (to < 2 ^ 60) ⌝ }
+    ensures { λ r. ⌜ (r ≡ length (runs ℕ-discrete 0 0 (spread 0 (now (ends .entry)) (now (nums .entry))))) × (r < 2 ^ 16)
+        × (now (out .exit) ≡ sets (now (out .entry)) to (many runLessCode (runs ℕ-discrete 0 0 (spread 0 (now (ends .entry)) (now (nums .entry)))))) ⌝ }
 {
     let mut i: usize = 0;
     let mut first: u16 = 0;
@@ -78,11 +78,11 @@ fn put_each(ends: &[u16], nums: &[u16], skip: u16, less: u16, out: &mut [u8], to
         let end = run_end(nums, i);
         let value = nums[i];
         let past = ends[end - 1];
-        if value == skip {
+        if value == 0 {
             i = end;
             first = past;
         } else {
-            put_run(out, to + 6 * count, first, past - 1, value - less);
+            put_run(out, to + 6 * count, first, past - 1, value - 1);
             count += 1;
             i = end;
             first = past;
@@ -91,20 +91,13 @@ fn put_each(ends: &[u16], nums: &[u16], skip: u16, less: u16, out: &mut [u8], to
     count
 }
 
-// Stores the section of the runs of a value other than `skip`, each value less `less`, and answers where it ends.
-pub fn put_runs(
-    ends: &[u16],
-    nums: &[u16],
-    skip: u16,
-    less: u16,
-    out: &mut [u8],
-    to: usize,
-) -> usize
-    requires { ⌜ Stretches (now ends) (now nums) × ((to < 2 ^ 40) × ((v : ℕ) → (v ≡ skip → ⊥) → less ≤ v)) ⌝ }
-    ensures { λ r. ⌜ (r ≡ to + length (runBytes skip less (spread 0 (now (ends .entry)) (now (nums .entry))))) × (r < to + 2 ^ 19)
-        × (now (out .exit) ≡ sets (now (out .entry)) to (runBytes skip less (spread 0 (now (ends .entry)) (now (nums .entry))))) ⌝ }
+// Stores the section of these runs, and answers where it ends.
+pub fn put_runs(ends: &[u16], nums: &[u16], out: &mut [u8], to: usize) -> usize
+    requires { ⌜ Stretches (now ends) (now nums) × (to < 2 ^ 40) ⌝ }
+    ensures { λ r. ⌜ (r ≡ to + length (numberRunSection (spread 0 (now (ends .entry)) (now (nums .entry))))) × (r < to + 2 ^ 19)
+        × (now (out .exit) ≡ sets (now (out .entry)) to (numberRunSection (spread 0 (now (ends .entry)) (now (nums .entry))))) ⌝ }
 {
-    let count = put_each(ends, nums, skip, less, out, to + 4);
+    let count = put_each(ends, nums, out, to + 4);
     fields::put_u32(out, to, count as u32);
     to + 4 + 6 * count
 }

@@ -10,7 +10,7 @@ use Rattle.machine.specs.Cells.{classCount, classAt}
 use Rattle.machine.specs.Rows.{rowCount}
 use Rattle.machine.proofs.Laws.{rows-most, classes-most, classes-least}
 use Rattle.encoding.specs.Upto.{upto}
-use Rattle.write_runs.specs.RunCode.{runBytes}
+use Rattle.encoding.specs.Sections.{runSection}
 use Rattle.write_entries.specs.Entries.{entryBytes}
 use Rattle.write_machine.proofs.Laws.{few-cells, some-parts, some-length}
 use borrow.Author.Needs.{needs}
@@ -61,7 +61,7 @@ returns c =
     let e : k ≡ rowCount t (a .here) * classCount t (a .here) = ap₂ (λ (x y : ℕ). x * y) ((c .before .before .before .before .before .before .before .before .before .before .before .before .before .row-count) .ensures) ((c .before .before .before .before .before .before .before .before .before .before .before .before .class-count) .ensures .0) in
     let f = few-cells (rowCount t (a .here)) (classCount t (a .here)) (rows-most t (a .glyphs) (a .here) ((c .before .before .before .before .before .before .before .before .before .before .before .before .before .before .before .before .pre) .0 .1 .1)) (classes-most t (a .glyphs) (a .here) ((c .before .before .before .before .before .before .before .before .before .before .before .before .before .before .before .before .pre) .0 .1 .1)) in
     let sizes = be32 1 ++ be32 ((c .before .before .before .before .before .before .before .before .before .before .before .before .before .row-count) .result) ++ be32 ((c .before .before .before .before .before .before .before .before .before .before .before .before .class-count) .result) in
-    let rs = runBytes 1 0 xs in
+    let rs = runSection 1 xs in
     let es = entryBytes t (a .here) k in
     let r = (c .before .before .before .before .before .before .put-class-runs) .ensures in
     let w = (c .before .before .put-entry-sections) .ensures in (

@@ -1,8 +1,12 @@
 -- `write_machine::put_class_runs` meets its contract.
-use Rattle.write_runs.proofs.Laws.{run-bytes, section-stored}
+use Rattle.write_runs.proofs.Laws.{section-length, section-stored}
 use Rattle.machine.specs.Cells.{classAt}
 use Rattle.encoding.specs.Upto.{upto}
+use mathlib.Core.Path.{refl}
+use native.Mathlib.Decide.{ℕ-discrete}
 use native.Mathlib.Omega.{arith}
+use Rattle.encoding.specs.Runs.{runs}
+use Rattle.encoding.specs.Sections.{runCode}
 use borrow.Author.Needs.{needs}
 use Rattle.write_machine.proofs.put_class_runs.Statement.{statement}
 use Rattle.write_machine.proofs.put_class_runs.Tie as tie
@@ -47,11 +51,11 @@ same-length c = search needs
 returns : tie.Need-returns
 returns c =
     let a = (c .before .before .before .before .before .before .before .before .before .before .args) in
-    let xs = upto (classAt (a .table .now) (a .here)) (a .glyphs) in
+    let rs = runs ℕ-discrete 1 0 (upto (classAt (a .table .now) (a .here)) (a .glyphs)) in
     let n = (c .before .before .before .before .before .before .put-each) in (
-      omega (arith, n .ensures .0, run-bytes 1 0 xs),
+      omega (arith, n .ensures .0, section-length runCode rs (λ r. refl)),
       omega (arith, n .ensures .1),
-      section-stored 1 0 xs (a .out .now) (n .last .1 .1 .1 .0) _ (a .to) (n .result) (n .ensures .0) (n .ensures .2) ((c .before .before .put-u32) .ensures),
+      section-stored runCode rs (a .out .now) (n .last .1 .1 .1 .0) _ (a .to) (n .result) (n .ensures .0) (n .ensures .2) ((c .before .before .put-u32) .ensures),
     )
 
 pub put-class-runs-spec : {M : Type 1} → statement M

@@ -1,6 +1,6 @@
 -- `write_machine::put_each` meets its contract.
 use Rattle.write_machine.proofs.Laws.{class-all, class-skipped, class-taken, class-done}
-use Rattle.write_runs.specs.RunCode.{lessCode}
+use Rattle.encoding.specs.Sections.{runCode}
 use Rattle.machine.specs.Cells.{classAt}
 use Rattle.encoding.specs.Upto.{from, upto}
 use Rattle.encoding.specs.Runs.{Run, runs}
@@ -27,7 +27,7 @@ abbrev Inv-loop : tie.InvT-loop
 Inv-loop table glyphs here out₀ to glyph₀ count₀ out glyph count =
     (glyph ≤ glyphs) × (length out ≡ length out₀) × (count ≤ glyph)
     × (count + length (runs ℕ-discrete 1 glyph (from (classAt table here) (glyphs - glyph) glyph)) ≡ length (runs ℕ-discrete 1 0 (upto (classAt table here) glyphs)))
-    × (sets out (to + 6 * count) (many (lessCode 0) (runs ℕ-discrete 1 glyph (from (classAt table here) (glyphs - glyph) glyph))) ≡ sets out₀ to (many (lessCode 0) (runs ℕ-discrete 1 0 (upto (classAt table here) glyphs))))
+    × (sets out (to + 6 * count) (many runCode (runs ℕ-discrete 1 glyph (from (classAt table here) (glyphs - glyph) glyph))) ≡ sets out₀ to (many runCode (runs ℕ-discrete 1 0 (upto (classAt table here) glyphs))))
 
 abbrev μ-loop : tie.MeasureT-loop
 μ-loop table glyphs here out₀ to glyph₀ count₀ out glyph count = glyphs - glyph
@@ -38,7 +38,7 @@ loop-holds c =
     let a = (c .before .before .args) in
     let z : a .to + 6 * 0 ≡ a .to = omega arith in
     let e = class-all (a .table .now) (a .glyphs) (a .here) in
-    (omega arith, refl, omega arith, omega (arith, ap length e), ap (λ (k : ℕ). sets (a .out .now) k (many (lessCode 0) (runs ℕ-discrete 1 0 (from (classAt (a .table .now) (a .here)) (a .glyphs - 0) 0)))) z ∙ ap (λ (rs : List (Run ℕ)). sets (a .out .now) (a .to) (many (lessCode 0) rs)) e)
+    (omega arith, refl, omega arith, omega (arith, ap length e), ap (λ (k : ℕ). sets (a .out .now) k (many runCode (runs ℕ-discrete 1 0 (from (classAt (a .table .now) (a .here)) (a .glyphs - 0) 0)))) z ∙ ap (λ (rs : List (Run ℕ)). sets (a .out .now) (a .to) (many runCode rs)) e)
 
 -- src/lib.rt:72:52
 cast-class-of : tie.Need-cast-class-of Inv-loop μ-loop
@@ -63,7 +63,7 @@ loop-again c =
     let l = (c .before .before .before .before .loop) in
     let w = (c .before .class-end) .ensures in
     let e = class-skipped (a .table .now) (a .glyphs) (a .here) (l .glyph) ((c .before .class-end) .result) w (omega (arith, (c .before .before .class-of) .ensures, (c .if1) .taken)) in
-    (w .most, l .inv .1, omega (arith, l .inv .2, w .more), omega (arith, l .inv .3, ap length e), ap (λ (rs : List (Run ℕ)). sets (l .out) (a .to + 6 * l .count) (many (lessCode 0) rs)) (sym e) ∙ l .inv .4)
+    (w .most, l .inv .1, omega (arith, l .inv .2, w .more), omega (arith, l .inv .3, ap length e), ap (λ (rs : List (Run ℕ)). sets (l .out) (a .to + 6 * l .count) (many runCode rs)) (sym e) ∙ l .inv .4)
 
 -- src/lib.rt:79:22
 mul-put-run : tie.Need-mul-put-run Inv-loop μ-loop
@@ -111,15 +111,15 @@ loop-again-2 c =
     let end : ℕ = (c .before .before .before .before .before .class-end) .result in
     let class : ℕ = (c .before .before .before .before .before .before .class-of) .result in
     let e = class-taken t (a .glyphs) (a .here) (l .glyph) end w (λ z. (c .before .before .before .before .if1) .left ((c .before .before .before .before .before .before .class-of) .ensures ∙ z)) in
-    let f = ap (λ (v : ℕ). sets (l .out) (a .to + 6 * l .count) (be16 (l .glyph) ++ be16 (end - 1) ++ be16 (v - 0))) ((c .before .before .before .before .before .before .class-of) .ensures) in
+    let f = ap (λ (v : ℕ). sets (l .out) (a .to + 6 * l .count) (be16 (l .glyph) ++ be16 (end - 1) ++ be16 v)) ((c .before .before .before .before .before .before .class-of) .ensures) in
     let j : a .to + 6 * (l .count + 1) ≡ a .to + 6 * l .count + 6 = omega arith in
     let run : Run ℕ = record { first = l .glyph; last = end - 1; value = classAt t (a .here) (l .glyph) } in (
       w .most,
       omega arith,
       omega (arith, l .inv .2, w .more),
       omega (arith, l .inv .3, ap length e),
-      put-next (lessCode 0 run) (many (lessCode 0) (runs ℕ-discrete 1 end (from (classAt t (a .here)) (a .glyphs - end) end))) (many (lessCode 0) (runs ℕ-discrete 1 (l .glyph) (from (classAt t (a .here)) (a .glyphs - l .glyph) (l .glyph)))) (l .out) ((c .before .before .put-run) .last .0) _ (a .to + 6 * l .count) (a .to + 6 * (l .count + 1))
-          (ap (many (lessCode 0)) e) j ((c .before .before .put-run) .ensures ∙ f) (l .inv .4),
+      put-next (runCode run) (many runCode (runs ℕ-discrete 1 end (from (classAt t (a .here)) (a .glyphs - end) end))) (many runCode (runs ℕ-discrete 1 (l .glyph) (from (classAt t (a .here)) (a .glyphs - l .glyph) (l .glyph)))) (l .out) ((c .before .before .put-run) .last .0) _ (a .to + 6 * l .count) (a .to + 6 * (l .count + 1))
+          (ap (many runCode) e) j ((c .before .before .put-run) .ensures ∙ f) (l .inv .4),
     )
 
 -- src/lib.rt:64:1
@@ -132,7 +132,7 @@ returns c =
     let a = (c .before .before .before .before .args) in
     let l = (c .before .loop) in
     let e = class-done (a .table .now) (a .glyphs) (a .here) (l .glyph) ((c .loop-test) .left) in
-    (omega (arith, l .inv .3, ap length e), omega (arith, l .inv .2, l .inv .0, (c .before .before .before .before .pre) .1 .0), ap (λ (rs : List (Run ℕ)). sets (l .out) (a .to + 6 * l .count) (many (lessCode 0) rs)) (sym e) ∙ l .inv .4)
+    (omega (arith, l .inv .3, ap length e), omega (arith, l .inv .2, l .inv .0, (c .before .before .before .before .pre) .1 .0), ap (λ (rs : List (Run ℕ)). sets (l .out) (a .to + 6 * l .count) (many runCode rs)) (sym e) ∙ l .inv .4)
 
 pub put-each-spec : {M : Type 1} → statement M
 put-each-spec =

@@ -11,7 +11,7 @@ use Rattle.encoding.specs.Codes.{many}
 use Rattle.write_item.specs.Items.{itemCode}
 use Rattle.write_numbers.specs.Numbered.{placed}
 use Rattle.write_runs.specs.Spread.{spread}
-use Rattle.write_runs.specs.RunCode.{runBytes}
+use Rattle.encoding.specs.Sections.{numberRunSection}
 use Rattle.write_pool.proofs.Laws.{sections-parts, sections-length}
 use borrow.Author.Needs.{needs}
 use Rattle.write_pool.proofs.put_sections.Statement.{statement}
@@ -30,7 +30,7 @@ put-items-requires : tie.Need-put-items-requires
 put-items-requires c κs = search needs
 
 put-runs-requires : tie.Need-put-runs-requires
-put-runs-requires c κs = ((c .before .before .before .before .before .before .before .before .before .before .before .before .before .before .pre) .1 .0, (omega (arith, (c .before .before .before .put-items) .ensures .1, (c .before .before .before .before .before .before .before .before .before .before .before .before .before .before .pre) .1 .1), (λ v n. omega (arith, n))))
+put-runs-requires c κs = ((c .before .before .before .before .before .before .before .before .before .before .before .before .before .before .pre) .1 .0, (omega (arith, (c .before .before .before .put-items) .ensures .1, (c .before .before .before .before .before .before .before .before .before .before .before .before .before .before .pre) .1 .1)))
 
 same-length : tie.Need-same-length
 same-length c = search needs
@@ -41,10 +41,10 @@ returns c =
     let l0 = a .out .now in
     let l1 = (c .before .before .before .before .before .before .before .before .before .before .put-u32) .last .0 in
     let l2 = (c .before .before .before .before .before .before .put-items) .last .1 .1 .1 .0 in
-    let l3 = (c .before .before .put-runs) .last .1 .1 .1 .1 .0 in
+    let l3 = (c .before .before .put-runs) .last .1 .1 .0 in
     let k = length (a .firsts .now) in
     let bs = many (itemCode (a .kind)) (placed (a .kind) (a .table .now) (a .firsts .now)) in
-    let rs = runBytes 0 1 (spread 0 (a .ends .now) (a .nums .now)) in
+    let rs = numberRunSection (spread 0 (a .ends .now) (a .nums .now)) in
     let p = (c .before .before .before .before .before .before .put-items) .ensures in
     let r = (c .before .before .put-runs) .ensures in (
       omega (arith, sections-length (a .kind) (a .table .now) (a .firsts .now) (a .ends .now) (a .nums .now), p .0, r .0),

@@ -1,17 +1,16 @@
 -- `write_runs::put_each` meets its contract.
 use Prim.Native.Nat.{ℕ, _+_, _-_, _*_, _≤_, _<_, _^_}
 use mathlib.Core.Path.{_≡_, ap, sym, _∙_, refl}
-use mathlib.Core.List.{List, _++_}
+use mathlib.Core.List.{List}
 use native.Mathlib.Omega.{arith}
 use native.Mathlib.Decide.{ℕ-discrete}
 use lib.ListN.{length, getD, drop}
 use lib.Seq.{sets}
-use Rattle.fields.specs.Field.{be16}
 use Rattle.fields.specs.Stores.{put-next}
 use Rattle.encoding.specs.Codes.{many}
 use Rattle.encoding.specs.Runs.{Run, runs}
+use Rattle.encoding.specs.Sections.{runLessCode}
 use Rattle.write_runs.specs.Spread.{spread, Rise}
-use Rattle.write_runs.specs.RunCode.{lessCode}
 use Rattle.write_runs.proofs.Spread.{rise-few}
 use Rattle.write_runs.proofs.Laws.{run-step, runs-skipped, runs-taken, runs-done}
 use borrow.Author.Needs.{needs}
@@ -19,14 +18,14 @@ use Rattle.write_runs.proofs.put_each.Statement.{statement}
 use Rattle.write_runs.proofs.put_each.Tie as tie
 
 abbrev Inv-loop : tie.InvT-loop
-Inv-loop ends nums skip less out₀ to i₀ first₀ count₀ out i first count =
+Inv-loop ends nums out₀ to i₀ first₀ count₀ out i first count =
     (i ≤ length nums) × (length out ≡ length out₀) × (count ≤ i) × (length nums < 2 ^ 16)
     × ((n : ℕ) × Rise first (drop i ends) n)
-    × (count + length (runs ℕ-discrete skip first (spread first (drop i ends) (drop i nums))) ≡ length (runs ℕ-discrete skip 0 (spread 0 ends nums)))
-    × (sets out (to + 6 * count) (many (lessCode less) (runs ℕ-discrete skip first (spread first (drop i ends) (drop i nums)))) ≡ sets out₀ to (many (lessCode less) (runs ℕ-discrete skip 0 (spread 0 ends nums))))
+    × (count + length (runs ℕ-discrete 0 first (spread first (drop i ends) (drop i nums))) ≡ length (runs ℕ-discrete 0 0 (spread 0 ends nums)))
+    × (sets out (to + 6 * count) (many runLessCode (runs ℕ-discrete 0 first (spread first (drop i ends) (drop i nums)))) ≡ sets out₀ to (many runLessCode (runs ℕ-discrete 0 0 (spread 0 ends nums))))
 
 abbrev μ-loop : tie.MeasureT-loop
-μ-loop ends nums skip less out₀ to i₀ first₀ count₀ out i first count = length nums - i
+μ-loop ends nums out₀ to i₀ first₀ count₀ out i first count = length nums - i
 
 loop-holds : tie.Need-loop-holds Inv-loop μ-loop
 loop-holds c =
@@ -38,7 +37,7 @@ loop-holds c =
       omega (arith, s .few, s .each, rise-few ((c .before .before .before .args) .ends .now) 0 (s .last) (s .rise)),
       (s .last, s .rise),
       omega arith,
-      ap (λ (k : ℕ). sets ((c .before .before .before .args) .out .now) k (many (lessCode ((c .before .before .before .args) .less)) (runs ℕ-discrete ((c .before .before .before .args) .skip) 0 (spread 0 ((c .before .before .before .args) .ends .now) ((c .before .before .before .args) .nums .now))))) z,
+      ap (λ (k : ℕ). sets ((c .before .before .before .args) .out .now) k (many runLessCode (runs ℕ-discrete 0 0 (spread 0 ((c .before .before .before .args) .ends .now) ((c .before .before .before .args) .nums .now))))) z,
     )
 
 run-end-requires : tie.Need-run-end-requires Inv-loop μ-loop
@@ -68,35 +67,35 @@ loop-again c =
     let a = (c .before .before .before .before .before .before .before .before .before .args) in
     let t = (c .before .before .before .run-end) .ensures in
     let r = (c .before .before .before .run-end) .result in
-    let e = runs-skipped (a .skip) (a .ends .now) (a .nums .now) (l .i) r (l .first) (l .inv .4 .0) ((c .before .before .before .before .before .before .before .before .before .pre) .0 .each) t (l .inv .4 .1) ((c .if1) .taken) in
-    let w = run-step (a .skip) (a .ends .now) (a .nums .now) (l .i) r (l .first) (l .inv .4 .0) ((c .before .before .before .before .before .before .before .before .before .pre) .0 .each) t (l .inv .4 .1) in (
+    let e = runs-skipped 0 (a .ends .now) (a .nums .now) (l .i) r (l .first) (l .inv .4 .0) ((c .before .before .before .before .before .before .before .before .before .pre) .0 .each) t (l .inv .4 .1) ((c .if1) .taken) in
+    let w = run-step 0 (a .ends .now) (a .nums .now) (l .i) r (l .first) (l .inv .4 .0) ((c .before .before .before .before .before .before .before .before .before .pre) .0 .each) t (l .inv .4 .1) in (
       t .1,
       l .inv .1,
       omega (arith, t .0, l .inv .2),
       l .inv .3,
       (l .inv .4 .0, w .1),
       omega (arith, l .inv .5, ap length e),
-      ap (λ (rs : List (Run ℕ)). sets (l .out) (a .to + 6 * l .count) (many (lessCode (a .less)) rs)) (sym e) ∙ l .inv .6,
+      ap (λ (rs : List (Run ℕ)). sets (l .out) (a .to + 6 * l .count) (many runLessCode rs)) (sym e) ∙ l .inv .6,
     )
 
 mul-put-run : tie.Need-mul-put-run Inv-loop μ-loop
 mul-put-run c = omega (arith, (c .before .before .before .before .before .before .loop) .inv .2, (c .before .before .before .before .before .before .loop) .inv .0, (c .before .before .before .before .before .before .loop) .inv .3)
 
 add-put-run : tie.Need-add-put-run Inv-loop μ-loop
-add-put-run c = omega (arith, (c .before .before .before .before .before .before .loop) .inv .2, (c .before .before .before .before .before .before .loop) .inv .0, (c .before .before .before .before .before .before .loop) .inv .3, (c .before .before .before .before .before .before .before .before .before .before .pre) .1 .0)
+add-put-run c = omega (arith, (c .before .before .before .before .before .before .loop) .inv .2, (c .before .before .before .before .before .before .loop) .inv .0, (c .before .before .before .before .before .before .loop) .inv .3, (c .before .before .before .before .before .before .before .before .before .before .pre) .1)
 
 sub-put-run : tie.Need-sub-put-run Inv-loop μ-loop
 sub-put-run c =
     let l = (c .before .before .before .before .before .before .loop) in
     let a = (c .before .before .before .before .before .before .before .before .before .before .args) in
-    let w = run-step (a .skip) (a .ends .now) (a .nums .now) (l .i) ((c .before .before .before .before .run-end) .result) (l .first) (l .inv .4 .0) ((c .before .before .before .before .before .before .before .before .before .before .pre) .0 .each) ((c .before .before .before .before .run-end) .ensures) (l .inv .4 .1) in
+    let w = run-step 0 (a .ends .now) (a .nums .now) (l .i) ((c .before .before .before .before .run-end) .result) (l .first) (l .inv .4 .0) ((c .before .before .before .before .before .before .before .before .before .before .pre) .0 .each) ((c .before .before .before .before .run-end) .ensures) (l .inv .4 .1) in
     omega (arith, w .0)
 
 sub-put-run-2 : tie.Need-sub-put-run-2 Inv-loop μ-loop
-sub-put-run-2 c = (c .before .before .before .before .before .before .before .before .before .before .pre) .1 .1 _ ((c .before .if1) .left)
+sub-put-run-2 c = omega (arith, (c .before .if1) .left)
 
 put-run-requires : tie.Need-put-run-requires Inv-loop μ-loop
-put-run-requires c κs = omega (arith, (c .before .before .before .before .before .before .loop) .inv .2, (c .before .before .before .before .before .before .loop) .inv .0, (c .before .before .before .before .before .before .loop) .inv .3, (c .before .before .before .before .before .before .before .before .before .before .pre) .1 .0)
+put-run-requires c κs = omega (arith, (c .before .before .before .before .before .before .loop) .inv .2, (c .before .before .before .before .before .before .loop) .inv .0, (c .before .before .before .before .before .before .loop) .inv .3, (c .before .before .before .before .before .before .before .before .before .before .pre) .1)
 
 add-count : tie.Need-add-count Inv-loop μ-loop
 add-count c = omega (arith, (c .before .before .before .before .before .before .before .before .before .loop) .inv .2, (c .before .before .before .before .before .before .before .before .before .loop) .inv .0, (c .before .before .before .before .before .before .before .before .before .loop) .inv .3)
@@ -113,9 +112,8 @@ loop-again-2 c =
     let t = (c .before .before .before .before .before .before .before .run-end) .ensures in
     let r = (c .before .before .before .before .before .before .before .run-end) .result in
     let p : ℕ = getD es (r - 1) 0 in
-    let e = runs-taken (a .skip) es xs (l .i) r (l .first) (l .inv .4 .0) ((c .before .before .before .before .before .before .before .before .before .before .before .before .before .pre) .0 .each) t (l .inv .4 .1) ((c .before .before .before .before .if1) .left) in
-    let w = run-step (a .skip) es xs (l .i) r (l .first) (l .inv .4 .0) ((c .before .before .before .before .before .before .before .before .before .before .before .before .before .pre) .0 .each) t (l .inv .4 .1) in
-    let z : getD xs (l .i) 0 - a .less - 0 ≡ getD xs (l .i) 0 - a .less = omega arith in
+    let e = runs-taken 0 es xs (l .i) r (l .first) (l .inv .4 .0) ((c .before .before .before .before .before .before .before .before .before .before .before .before .before .pre) .0 .each) t (l .inv .4 .1) ((c .before .before .before .before .if1) .left) in
+    let w = run-step 0 es xs (l .i) r (l .first) (l .inv .4 .0) ((c .before .before .before .before .before .before .before .before .before .before .before .before .before .pre) .0 .each) t (l .inv .4 .1) in
     let j : a .to + 6 * (l .count + 1) ≡ a .to + 6 * l .count + 6 = omega arith in
     let run : Run ℕ = record { first = l .first; last = p - 1; value = getD xs (l .i) 0 } in (
       t .1,
@@ -124,8 +122,8 @@ loop-again-2 c =
       l .inv .3,
       (l .inv .4 .0, w .1),
       omega (arith, l .inv .5, ap length e),
-      put-next (lessCode (a .less) run) (many (lessCode (a .less)) (runs ℕ-discrete (a .skip) p (spread p (drop r es) (drop r xs)))) (many (lessCode (a .less)) (runs ℕ-discrete (a .skip) (l .first) (spread (l .first) (drop (l .i) es) (drop (l .i) xs)))) (l .out) ((c .before .before .put-run) .last .0) _ (a .to + 6 * l .count) (a .to + 6 * (l .count + 1))
-          (ap (many (lessCode (a .less))) e) j ((c .before .before .put-run) .ensures ∙ ap (λ (v : ℕ). sets (l .out) (a .to + 6 * l .count) (be16 (l .first) ++ be16 (p - 1) ++ be16 v)) z) (l .inv .6),
+      put-next (runLessCode run) (many runLessCode (runs ℕ-discrete 0 p (spread p (drop r es) (drop r xs)))) (many runLessCode (runs ℕ-discrete 0 (l .first) (spread (l .first) (drop (l .i) es) (drop (l .i) xs)))) (l .out) ((c .before .before .put-run) .last .0) _ (a .to + 6 * l .count) (a .to + 6 * (l .count + 1))
+          (ap (many runLessCode) e) j ((c .before .before .put-run) .ensures) (l .inv .6),
     )
 
 same-length : tie.Need-same-length Inv-loop μ-loop
@@ -135,10 +133,10 @@ returns : tie.Need-returns Inv-loop μ-loop
 returns c =
     let l = (c .before .loop) in
     let a = (c .before .before .before .before .before .args) in
-    let e = runs-done (a .skip) (a .ends .now) (a .nums .now) (l .i) (l .first) ((c .before .before .before .before .before .pre) .0 .each) (omega arith) in (
+    let e = runs-done 0 (a .ends .now) (a .nums .now) (l .i) (l .first) ((c .before .before .before .before .before .pre) .0 .each) (omega arith) in (
       omega (arith, l .inv .5, ap length e),
       omega (arith, l .inv .2, l .inv .0, l .inv .3),
-      ap (λ (rs : List (Run ℕ)). sets (l .out) (a .to + 6 * l .count) (many (lessCode (a .less)) rs)) (sym e) ∙ l .inv .6,
+      ap (λ (rs : List (Run ℕ)). sets (l .out) (a .to + 6 * l .count) (many runLessCode rs)) (sym e) ∙ l .inv .6,
     )
 
 pub put-each-spec : {M : Type 1} → statement M

@@ -1,11 +1,10 @@
 -- `write_runs::put_run` meets its contract.
 use Rattle.fields.specs.Stores.{put-two}
 use Rattle.fields.specs.Field.{be16}
-use lib.Seq.{sets}
 use native.Mathlib.Omega.{arith}
 use mathlib.Core.List.{_++_}
-use mathlib.Core.Path.{_≡_, ap, _∙_, refl}
-use Prim.Native.Nat.{ℕ, _+_, _-_}
+use mathlib.Core.Path.{refl}
+use Prim.Native.Nat.{_+_}
 use borrow.Author.Needs.{needs}
 use Rattle.write_runs.proofs.put_run.Statement.{statement}
 use Rattle.write_runs.proofs.put_run.Tie as tie
@@ -31,10 +30,8 @@ same-length c = search needs
 returns : tie.Need-returns
 returns c =
     let a = (c .before .before .before .before .before .before .before .before .before .before .before .before .before .args) in
-    let e : a .value ≡ a .value - 0 = omega arith in
     put-two (be16 (a .first)) (be16 (a .last) ++ be16 (a .value)) (a .out .now) (c .before .before .before .before .before .before .before .before .before .before .put-u16 .last .0) (c .before .before .put-u163 .last .0) (a .to) (a .to + 2) refl (c .before .before .before .before .before .before .before .before .before .before .put-u16 .ensures)
     (put-two (be16 (a .last)) (be16 (a .value)) (c .before .before .before .before .before .before .before .before .before .before .put-u16 .last .0) (c .before .before .before .before .before .before .put-u162 .last .0) (c .before .before .put-u163 .last .0) (a .to + 2) (a .to + 4) (omega arith) (c .before .before .before .before .before .before .put-u162 .ensures) (c .before .before .put-u163 .ensures))
-    ∙ ap (λ (v : ℕ). sets (a .out .now) (a .to) (be16 (a .first) ++ be16 (a .last) ++ be16 v)) e
 
 pub put-run-spec : {M : Type 1} → statement M
 put-run-spec =

@@ -1,7 +1,11 @@
 -- `write_runs::put_runs` meets its contract.
+use mathlib.Core.Path.{refl}
+use native.Mathlib.Decide.{ℕ-discrete}
 use native.Mathlib.Omega.{arith}
+use Rattle.encoding.specs.Runs.{runs}
+use Rattle.encoding.specs.Sections.{runLessCode}
 use Rattle.write_runs.specs.Spread.{spread}
-use Rattle.write_runs.proofs.Laws.{run-bytes, section-stored}
+use Rattle.write_runs.proofs.Laws.{section-length, section-stored}
 use borrow.Author.Needs.{needs}
 use Rattle.write_runs.proofs.put_runs.Statement.{statement}
 use Rattle.write_runs.proofs.put_runs.Tie as tie
@@ -33,11 +37,11 @@ same-length c = search needs
 returns : tie.Need-returns
 returns c =
     let a = (c .before .before .before .before .before .before .before .before .before .before .before .args) in
-    let xs = spread 0 (a .ends .now) (a .nums .now) in
+    let rs = runs ℕ-discrete 0 0 (spread 0 (a .ends .now) (a .nums .now)) in
     let n = (c .before .before .before .before .before .before .put-each) in (
-      omega (arith, n .ensures .0, run-bytes (a .skip) (a .less) xs),
+      omega (arith, n .ensures .0, section-length runLessCode rs (λ r. refl)),
       omega (arith, n .ensures .1),
-      section-stored (a .skip) (a .less) xs (a .out .now) (n .last .1 .1 .1 .1 .0) _ (a .to) (n .result) (n .ensures .0) (n .ensures .2) ((c .before .before .put-u32) .ensures),
+      section-stored runLessCode rs (a .out .now) (n .last .1 .1 .0) _ (a .to) (n .result) (n .ensures .0) (n .ensures .2) ((c .before .before .put-u32) .ensures),
     )
 
 pub put-runs-spec : {M : Type 1} → statement M
