@@ -1,7 +1,7 @@
 // The parts of a table's meaning (document 01, "The sheet"), asked for one at a time, and a component list as that
-// very stretch of the table ("The table"). What is named .._of reads a table that was accepted before, or any other
-// bytes as if they were one. What is named ask_.. judges the table first, and may refuse; a component list is never
-// refused, but empty.
+// very stretch of the table ("The table"). What is named ask_.. judges the table first, and may refuse; a component
+// list is never refused, but empty. What serves the line besides (machine_in, lookup_in, spot_by) reads a table that
+// was judged before.
 ghost use mathlib.Core.Path.{_≡_};
 ghost use Prim.Native.Nat.{_<_, _^_};
 ghost use Rattle.meaning.specs.Ask.{maybe, pair, recordOf, ask, glyphCount, sizes, class, cell, width, action, along};
@@ -42,7 +42,7 @@ pub fn machine_in(table: &[u8], direction: Direction) -> usize
 }
 
 // The row count and the class count of a direction's machine.
-pub fn sizes_of(table: &[u8], count: u32, direction: Direction) -> SizesAnswer
+fn sizes_of(table: &[u8], count: u32, direction: Direction) -> SizesAnswer
     ensures { λ r. ⌜ saysSizes r ≡ given (ask (meaningOf (now (table .entry)) count) (along direction sizes)) ⌝ }
 {
     let offset = machine_in(table, direction);
@@ -58,7 +58,7 @@ pub fn sizes_of(table: &[u8], count: u32, direction: Direction) -> SizesAnswer
 }
 
 // The class of a glyph in a direction.
-pub fn class_of(table: &[u8], count: u32, direction: Direction, glyph: u16) -> ClassAnswer
+fn class_of(table: &[u8], count: u32, direction: Direction, glyph: u16) -> ClassAnswer
     ensures { λ r. ⌜ saysClass r ≡ given (ask (meaningOf (now (table .entry)) count) (along direction (class glyph))) ⌝ }
 {
     if count <= glyph as u32 {
@@ -72,7 +72,7 @@ pub fn class_of(table: &[u8], count: u32, direction: Direction, glyph: u16) -> C
 }
 
 // What the cell of a row and a class holds in a direction.
-pub fn cell_of(table: &[u8], count: u32, direction: Direction, row: u16, class: u16) -> CellAnswer
+fn cell_of(table: &[u8], count: u32, direction: Direction, row: u16, class: u16) -> CellAnswer
     ensures { λ r. ⌜ saysCell r ≡ given (ask (meaningOf (now (table .entry)) count) (along direction (cell row class))) ⌝ }
 {
     let offset = machine_in(table, direction);
@@ -142,13 +142,7 @@ fn record_at(table: &[u8], at: usize, class: u8) -> RecordAnswer
 }
 
 // The width record of a glyph and a class in a direction.
-pub fn record_of(
-    table: &[u8],
-    count: u32,
-    direction: Direction,
-    glyph: u16,
-    class: u8,
-) -> RecordAnswer
+fn record_of(table: &[u8], count: u32, direction: Direction, glyph: u16, class: u8) -> RecordAnswer
     requires { ⌜ tableFault (now table) count ≡ Clear ⌝ }
     ensures { λ r. ⌜ saysRecord r ≡ given (ask (meaningOf (now (table .entry)) count) (along direction (width glyph class))) ⌝ }
 {
@@ -159,7 +153,7 @@ pub fn record_of(
 }
 
 // Where the action of a glyph with a number stands in a direction.
-pub fn action_spot(table: &[u8], count: u32, direction: Direction, glyph: u16, number: u16) -> Spot
+fn action_spot(table: &[u8], count: u32, direction: Direction, glyph: u16, number: u16) -> Spot
     requires { ⌜ tableFault (now table) count ≡ Clear ⌝ }
     ensures { λ r. ⌜ (r ≡ actionSpot (now (table .entry)) count direction glyph number) × Below (2 ^ 50) r ⌝ }
 {
@@ -171,7 +165,7 @@ pub fn action_spot(table: &[u8], count: u32, direction: Direction, glyph: u16, n
 
 // The action of a glyph with a number in a direction. Data of more than 76 bytes, which no action of an accepted
 // table has, is cut there.
-pub fn action_of(
+fn action_of(
     table: &[u8],
     count: u32,
     direction: Direction,
