@@ -1,0 +1,10 @@
+pub mod Stands
+pub mod Cluster
+pub mod Actions
+pub mod Rows
+pub mod Wide
+pub mod Tall
+pub mod Lookup
+pub mod Tails
+pub mod Bytes
+pub mod Theorem
