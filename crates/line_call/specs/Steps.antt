@@ -5,7 +5,7 @@ use mathlib.Core.Path.{_≡_}
 use mathlib.Core.Bool.{false, cond, _&&_}
 use mathlib.Core.List.{List, [], _∷_}
 use lib.Dec.{leb}
-use lib.IntN.{ℤ, natAbs}
+use lib.IntN.{ℤ}
 use lib.ListN.{length}
 use Rattle.fields.specs.declared.Refusal.the-variants.{ShortRoom}
 use Rattle.fields.specs.declared.Fault.{Fault}
@@ -16,7 +16,8 @@ use Rattle.types.specs.declared.Verdict.{Verdict}
 use Rattle.meaning.specs.Meaning.{Side}
 use Rattle.share.specs.Line.{sumℤ}
 use Rattle.table.specs.Table.{tableFault}
-use Rattle.line_rule.specs.Line.{Line, shrinks, gapSize, walkOf, classesOf, entriesOf, beforeOf, afterOf, remainderOf}
+use Rattle.line_rule.specs.Line.{Line, gapOf, walkOf, classesOf, entriesOf, beforeOf, afterOf, remainderOf}
+use Rattle.line_moves.specs.Parts.{inUnits}
 use Rattle.line_call.specs.declared.LineAnswer.the-variants.{Justified, Refused}
 use Rattle.line_call.specs.declared.Settled.{Settled}
 use Rattle.line_call.specs.declared.Sum.{Sum}
@@ -41,10 +42,10 @@ measuredLine advances target =
     record { direction = Horizontal; starts = false; ends = false; size = 0; glyphs = []; advances = advances; target = target }
 
 abbrev pub sumIn : List ℤ → Sum
-sumIn advances = cond (noneNegative advances && within (sumℤ advances)) (sum.Total (natAbs (sumℤ advances))) sum.Unfit
+sumIn advances = cond (noneNegative advances && within (sumℤ advances)) (sum.Total (inUnits (sumℤ advances))) sum.Unfit
 
 unfoldable pub gapIn : Line → Gap
-gapIn l = cond (goodAdvances l) (gap.Of (shrinks l) (gapSize l)) gap.Unfit
+gapIn l = cond (goodAdvances l) (gap.Of (inUnits (gapOf l))) gap.Unfit
 
 -- ---- 12 to 15
 

@@ -20,6 +20,7 @@ use fields::Fault;
 use fields::Refusal;
 use line_moves::Shared;
 use line_rule::LineShape;
+use units::Units;
 
 // What a line's call answers: the remainder in units, the count of entries that the class walk took, and the count
 // of verdicts; or the refusal alone.
@@ -40,13 +41,13 @@ pub struct Settled {
 
 // The sum of advances, or that they may not be.
 enum Sum {
-    Total(u64),
+    Total(Units),
     Unfit,
 }
 
-// A line's gap: whether the line shrinks, and the gap's size; or that advances and target may not be.
+// A line's gap, negative where the line shrinks; or that advances and target may not be.
 enum Gap {
-    Of { shrinks: bool, size: u64 },
+    Of(Units),
     Unfit,
 }
 
@@ -136,7 +137,7 @@ fn sum_of(advances: &[i32]) -> Sum
         }
         i += 1;
     }
-    Sum::Total(sum)
+    Sum::Total(Units(sum as i64))
 }
 
 // The gap, unless refusal 12 bars the line.
@@ -149,20 +150,10 @@ fn gap_of(advances: &[i32], target: i32) -> Gap
     if target < 0 {
         return Gap::Unfit;
     }
-    let aim = target as u64;
-    if MOST < aim {
+    if MOST < target as u64 {
         return Gap::Unfit;
     }
-    if aim < sum {
-        return Gap::Of {
-            shrinks: true,
-            size: sum - aim,
-        };
-    }
-    Gap::Of {
-        shrinks: false,
-        size: aim - sum,
-    }
+    Gap::Of(Units((target as i64) - sum.0))
 }
 
 // Whether a glyph is one of the font's, or deleted.
@@ -233,7 +224,7 @@ fn work_out(
         r (now (held .exit)) (now (befores .exit)) (now (afters .exit))
         ⌝ }
 {
-    let Gap::Of { shrinks, size: gap } = gap_of(advances, shape.target) else {
+    let Gap::Of(gap) = gap_of(advances, shape.target) else {
         return Worked::Bad(Refusal::Advances);
     };
     if all_known(count, glyphs) {
@@ -246,7 +237,6 @@ fn work_out(
                 table,
                 count,
                 shape,
-                shrinks,
                 gap,
                 glyphs,
                 held,
@@ -257,7 +247,7 @@ fn work_out(
                 return Worked::Bad(Refusal::StageTotal);
             };
             return Worked::Done {
-                remainder,
+                remainder: remainder.0 as i32,
                 entries: walked.count,
             };
         }

@@ -1,15 +1,24 @@
 -- From parts that stand in four lists to a gap that is shared.
-use Prim.Native.Nat.{ℕ, _≤_}
+use Prim.Native.Nat.{ℕ, suc, _+_, _≤_, _<_}
 use mathlib.Core.Path.{_≡_, refl, sym, ap, _∙_, subst}
 use mathlib.Core.Bool.{Bool, true, false, cond}
 use mathlib.Core.List.{List, map}
 use native.Mathlib.Omega.{arith}
-use lib.IntN.{ℤ}
+use lib.IntN.{ℤ, pos, negsuc, natAbs, _-ℤ_}
+use lib.Dec.{T}
+use lib.Signed.{ltZ, nonNeg}
+use mir.Syntax.{w32, w64}
+use mir.Val.{Fits, SFits, toZ, ofZ}
+use mir.ValLaws.{toZ-ofZ}
 use lib.ListN.{length, length-map}
+use borrow.Author.Tests.{ltb-true}
+use Rattle.meaning.specs.Meaning.{Side}
+use Rattle.line_rule.specs.Line.{partsOf}
 use Rattle.share.specs.Line.{Glyph, Narrow, glyphsOf, Lent, Parts, lineLeft, lineFits, beforeMoves, afterMoves, signedOf}
 use Rattle.share.proofs.Lines.{glyphsOf-parts, line-sum}
+use Rattle.line_moves.specs.declared.Shared.{Shared}
 use Rattle.line_moves.specs.declared.Shared.the-variants.{Left, Over}
-use Rattle.line_moves.specs.Parts.{Laid, SharedOut}
+use Rattle.line_moves.specs.Parts.{Laid, inUnits, SharedOut, SharedGap}
 
 module _ {ps : List Glyph} {ks us bs cs : List ℕ} (w : Laid ps ks us bs cs) where
   laid-narrow : {xs : List ℕ} (f : Glyph → ℕ) → xs ≡ map f ps → Narrow (map f ps) → Narrow xs
@@ -62,12 +71,12 @@ left-small ps gap = omega (arith, line-sum ps gap)
 
 module _ (shrink : Bool) (gap : ℕ) (ps qs : List Glyph) (same : qs ≡ ps) (bs fs : List ℤ) where
   pub shared-left : {z : ℤ} {bs′ fs′ : List ℤ} → lineFits ps ≡ true → z ≡ signedOf shrink (lineLeft qs gap) → bs′ ≡ map (signedOf shrink) (beforeMoves qs gap)
-      → fs′ ≡ map (signedOf shrink) (afterMoves qs gap) → SharedOut shrink gap ps bs fs (Left z) bs′ fs′
+      → fs′ ≡ map (signedOf shrink) (afterMoves qs gap) → SharedOut shrink gap ps bs fs (Left (inUnits z)) bs′ fs′
   shared-left {z} {bs′} {fs′} fits e b f =
       record {
         answer =
-            ap Left (e ∙ ap (λ (x : List Glyph). signedOf shrink (lineLeft x gap)) same)
-            ∙ ap (λ (t : Bool). cond t (Left (signedOf shrink (lineLeft ps gap))) Over) (sym fits);
+            ap (λ (x : ℤ). Left (inUnits x)) (e ∙ ap (λ (x : List Glyph). signedOf shrink (lineLeft x gap)) same)
+            ∙ ap (λ (t : Bool). cond t (Left (inUnits (signedOf shrink (lineLeft ps gap)))) Over) (sym fits);
         before =
             b
             ∙ ap (λ (x : List Glyph). map (signedOf shrink) (beforeMoves x gap)) same
@@ -81,7 +90,60 @@ module _ (shrink : Bool) (gap : ℕ) (ps qs : List Glyph) (same : qs ≡ ps) (bs
 pub shared-over : (shrink : Bool) (gap : ℕ) (ps : List Glyph) (bs fs : List ℤ) → lineFits ps ≡ false → SharedOut shrink gap ps bs fs Over bs fs
 shared-over shrink gap ps bs fs e =
     record {
-      answer = ap (λ (t : Bool). cond t (Left (signedOf shrink (lineLeft ps gap))) Over) (sym e);
+      answer = ap (λ (t : Bool). cond t (Left (inUnits (signedOf shrink (lineLeft ps gap)))) Over) (sym e);
       before = ap (λ (t : Bool). cond t (map (signedOf shrink) (beforeMoves ps gap)) bs) (sym e);
       after = ap (λ (t : Bool). cond t (map (signedOf shrink) (afterMoves ps gap)) fs) (sym e);
     }
+
+-- ---- the gap's sign
+
+-- by the gap's sign and its size, as the code found them
+pub by-sign : (gap : ℤ) {b : Bool} {n : ℕ} (s : Side) (size : ℕ) (glyphs classes : List ℕ) {bs fs bs′ fs′ : List ℤ} {sh : Shared} → b ≡ ltZ gap (pos 0) → n ≡ natAbs gap
+    → SharedOut b n (partsOf s b size glyphs classes) bs fs sh bs′ fs′ → SharedGap gap s size glyphs classes bs fs sh bs′ fs′
+by-sign gap {b} {n} s size glyphs classes {bs} {fs} {bs′} {fs′} {sh} eb en w =
+    subst (λ (x : Bool). SharedOut x (natAbs gap) (partsOf s x size glyphs classes) bs fs sh bs′ fs′) eb
+    (subst (λ (x : ℕ). SharedOut b x (partsOf s b size glyphs classes) bs fs sh bs′ fs′) en w)
+
+-- a gap as it is read, and its size
+module _ (z : ℤ) (h : natAbs z ≤ 1073741823) (fits : SFits w64 z) where
+  read : toZ w64 (ofZ w64 z) ≡ z
+  read = toZ-ofZ w64 z fits
+
+  pub not-negative : ltZ (toZ w64 (ofZ w64 z)) (pos 0) ≡ false → z ≡ pos (natAbs z)
+  not-negative e = go z (rw read at e)
+    where
+      go : (z : ℤ) → ltZ z (pos 0) ≡ false → z ≡ pos (natAbs z)
+      go (pos a) e = refl
+      go (negsuc a) e = let x : _≡_ {A = ℕ} 0 1 = cc in absurd (omega arith)
+
+  module _ (e : ltZ (toZ w64 (ofZ w64 z)) (pos 0) ≡ true) where
+    pub turned-fits : SFits w64 (pos 0 -ℤ toZ w64 (ofZ w64 z))
+    turned-fits = rw read (go z h (rw read at e))
+      where
+        go : (z : ℤ) → natAbs z ≤ 1073741823 → ltZ z (pos 0) ≡ true → SFits w64 (pos 0 -ℤ z)
+        go (pos a) h e = let l : a < 0 = ltb-true a 0 e in absurd (omega arith)
+        go (negsuc a) h e = record { sfits = omega arith }
+
+    turned : toZ w64 (ofZ w64 (pos 0 -ℤ toZ w64 (ofZ w64 z))) ≡ pos (natAbs z)
+    turned = toZ-ofZ w64 _ turned-fits ∙ ap (λ (x : ℤ). pos 0 -ℤ x) read ∙ go z (rw read at e)
+      where
+        go : (z : ℤ) → ltZ z (pos 0) ≡ true → pos 0 -ℤ z ≡ pos (natAbs z)
+        go (pos a) e = let l : a < 0 = ltb-true a 0 e in absurd (omega arith)
+        go (negsuc a) e = let d : 0 + suc a ≡ suc a = omega arith in ap pos d
+
+    pub turned-plain : T (nonNeg (toZ w64 (ofZ w64 (pos 0 -ℤ toZ w64 (ofZ w64 z))))) × Fits w64 (natAbs (toZ w64 (ofZ w64 (pos 0 -ℤ toZ w64 (ofZ w64 z)))))
+    turned-plain = rw turned (tt, record { fits = omega (arith, h) })
+
+    pub turned-size : natAbs (toZ w64 (ofZ w64 (pos 0 -ℤ toZ w64 (ofZ w64 z)))) ≡ natAbs z
+    turned-size = ap natAbs turned
+
+-- a remainder of 32 bits, as 64 hold it
+module _ (z : ℤ) (f : SFits w32 z) where
+  wide : SFits w64 z
+  wide = record { sfits = omega (arith, f .sfits) }
+
+  pub wide-fits : SFits w64 (toZ w32 (ofZ w32 z))
+  wide-fits = subst (SFits w64) (sym (toZ-ofZ w32 z f)) wide
+
+  pub widened : toZ w64 (ofZ w64 (toZ w32 (ofZ w32 z))) ≡ z
+  widened = ap (λ (y : ℤ). toZ w64 (ofZ w64 y)) (toZ-ofZ w32 z f) ∙ toZ-ofZ w64 z wide

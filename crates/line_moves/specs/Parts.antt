@@ -8,11 +8,14 @@ use mathlib.Core.Option.{Option, none, some}
 use mathlib.Core.List.{List, [], map}
 use lib.IntN.{ℤ, pos, natAbs}
 use lib.ListN.{length, getD}
+use lib.Signed.{ltZ}
 use Rattle.types.specs.declared.Direction.the-variants.{Horizontal}
 use Rattle.types.specs.declared.Pair.{Pair}
+use Rattle.units.specs.declared.Units.{Units}
+use Rattle.meaning.specs.Meaning.{Side}
 use Rattle.meaning.specs.Limits.{OkLimits}
 use Rattle.share.specs.Line.{Glyph, lineLeft, lineFits, beforeMoves, afterMoves, signedOf}
-use Rattle.line_rule.specs.Line.{Line}
+use Rattle.line_rule.specs.Line.{Line, partsOf}
 use Rattle.line_moves.specs.declared.Part.{Part}
 use Rattle.line_moves.specs.declared.Shared.{Shared}
 use Rattle.line_moves.specs.declared.Shared.the-variants.{Left, Over}
@@ -57,12 +60,20 @@ pub record Laid (gs : List Glyph) (ks us bs cs : List ℕ) : Type 0 where
   pub first : bs ≡ map (λ (g : Glyph). g .before) gs
   pub second : cs ≡ map (λ (g : Glyph). g .after) gs
 
--- a gap shared over the sides of glyphs with these parts: the remainder and the movements, all with the gap's sign; where a stage's total is above the most that it may
--- be, the movements stay as they were
+-- a distance as the code has it
+abbrev pub inUnits : ℤ → Units
+inUnits z = record { 0 = z }
+
+-- a gap, given as its size, shared over the sides of glyphs with these parts: the remainder and the movements, all with the gap's sign; where a stage's total is above
+-- the most that it may be, the movements stay as they were
 abbrev pub sharedOf : Bool → ℕ → List Glyph → Shared
-sharedOf shrink gap gs = cond (lineFits gs) (Left (signedOf shrink (lineLeft gs gap))) Over
+sharedOf shrink gap gs = cond (lineFits gs) (Left (inUnits (signedOf shrink (lineLeft gs gap)))) Over
 
 pub record SharedOut (shrink : Bool) (gap : ℕ) (gs : List Glyph) (bs fs : List ℤ) (shared : Shared) (bs′ fs′ : List ℤ) : Type 0 where
   pub answer : shared ≡ sharedOf shrink gap gs
   pub before : bs′ ≡ cond (lineFits gs) (map (signedOf shrink) (beforeMoves gs gap)) bs
   pub after : fs′ ≡ cond (lineFits gs) (map (signedOf shrink) (afterMoves gs gap)) fs
+
+-- a gap with its sign, shared over the sides of glyphs of these classes
+abbrev pub SharedGap : ℤ → Side → ℕ → List ℕ → List ℕ → List ℤ → List ℤ → Shared → List ℤ → List ℤ → Type 0
+SharedGap gap s size glyphs classes = SharedOut (ltZ gap (pos 0)) (natAbs gap) (partsOf s (ltZ gap (pos 0)) size glyphs classes)

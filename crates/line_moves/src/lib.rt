@@ -4,6 +4,7 @@ ghost use mathlib.Core.Path.{_≡_};
 ghost use mathlib.Core.Bool.{cond};
 ghost use Prim.Native.Nat.{_≤_};
 ghost use lib.IntN.{pos, natAbs};
+ghost use lib.Signed.{ltZ};
 ghost use lib.ListN.{length};
 ghost use Rattle.fields.specs.declared.Fault.the-variants.{Clear};
 ghost use Rattle.units.specs.Flags.{isUnlimited};
@@ -15,7 +16,7 @@ ghost use Rattle.table.specs.Means.{meaningOf};
 ghost use Rattle.table_ask.specs.Places.{lookupIn, Readable};
 ghost use Rattle.class_walk.specs.Line.{handedOut};
 ghost use Rattle.line_rule.specs.Line.{walkOf, recordFor, unitsOf, stageOf, partBy, partOf, partsOf};
-ghost use Rattle.line_moves.specs.Parts.{Known, bareLine, Small, IsSize, PartOf, Laid, Room, SharedOut};
+ghost use Rattle.line_moves.specs.Parts.{Known, bareLine, Small, IsSize, PartOf, Laid, Room, SharedGap};
 use actions::Spot;
 use class_walk::Walked;
 use cluster::Sought;
@@ -38,7 +39,7 @@ struct Part {
 // The remainder of a gap that was shared, with the gap's sign; or that a stage's total is above the most that it
 // may be.
 pub enum Shared {
-    Left(i32),
+    Left(Units),
     Over,
 }
 
@@ -139,6 +140,25 @@ fn plain(factor: Units) -> u64
     factor.0 as u64
 }
 
+// Whether a line with this gap shrinks.
+fn shrinks(gap: Units) -> bool
+    ensures { λ r. ⌜ r ≡ ltZ (gap .0) (pos 0) ⌝ }
+{
+    gap.0 < 0
+}
+
+// A gap without its sign, as the plain number that crate share works with.
+fn size_of(gap: Units) -> u64
+    requires { ⌜ natAbs (gap .0) ≤ 1073741823 ⌝ }
+    ensures { λ r. ⌜ r ≡ natAbs (gap .0) ⌝ }
+{
+    let units = gap.0;
+    if units < 0 {
+        return (-units) as u64;
+    }
+    units as u64
+}
+
 // A glyph's width record for its class, by the lookup of its direction's clusters.
 fn record_for(
     table: &[u8],
@@ -189,14 +209,13 @@ fn lay_parts(
     }
 }
 
-// The gap, given as its size, shared over the sides of a line's glyphs, unless refusal 15 bars it; the first four
-// lent slices are room for the parts.
+// A gap shared over the sides of a line's glyphs, unless refusal 15 bars it; the first four lent slices are room for
+// the parts.
 fn share_parts(
     table: &[u8],
     count: u32,
     shape: LineShape,
-    shrink: bool,
-    gap: u64,
+    gap: Units,
     glyphs: &[u16],
     classes: &[u8],
     priorities: &mut [u8],
@@ -208,9 +227,10 @@ fn share_parts(
 ) -> Shared
     requires { ⌜ (tableFault (now table) count ≡ Clear) × (length (now classes) ≡ length (now glyphs)) ⌝ }
     requires { ⌜ Room (length (now glyphs)) (now priorities) (now extras) (now first) (now second) ⌝ }
-    requires { ⌜ (length (now before) ≡ length (now glyphs)) × (length (now after) ≡ length (now glyphs)) × (length (now glyphs) ≤ 1024) × (gap ≤ 1073741823) × (shape .size ≤ 67108864) ⌝ }
-    ensures { λ r. ⌜ SharedOut shrink gap (partsOf (sideOf (shape .direction) (meaningOf (now (table .entry)) count)) shrink (shape .size) (now (glyphs .entry)) (now (classes .entry))) (now (before .entry)) (now (after .entry)) r (now (before .exit)) (now (after .exit)) ⌝ }
+    requires { ⌜ (length (now before) ≡ length (now glyphs)) × (length (now after) ≡ length (now glyphs)) × (length (now glyphs) ≤ 1024) × (natAbs (gap .0) ≤ 1073741823) × (shape .size ≤ 67108864) ⌝ }
+    ensures { λ r. ⌜ SharedGap (gap .0) (sideOf (shape .direction) (meaningOf (now (table .entry)) count)) (shape .size) (now (glyphs .entry)) (now (classes .entry)) (now (before .entry)) (now (after .entry)) r (now (before .exit)) (now (after .exit)) ⌝ }
 {
+    let shrink = shrinks(gap);
     lay_parts(
         table,
         count,
@@ -227,7 +247,7 @@ fn share_parts(
     if share::totals_fit(totals) {
         let left = share::share_line(
             shrink,
-            gap,
+            size_of(gap),
             totals,
             priorities,
             extras,
@@ -236,66 +256,49 @@ fn share_parts(
             before,
             after,
         );
-        return Shared::Left(share::signed(shrink, left));
+        let remainder = share::signed(shrink, left);
+        return Shared::Left(Units(remainder as i64));
     }
     Shared::Over
 }
 
-// The same over a room of its own for 128 glyphs.
-fn share_short(
+// A gap shared over the sides of a line's glyphs, unless refusal 15 bars it: the signed movements of each glyph go into
+// `before` and `after`. Most lines are short, and less room is sooner cleared.
+pub fn share_glyphs(
     table: &[u8],
     count: u32,
     shape: LineShape,
-    shrink: bool,
-    gap: u64,
+    gap: Units,
     glyphs: &[u16],
     classes: &[u8],
     before: &mut [i32],
     after: &mut [i32],
 ) -> Shared
     requires { ⌜ (tableFault (now table) count ≡ Clear) × (length (now classes) ≡ length (now glyphs)) ⌝ }
-    requires { ⌜ (length (now before) ≡ length (now glyphs)) × (length (now after) ≡ length (now glyphs)) × (length (now glyphs) ≤ 128) × (gap ≤ 1073741823) × (shape .size ≤ 67108864) ⌝ }
-    ensures { λ r. ⌜ SharedOut shrink gap (partsOf (sideOf (shape .direction) (meaningOf (now (table .entry)) count)) shrink (shape .size) (now (glyphs .entry)) (now (classes .entry))) (now (before .entry)) (now (after .entry)) r (now (before .exit)) (now (after .exit)) ⌝ }
+    requires { ⌜ (length (now before) ≡ length (now glyphs)) × (length (now after) ≡ length (now glyphs)) × (length (now glyphs) ≤ 1024) × (natAbs (gap .0) ≤ 1073741823) × (shape .size ≤ 67108864) ⌝ }
+    ensures { λ r. ⌜ SharedGap (gap .0) (sideOf (shape .direction) (meaningOf (now (table .entry)) count)) (shape .size) (now (glyphs .entry)) (now (classes .entry)) (now (before .entry)) (now (after .entry)) r (now (before .exit)) (now (after .exit)) ⌝ }
 {
     let n = glyphs.len();
-    let mut priorities = [0u8; 128];
-    let mut extras = [0u8; 128];
-    let mut first = [0u64; 128];
-    let mut second = [0u64; 128];
-    share_parts(
-        table,
-        count,
-        shape,
-        shrink,
-        gap,
-        glyphs,
-        classes,
-        &mut priorities[..n],
-        &mut extras[..n],
-        &mut first[..n],
-        &mut second[..n],
-        before,
-        after,
-    )
-}
-
-// The same over a room of its own for 1,024 glyphs.
-fn share_long(
-    table: &[u8],
-    count: u32,
-    shape: LineShape,
-    shrink: bool,
-    gap: u64,
-    glyphs: &[u16],
-    classes: &[u8],
-    before: &mut [i32],
-    after: &mut [i32],
-) -> Shared
-    requires { ⌜ (tableFault (now table) count ≡ Clear) × (length (now classes) ≡ length (now glyphs)) ⌝ }
-    requires { ⌜ (length (now before) ≡ length (now glyphs)) × (length (now after) ≡ length (now glyphs)) × (length (now glyphs) ≤ 1024) × (gap ≤ 1073741823) × (shape .size ≤ 67108864) ⌝ }
-    ensures { λ r. ⌜ SharedOut shrink gap (partsOf (sideOf (shape .direction) (meaningOf (now (table .entry)) count)) shrink (shape .size) (now (glyphs .entry)) (now (classes .entry))) (now (before .entry)) (now (after .entry)) r (now (before .exit)) (now (after .exit)) ⌝ }
-{
-    let n = glyphs.len();
+    if n <= 128 {
+        let mut priorities = [0u8; 128];
+        let mut extras = [0u8; 128];
+        let mut first = [0u64; 128];
+        let mut second = [0u64; 128];
+        return share_parts(
+            table,
+            count,
+            shape,
+            gap,
+            glyphs,
+            classes,
+            &mut priorities[..n],
+            &mut extras[..n],
+            &mut first[..n],
+            &mut second[..n],
+            before,
+            after,
+        );
+    }
     let mut priorities = [0u8; 1024];
     let mut extras = [0u8; 1024];
     let mut first = [0u64; 1024];
@@ -304,7 +307,6 @@ fn share_long(
         table,
         count,
         shape,
-        shrink,
         gap,
         glyphs,
         classes,
@@ -312,49 +314,6 @@ fn share_long(
         &mut extras[..n],
         &mut first[..n],
         &mut second[..n],
-        before,
-        after,
-    )
-}
-
-// The gap, given as its size, shared over the sides of a line's glyphs, unless refusal 15 bars it: the signed movements
-// of each glyph go into `before` and `after`. Most lines are short, and less room is sooner cleared.
-pub fn share_glyphs(
-    table: &[u8],
-    count: u32,
-    shape: LineShape,
-    shrink: bool,
-    gap: u64,
-    glyphs: &[u16],
-    classes: &[u8],
-    before: &mut [i32],
-    after: &mut [i32],
-) -> Shared
-    requires { ⌜ (tableFault (now table) count ≡ Clear) × (length (now classes) ≡ length (now glyphs)) ⌝ }
-    requires { ⌜ (length (now before) ≡ length (now glyphs)) × (length (now after) ≡ length (now glyphs)) × (length (now glyphs) ≤ 1024) × (gap ≤ 1073741823) × (shape .size ≤ 67108864) ⌝ }
-    ensures { λ r. ⌜ SharedOut shrink gap (partsOf (sideOf (shape .direction) (meaningOf (now (table .entry)) count)) shrink (shape .size) (now (glyphs .entry)) (now (classes .entry))) (now (before .entry)) (now (after .entry)) r (now (before .exit)) (now (after .exit)) ⌝ }
-{
-    if glyphs.len() <= 128 {
-        return share_short(
-            table,
-            count,
-            shape,
-            shrink,
-            gap,
-            glyphs,
-            classes,
-            before,
-            after,
-        );
-    }
-    share_long(
-        table,
-        count,
-        shape,
-        shrink,
-        gap,
-        glyphs,
-        classes,
         before,
         after,
     )

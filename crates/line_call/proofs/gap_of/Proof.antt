@@ -1,6 +1,6 @@
 -- `line_call::gap_of` meets its contract.
 use mathlib.Core.Path.{sym, _∙_}
-use Rattle.line_call.proofs.Gaps.{plain, as-read, gap-unsummed, gap-negative, gap-far, gap-shrinks, gap-grows}
+use Rattle.line_call.proofs.Gaps.{plain, wide, as-read, gap-unsummed, gap-negative, gap-far, gap-fits, gap-there}
 use borrow.Author.Needs.{needs}
 use Rattle.line_call.proofs.gap_of.Statement.{statement}
 use Rattle.line_call.proofs.gap_of.Tie as tie
@@ -22,30 +22,36 @@ returns c =
 returns-2 : tie.Need-returns-2
 returns-2 c =
     let a = c .before .before .before .before .before .args in
-    gap-negative (a .advances .now) (a .target) (c .before .before .sum .given .0 .0) (sym (c .before .before .before .before .sum-of .ensures) ∙ c .before .before .sum .given .1) (as-read (a .target) (c .before .before .before .before .before .fits .target .sfits)) (c .if1 .taken)
+    let e = sym (c .before .before .before .before .sum-of .ensures) ∙ c .before .before .sum .given .1 in
+    let r = as-read (a .target) (c .before .before .before .before .before .fits .target .sfits) in
+    gap-negative (a .advances .now) (a .target) (c .before .before .sum .given .0 .0) e r (c .if1 .taken)
 
-cast-aim : tie.Need-cast-aim
-cast-aim c =
-    let p = plain (c .before .before .before .before .before .args .target) (c .before .before .before .before .before .fits .target .sfits) (c .if1 .left) in
-    (p .sign, p .fits)
+cast-if2 : tie.Need-cast-if2
+cast-if2 c = let p = plain (c .before .before .before .before .before .args .target) (c .before .before .before .before .before .fits .target .sfits) (c .if1 .left) in (p .sign, p .fits)
 
 returns-3 : tie.Need-returns-3
 returns-3 c =
     let a = c .before .before .before .before .before .before .args in
-    gap-far (a .advances .now) (a .target) (c .before .before .before .sum .given .0 .0) (sym (c .before .before .before .before .before .sum-of .ensures) ∙ c .before .before .before .sum .given .1) (as-read (a .target) (c .before .before .before .before .before .before .fits .target .sfits)) (c .before .if1 .left) (c .if2 .taken)
+    let e = sym (c .before .before .before .before .before .sum-of .ensures) ∙ c .before .before .before .sum .given .1 in
+    let r = as-read (a .target) (c .before .before .before .before .before .before .fits .target .sfits) in
+    gap-far (a .advances .now) (a .target) (c .before .before .before .sum .given .0 .0) e r (c .before .if1 .left) (c .if2 .taken)
 
-sub-t7 : tie.Need-sub-t7
-sub-t7 c = search needs
+cast-t7 : tie.Need-cast-t7
+cast-t7 c = wide (c .before .before .before .before .before .before .args .target) (c .before .before .before .before .before .before .fits .target .sfits)
+
+sub-t8 : tie.Need-sub-t8
+sub-t8 c =
+    let a = c .before .before .before .before .before .before .before .before .args in
+    let e = sym (c .before .before .before .before .before .before .before .sum-of .ensures) ∙ c .before .before .before .before .before .sum .given .1 in
+    let r = as-read (a .target) (c .before .before .before .before .before .before .before .before .fits .target .sfits) in
+    gap-fits (a .advances .now) (a .target) (c .before .before .before .before .before .sum .given .0 .0) e r (c .before .before .before .if1 .left) (c .before .before .if2 .left)
 
 returns-4 : tie.Need-returns-4
 returns-4 c =
-    let a = c .before .before .before .before .before .before .before .args in
-    gap-shrinks (a .advances .now) (a .target) (c .before .before .before .before .sum .given .0 .0) (sym (c .before .before .before .before .before .before .sum-of .ensures) ∙ c .before .before .before .before .sum .given .1) (as-read (a .target) (c .before .before .before .before .before .before .before .fits .target .sfits)) (c .before .before .if1 .left) (c .before .if2 .left) (c .if3 .taken)
-
-returns-5 : tie.Need-returns-5
-returns-5 c =
-    let a = c .before .before .before .before .before .before .before .args in
-    gap-grows (a .advances .now) (a .target) (c .before .before .before .before .sum .given .0 .0) (sym (c .before .before .before .before .before .before .sum-of .ensures) ∙ c .before .before .before .before .sum .given .1) (as-read (a .target) (c .before .before .before .before .before .before .before .fits .target .sfits)) (c .before .before .if1 .left) (c .before .if2 .left) (c .if3 .left)
+    let a = c .before .before .before .before .before .before .before .before .args in
+    let e = sym (c .before .before .before .before .before .before .before .sum-of .ensures) ∙ c .before .before .before .before .before .sum .given .1 in
+    let r = as-read (a .target) (c .before .before .before .before .before .before .before .before .fits .target .sfits) in
+    gap-there (a .advances .now) (a .target) (c .before .before .before .before .before .sum .given .0 .0) e r (c .before .before .before .if1 .left) (c .before .before .if2 .left)
 
 pub gap-of-spec : {M : Type 1} → statement M
 gap-of-spec =
@@ -56,8 +62,8 @@ gap-of-spec =
     enum-told
     returns
     returns-2
-    cast-aim
+    cast-if2
     returns-3
-    sub-t7
-    returns-4
-    returns-5)
+    cast-t7
+    sub-t8
+    returns-4)

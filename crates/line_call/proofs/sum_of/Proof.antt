@@ -1,10 +1,14 @@
 -- `line_call::sum_of` meets its contract.
-use lib.IntN.{pos}
+use lib.IntN.{ℤ, pos}
+use mir.Syntax.{w64}
+use mir.ValLaws.{toZ-pos}
 use lib.ListN.{getD, length, drop}
 use Rattle.line_call.proofs.Gaps.{plain, as-read, added-negative, added-over, added-on, added-end, added, added-start}
 use native.Mathlib.Omega.{arith}
 use Prim.Native.Nat.{_-_, _≤_}
-use mathlib.Core.Path.{_≡_, sym, _∙_}
+use mathlib.Core.Path.{_≡_, sym, ap, _∙_}
+use Rattle.line_moves.specs.Parts.{inUnits}
+use Rattle.line_call.specs.declared.Sum.the-variants.{Total}
 use Rattle.line_call.specs.Steps.{sumIn}
 use Rattle.line_call.proofs.sum_of.Statement.{statement}
 use Rattle.line_call.proofs.sum_of.Tie as tie
@@ -55,8 +59,14 @@ loop-again c =
     let l = c .before .before .before .before .loop in
     (omega arith, c .if2 .left, l .inv .2 ∙ added-on (c .before .before .before .before .before .args .advances .now) (l .i) (l .sum) (omega arith) (as-read _ (c .before .before .advance .given)) (c .before .if1 .left) (c .if2 .left))
 
+cast-t10 : tie.Need-cast-t10 Inv-loop μ-loop
+cast-t10 c = record { sfits = omega (arith, c .before .loop .inv .1) }
+
 returns-3 : tie.Need-returns-3 Inv-loop μ-loop
-returns-3 c = let l = c .before .loop in sym (l .inv .2 ∙ added-end (c .before .before .args .advances .now) (l .i) (l .sum) (omega arith))
+returns-3 c =
+    let l = c .before .loop in
+    ap (λ (z : ℤ). Total (inUnits z)) (toZ-pos w64 (l .sum) (omega (arith, l .inv .1)))
+    ∙ sym (l .inv .2 ∙ added-end (c .before .before .args .advances .now) (l .i) (l .sum) (omega arith))
 
 pub sum-of-spec : {M : Type 1} → statement M
 sum-of-spec =
@@ -74,4 +84,5 @@ sum-of-spec =
     add-i
     loop-less
     loop-again
+    cast-t10
     returns-3)

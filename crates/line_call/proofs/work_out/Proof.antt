@@ -1,6 +1,4 @@
 -- `line_call::work_out` meets its contract.
-use mir.Syntax.{w32}
-use mir.ValLaws.{toZ-ofZ}
 use native.Mathlib.Omega.{arith}
 use lib.ListN.{length}
 use mathlib.Core.Path.{sym, ap, _∙_}
@@ -10,7 +8,7 @@ use Rattle.line_moves.proofs.Walks.{walk-ended, walk-endless}
 use Rattle.line_call.specs.Settle.{lineBy}
 use Rattle.line_call.proofs.Gaps.{as-read}
 use Rattle.line_call.proofs.Tests.{known-each}
-use Rattle.line_call.proofs.Work.{gap-found, gap-none, bad-advances, bad-glyph, bad-walk, work-over, work-done}
+use Rattle.line_call.proofs.Work.{gap-found, gap-none, bad-advances, bad-glyph, bad-walk, work-over, narrow-fits, narrowed, work-done}
 use borrow.Author.Needs.{needs}
 use Rattle.line_call.proofs.work_out.Statement.{statement}
 use Rattle.line_call.proofs.work_out.Tie as tie
@@ -18,8 +16,8 @@ use Rattle.line_call.proofs.work_out.Tie as tie
 gap-of-requires : tie.Need-gap-of-requires
 gap-of-requires c κs = search needs
 
-enum-known-shrinks : tie.Need-enum-known-shrinks
-enum-known-shrinks c = search needs
+enum-known-gap : tie.Need-enum-known-gap
+enum-known-gap c = search needs
 
 enum-told : tie.Need-enum-told
 enum-told c = search needs
@@ -27,7 +25,9 @@ enum-told c = search needs
 returns : tie.Need-returns
 returns c =
     let a = c .before .before .before .before .before .before .before .args in
-    bad-advances (sideOf (a .shape .direction) (meaningOf (a .table .now) (a .count))) (a .count) (lineBy (a .shape) (a .glyphs .now) (a .advances .now)) (gap-none (lineBy (a .shape) (a .glyphs .now) (a .advances .now)) (as-read (a .shape .target) (c .before .before .before .struct-told .given .1 .1 .1 .1 .0 .1)) (sym (c .before .before .gap-of .ensures) ∙ c .enum-told .given .1))
+    let s = sideOf (a .shape .direction) (meaningOf (a .table .now) (a .count)) in
+    let l = lineBy (a .shape) (a .glyphs .now) (a .advances .now) in
+    bad-advances s (a .count) l (gap-none l (as-read (a .shape .target) (c .before .before .before .struct-told .given .1 .1 .1 .1 .0 .1)) (sym (c .before .before .gap-of .ensures) ∙ c .enum-told .given .1))
 
 all-known-requires : tie.Need-all-known-requires
 all-known-requires c κs = search needs
@@ -41,28 +41,36 @@ line-walk-requires c κs =
 array-share-prefix-classes : tie.Need-array-share-prefix-classes
 array-share-prefix-classes c =
     let a = c .before .before .before .before .before .before .before .before .before .before .before .before .before .args in
-    let w = walk-ended (sideOf (a .shape .direction) (meaningOf (a .table .now) (a .count)) .machine) (lineBy (a .shape) (a .glyphs .now) (a .advances .now)) (c .before .before .line-walk .result) (c .before .before .line-walk .ensures) (c .before .if2 .taken) in
+    let s = sideOf (a .shape .direction) (meaningOf (a .table .now) (a .count)) in
+    let l = lineBy (a .shape) (a .glyphs .now) (a .advances .now) in
+    let w = walk-ended (s .machine) l (c .before .before .line-walk .result) (c .before .before .line-walk .ensures) (c .before .if2 .taken) in
     omega (arith, w .room (c .before .before .before .before .before .before .before .before .before .before .before .before .before .pre .1), c .before .before .before .before .before .before .before .before .before .before .before .before .before .pre .1)
 
 slice-aggregate-copy-classes : tie.Need-slice-aggregate-copy-classes
 slice-aggregate-copy-classes c =
     let a = c .before .before .before .before .before .before .before .before .before .before .before .before .before .before .args in
-    let w = walk-ended (sideOf (a .shape .direction) (meaningOf (a .table .now) (a .count)) .machine) (lineBy (a .shape) (a .glyphs .now) (a .advances .now)) (c .before .before .before .line-walk .result) (c .before .before .before .line-walk .ensures) (c .before .before .if2 .taken) in
+    let s = sideOf (a .shape .direction) (meaningOf (a .table .now) (a .count)) in
+    let l = lineBy (a .shape) (a .glyphs .now) (a .advances .now) in
+    let w = walk-ended (s .machine) l (c .before .before .before .line-walk .result) (c .before .before .before .line-walk .ensures) (c .before .before .if2 .taken) in
     sym (ap length (w .classes) ∙ w .each)
 
 copy-classes-requires : tie.Need-copy-classes-requires
 copy-classes-requires c κs =
     let a = c .before .before .before .before .before .before .before .before .before .before .before .before .before .before .before .args in
-    let w = walk-ended (sideOf (a .shape .direction) (meaningOf (a .table .now) (a .count)) .machine) (lineBy (a .shape) (a .glyphs .now) (a .advances .now)) (c .before .before .before .before .line-walk .result) (c .before .before .before .before .line-walk .ensures) (c .before .before .before .if2 .taken) in
+    let s = sideOf (a .shape .direction) (meaningOf (a .table .now) (a .count)) in
+    let l = lineBy (a .shape) (a .glyphs .now) (a .advances .now) in
+    let w = walk-ended (s .machine) l (c .before .before .before .before .line-walk .result) (c .before .before .before .before .line-walk .ensures) (c .before .before .before .if2 .taken) in
     ap length (w .classes) ∙ w .each ∙ sym (c .before .before .before .before .before .before .before .before .before .before .before .before .before .before .before .pre .2 .classes)
 
 share-glyphs-requires : tie.Need-share-glyphs-requires
 share-glyphs-requires c κs =
     let a = c .before .before .before .before .before .before .before .before .before .before .before .before .before .before .before .before .before .before .before .before .before .args in
-    let p = c .before .before .before .before .before .before .before .before .before .before .before .before .before .before .before .before .before .before .before .before .before .pre in
+    let s = sideOf (a .shape .direction) (meaningOf (a .table .now) (a .count)) in
     let l = lineBy (a .shape) (a .glyphs .now) (a .advances .now) in
-    let w = walk-ended (sideOf (a .shape .direction) (meaningOf (a .table .now) (a .count)) .machine) l (c .before .before .before .before .before .before .before .before .before .before .line-walk .result) (c .before .before .before .before .before .before .before .before .before .before .line-walk .ensures) (c .before .before .before .before .before .before .before .before .before .if2 .taken) in
-    ((p .0, ap length (c .before .before .before .before .before .copy-classes .ensures ∙ w .classes) ∙ w .each), (p .2 .before, p .2 .after, p .1, gap-found l (as-read (a .shape .target) (c .before .before .before .before .before .before .before .before .before .before .before .before .before .before .before .before .before .struct-told .given .1 .1 .1 .1 .0 .1)) (c .before .before .before .before .before .before .before .before .before .before .before .before .before .before .shrinks .given .0 .0) (c .before .before .before .before .before .before .before .before .before .before .before .before .before .before .shrinks .given .0 .1 .0) (sym (c .before .before .before .before .before .before .before .before .before .before .before .before .before .before .before .before .gap-of .ensures) ∙ c .before .before .before .before .before .before .before .before .before .before .before .before .before .before .shrinks .given .1) .small, p .3))
+    let p = c .before .before .before .before .before .before .before .before .before .before .before .before .before .before .before .before .before .before .before .before .before .pre in
+    let w = walk-ended (s .machine) l (c .before .before .before .before .before .before .before .before .before .before .line-walk .result) (c .before .before .before .before .before .before .before .before .before .before .line-walk .ensures) (c .before .before .before .before .before .before .before .before .before .if2 .taken) in
+    let g = gap-found l (as-read (a .shape .target) (c .before .before .before .before .before .before .before .before .before .before .before .before .before .before .before .before .before .struct-told .given .1 .1 .1 .1 .0 .1)) (c .before .before .before .before .before .before .before .before .before .before .before .before .before .before .gap .given .0 .0) (sym (c .before .before .before .before .before .before .before .before .before .before .before .before .before .before .before .before .gap-of .ensures) ∙ c .before .before .before .before .before .before .before .before .before .before .before .before .before .before .gap .given .1) in
+    ((p .0, ap length (c .before .before .before .before .before .copy-classes .ensures ∙ w .classes) ∙ w .each), (p .2 .before, p .2 .after, p .1, g .small, p .3))
 
 enum-known-shared : tie.Need-enum-known-shared
 enum-known-shared c = search needs
@@ -85,7 +93,19 @@ returns-2 c =
     let s = sideOf (a .shape .direction) (meaningOf (a .table .now) (a .count)) in
     let l = lineBy (a .shape) (a .glyphs .now) (a .advances .now) in
     let w = walk-ended (s .machine) l (c .before .before .before .before .before .before .before .before .before .before .before .before .before .before .before .line-walk .result) (c .before .before .before .before .before .before .before .before .before .before .before .before .before .before .before .line-walk .ensures) (c .before .before .before .before .before .before .before .before .before .before .before .before .before .before .if2 .taken) in
-    work-over s (a .count) l (gap-found l (as-read (a .shape .target) (c .before .before .before .before .before .before .before .before .before .before .before .before .before .before .before .before .before .before .before .before .before .before .struct-told .given .1 .1 .1 .1 .0 .1)) (c .before .before .before .before .before .before .before .before .before .before .before .before .before .before .before .before .before .before .before .shrinks .given .0 .0) (c .before .before .before .before .before .before .before .before .before .before .before .before .before .before .before .before .before .before .before .shrinks .given .0 .1 .0) (sym (c .before .before .before .before .before .before .before .before .before .before .before .before .before .before .before .before .before .before .before .before .before .gap-of .ensures) ∙ c .before .before .before .before .before .before .before .before .before .before .before .before .before .before .before .before .before .before .before .shrinks .given .1)) (sym (c .before .before .before .before .before .before .before .before .before .before .before .before .before .before .before .before .before .all-known .ensures) ∙ c .before .before .before .before .before .before .before .before .before .before .before .before .before .before .before .before .if1 .taken) (w .stops) (c .before .before .before .before .before .before .before .before .before .before .copy-classes .ensures ∙ w .classes) (c .before .before .before .before .share-glyphs .ensures) (c .enum-told2 .given .1)
+    let g = gap-found l (as-read (a .shape .target) (c .before .before .before .before .before .before .before .before .before .before .before .before .before .before .before .before .before .before .before .before .before .before .struct-told .given .1 .1 .1 .1 .0 .1)) (c .before .before .before .before .before .before .before .before .before .before .before .before .before .before .before .before .before .before .before .gap .given .0 .0) (sym (c .before .before .before .before .before .before .before .before .before .before .before .before .before .before .before .before .before .before .before .before .before .gap-of .ensures) ∙ c .before .before .before .before .before .before .before .before .before .before .before .before .before .before .before .before .before .before .before .gap .given .1) in
+    let k = sym (c .before .before .before .before .before .before .before .before .before .before .before .before .before .before .before .before .before .all-known .ensures) ∙ c .before .before .before .before .before .before .before .before .before .before .before .before .before .before .before .before .if1 .taken in
+    work-over s (a .count) l g k (w .stops) (c .before .before .before .before .before .before .before .before .before .before .copy-classes .ensures ∙ w .classes) (c .before .before .before .before .share-glyphs .ensures) (c .enum-told2 .given .1)
+
+cast-t31 : tie.Need-cast-t31
+cast-t31 c =
+    let a = c .before .before .before .before .before .before .before .before .before .before .before .before .before .before .before .before .before .before .before .before .before .before .before .before .before .before .before .before .before .args in
+    let s = sideOf (a .shape .direction) (meaningOf (a .table .now) (a .count)) in
+    let l = lineBy (a .shape) (a .glyphs .now) (a .advances .now) in
+    let w = walk-ended (s .machine) l (c .before .before .before .before .before .before .before .before .before .before .before .before .before .before .before .before .before .before .line-walk .result) (c .before .before .before .before .before .before .before .before .before .before .before .before .before .before .before .before .before .before .line-walk .ensures) (c .before .before .before .before .before .before .before .before .before .before .before .before .before .before .before .before .before .if2 .taken) in
+    let g = gap-found l (as-read (a .shape .target) (c .before .before .before .before .before .before .before .before .before .before .before .before .before .before .before .before .before .before .before .before .before .before .before .before .before .struct-told .given .1 .1 .1 .1 .0 .1)) (c .before .before .before .before .before .before .before .before .before .before .before .before .before .before .before .before .before .before .before .before .before .before .gap .given .0 .0) (sym (c .before .before .before .before .before .before .before .before .before .before .before .before .before .before .before .before .before .before .before .before .before .before .before .before .gap-of .ensures) ∙ c .before .before .before .before .before .before .before .before .before .before .before .before .before .before .before .before .before .before .before .before .before .before .gap .given .1) in
+    let k = sym (c .before .before .before .before .before .before .before .before .before .before .before .before .before .before .before .before .before .before .before .before .all-known .ensures) ∙ c .before .before .before .before .before .before .before .before .before .before .before .before .before .before .before .before .before .before .before .if1 .taken in
+    narrow-fits s (a .count) l g k (w .stops) (c .before .before .before .before .before .before .before .before .before .before .before .before .before .copy-classes .ensures ∙ w .classes) (c .before .before .before .before .before .before .before .share-glyphs .ensures) (c .before .before .before .shared .given .0 .0) (c .before .before .before .shared .given .1)
 
 same-length-4 : tie.Need-same-length-4
 same-length-4 c = search needs
@@ -98,32 +118,40 @@ same-length-6 c = search needs
 
 returns-3 : tie.Need-returns-3
 returns-3 c =
-    let a = c .before .before .before .before .before .before .before .before .before .before .before .before .before .before .before .before .before .before .before .before .before .before .before .before .before .before .before .args in
+    let a = c .before .before .before .before .before .before .before .before .before .before .before .before .before .before .before .before .before .before .before .before .before .before .before .before .before .before .before .before .before .args in
     let s = sideOf (a .shape .direction) (meaningOf (a .table .now) (a .count)) in
     let l = lineBy (a .shape) (a .glyphs .now) (a .advances .now) in
-    let w = walk-ended (s .machine) l (c .before .before .before .before .before .before .before .before .before .before .before .before .before .before .before .before .line-walk .result) (c .before .before .before .before .before .before .before .before .before .before .before .before .before .before .before .before .line-walk .ensures) (c .before .before .before .before .before .before .before .before .before .before .before .before .before .before .before .if2 .taken) in
-    work-done s (a .count) l (gap-found l (as-read (a .shape .target) (c .before .before .before .before .before .before .before .before .before .before .before .before .before .before .before .before .before .before .before .before .before .before .before .struct-told .given .1 .1 .1 .1 .0 .1)) (c .before .before .before .before .before .before .before .before .before .before .before .before .before .before .before .before .before .before .before .before .shrinks .given .0 .0) (c .before .before .before .before .before .before .before .before .before .before .before .before .before .before .before .before .before .before .before .before .shrinks .given .0 .1 .0) (sym (c .before .before .before .before .before .before .before .before .before .before .before .before .before .before .before .before .before .before .before .before .before .before .gap-of .ensures) ∙ c .before .before .before .before .before .before .before .before .before .before .before .before .before .before .before .before .before .before .before .before .shrinks .given .1)) (sym (c .before .before .before .before .before .before .before .before .before .before .before .before .before .before .before .before .before .before .all-known .ensures) ∙ c .before .before .before .before .before .before .before .before .before .before .before .before .before .before .before .before .before .if1 .taken) (w .stops) (c .before .before .before .before .before .before .before .before .before .before .before .copy-classes .ensures ∙ w .classes) (c .before .before .before .before .before .share-glyphs .ensures) (c .before .shared .given .0 .0) (c .before .shared .given .1) (toZ-ofZ w32 (c .before .shared .given .0 .0) (search needs)) (w .count)
+    let w = walk-ended (s .machine) l (c .before .before .before .before .before .before .before .before .before .before .before .before .before .before .before .before .before .before .line-walk .result) (c .before .before .before .before .before .before .before .before .before .before .before .before .before .before .before .before .before .before .line-walk .ensures) (c .before .before .before .before .before .before .before .before .before .before .before .before .before .before .before .before .before .if2 .taken) in
+    let g = gap-found l (as-read (a .shape .target) (c .before .before .before .before .before .before .before .before .before .before .before .before .before .before .before .before .before .before .before .before .before .before .before .before .before .struct-told .given .1 .1 .1 .1 .0 .1)) (c .before .before .before .before .before .before .before .before .before .before .before .before .before .before .before .before .before .before .before .before .before .before .gap .given .0 .0) (sym (c .before .before .before .before .before .before .before .before .before .before .before .before .before .before .before .before .before .before .before .before .before .before .before .before .gap-of .ensures) ∙ c .before .before .before .before .before .before .before .before .before .before .before .before .before .before .before .before .before .before .before .before .before .before .gap .given .1) in
+    let k = sym (c .before .before .before .before .before .before .before .before .before .before .before .before .before .before .before .before .before .before .before .before .all-known .ensures) ∙ c .before .before .before .before .before .before .before .before .before .before .before .before .before .before .before .before .before .before .before .if1 .taken in
+    let eh = c .before .before .before .before .before .before .before .before .before .before .before .before .before .copy-classes .ensures ∙ w .classes in
+    let o = c .before .before .before .before .before .before .before .share-glyphs .ensures in
+    let u = c .before .before .before .shared .given .0 .0 in
+    let e = c .before .before .before .shared .given .1 in
+    work-done s (a .count) l g k (w .stops) eh o u e (narrowed s (a .count) l g k (w .stops) eh o u e) (w .count)
 
 returns-4 : tie.Need-returns-4
 returns-4 c =
     let a = c .before .before .before .before .before .before .before .before .before .before .before .before .args in
     let s = sideOf (a .shape .direction) (meaningOf (a .table .now) (a .count)) in
     let l = lineBy (a .shape) (a .glyphs .now) (a .advances .now) in
-    bad-walk s (a .count) l (gap-found l (as-read (a .shape .target) (c .before .before .before .before .before .before .before .before .struct-told .given .1 .1 .1 .1 .0 .1)) (c .before .before .before .before .before .shrinks .given .0 .0) (c .before .before .before .before .before .shrinks .given .0 .1 .0) (sym (c .before .before .before .before .before .before .before .gap-of .ensures) ∙ c .before .before .before .before .before .shrinks .given .1) .good) (sym (c .before .before .before .all-known .ensures) ∙ c .before .before .if1 .taken) (walk-endless (s .machine) l (c .before .line-walk .result) (c .before .line-walk .ensures) (c .if2 .left))
+    let g = gap-found l (as-read (a .shape .target) (c .before .before .before .before .before .before .before .before .struct-told .given .1 .1 .1 .1 .0 .1)) (c .before .before .before .before .before .gap .given .0 .0) (sym (c .before .before .before .before .before .before .before .gap-of .ensures) ∙ c .before .before .before .before .before .gap .given .1) in
+    bad-walk s (a .count) l (g .good) (sym (c .before .before .before .all-known .ensures) ∙ c .before .before .if1 .taken) (walk-endless (s .machine) l (c .before .line-walk .result) (c .before .line-walk .ensures) (c .if2 .left))
 
 returns-5 : tie.Need-returns-5
 returns-5 c =
     let a = c .before .before .before .before .before .before .before .before .before .before .args in
     let s = sideOf (a .shape .direction) (meaningOf (a .table .now) (a .count)) in
     let l = lineBy (a .shape) (a .glyphs .now) (a .advances .now) in
-    bad-glyph s (a .count) l (gap-found l (as-read (a .shape .target) (c .before .before .before .before .before .before .struct-told .given .1 .1 .1 .1 .0 .1)) (c .before .before .before .shrinks .given .0 .0) (c .before .before .before .shrinks .given .0 .1 .0) (sym (c .before .before .before .before .before .gap-of .ensures) ∙ c .before .before .before .shrinks .given .1) .good) (sym (c .before .all-known .ensures) ∙ c .if1 .left)
+    let g = gap-found l (as-read (a .shape .target) (c .before .before .before .before .before .before .struct-told .given .1 .1 .1 .1 .0 .1)) (c .before .before .before .gap .given .0 .0) (sym (c .before .before .before .before .before .gap-of .ensures) ∙ c .before .before .before .gap .given .1) in
+    bad-glyph s (a .count) l (g .good) (sym (c .before .all-known .ensures) ∙ c .if1 .left)
 
 pub work-out-spec : {M : Type 1} → statement M
 work-out-spec =
     tie.close
     (tie.spec
     gap-of-requires
-    enum-known-shrinks
+    enum-known-gap
     enum-told
     returns
     all-known-requires
@@ -138,6 +166,7 @@ work-out-spec =
     same-length-2
     same-length-3
     returns-2
+    cast-t31
     same-length-4
     same-length-5
     same-length-6
