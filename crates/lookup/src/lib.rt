@@ -1,5 +1,5 @@
 // A lookup from glyphs to 16-bit values, formats 0, 2, 4, 6 and 8 (document 01, "The table"): its first fault, and a pass
-// over glyphs upward that looks at each unit once. One glyph's value is found in crate `halves`.
+// over glyphs upward that looks at each unit once. One glyph's value is found in crate `lookup_find`.
 ghost use mathlib.Core.Path.{_≡_};
 ghost use mathlib.Core.Bool.{true};
 ghost use Prim.Native.Nat.{ℕ, _+_, _*_, _≤_, _<_, _^_};
