@@ -64,7 +64,7 @@ pub record WorkedOut (s : Side) (n : ℕ) (l : Line) (answer : Worked) (cs : Lis
   pub after : workFault s n l ≡ Clear → fs ≡ afterOf s l
 
 -- room for n classes and movements
-pub record Room (n : ℕ) (cs : List ℕ) (bs fs : List ℤ) : Type 0 where
+pub record LineRoom (n : ℕ) (cs : List ℕ) (bs fs : List ℤ) : Type 0 where
   pub classes : length cs ≡ n
   pub before : length bs ≡ n
   pub after : length fs ≡ n

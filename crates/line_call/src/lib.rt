@@ -15,7 +15,7 @@ ghost use Rattle.table.specs.Means.{meaningOf};
 ghost use Rattle.line_rule.specs.Line.{verdictsFrom};
 ghost use Rattle.line_call.specs.Justified.{allLong, allKnown, justified};
 ghost use Rattle.line_call.specs.Settle.{lineBy, lentBy, settlementIs, settlementIn};
-ghost use Rattle.line_call.specs.Steps.{measuredLine, sumIn, gapIn, inputFault, WorkedOut, Finished, SettledIn, Room};
+ghost use Rattle.line_call.specs.Steps.{measuredLine, sumIn, gapIn, inputFault, WorkedOut, Finished, SettledIn, LineRoom};
 use fields::Fault;
 use fields::Refusal;
 use line_moves::Shared;
@@ -216,7 +216,7 @@ fn work_out(
 ) -> Worked
     requires { ⌜
         (tableFault (now table) count ≡ Clear) × (length (now glyphs) ≤ 1024)
-        × Room (length (now glyphs)) (now held) (now befores) (now afters) × (shape .size ≤ 67108864)
+        × LineRoom (length (now glyphs)) (now held) (now befores) (now afters) × (shape .size ≤ 67108864)
         ⌝ }
     ensures { λ r. ⌜
         WorkedOut (sideOf (shape .direction) (meaningOf (now (table .entry)) count)) count
@@ -274,8 +274,8 @@ fn finish<'a, 'b>(
 ) -> Settled
     requires { ⌜ (tableFault (now table) count ≡ Clear) × (length (now glyphs) ≤ 1024) ⌝ }
     requires { ⌜
-        Room (length (now glyphs)) (now held) (now befores) (now afters)
-        × Room (length (now glyphs)) (now classes) (now before) (now after)
+        LineRoom (length (now glyphs)) (now held) (now befores) (now afters)
+        × LineRoom (length (now glyphs)) (now classes) (now before) (now after)
         ⌝ }
     ensures { λ r. ⌜
         Finished room
@@ -333,8 +333,8 @@ fn settle_in<'a, 'b>(
 ) -> Settled
     requires { ⌜ (tableFault (now table) count ≡ Clear) × (length (now glyphs) ≤ 1024) ⌝ }
     requires { ⌜
-        Room (length (now glyphs)) (now held) (now befores) (now afters)
-        × Room (length (now glyphs)) (now classes) (now before) (now after) × (shape .size ≤ 67108864)
+        LineRoom (length (now glyphs)) (now held) (now befores) (now afters)
+        × LineRoom (length (now glyphs)) (now classes) (now before) (now after) × (shape .size ≤ 67108864)
         ⌝ }
     ensures { λ r. ⌜
         SettledIn (sideOf (shape .direction) (meaningOf (now (table .entry)) count)) count

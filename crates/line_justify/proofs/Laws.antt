@@ -13,7 +13,7 @@ use Rattle.meaning.specs.Ask.{sideOf}
 use Rattle.table.specs.Means.{meaningOf}
 use Rattle.line_verdicts.specs.declared.Cursor.{Cursor}
 use Rattle.line_verdicts.specs.declared.Step.{Step}
-use Rattle.line_verdicts.specs.Cursor.{Moved, moved, leftAt, startCursor, Serves, InLine, Ready}
+use Rattle.line_verdicts.specs.Cursor.{Moved, moved, leftAt, startCursor, Serves, InLine, HasMoves}
 use Rattle.line_verdicts.proofs.Laws.{all-left, none-left, start-serves, table-short}
 use Rattle.line_justify.specs.Stored.{lineVerdicts, filledWith}
 
@@ -73,7 +73,7 @@ module _ (t : List ℕ) (s : Side) (l : Moved) (glyphs : List ℕ) (vs : List Ve
 
 -- none of a line's verdicts is taken
 pub taken-none : (t : List ℕ) (count : ℕ) (d : Direction) (size : ℕ) (glyphs classes : List ℕ) (before after : List ℤ)
-    → Ready t count (moved size classes before after) glyphs
+    → HasMoves t count (moved size classes before after) glyphs
     → Taken t (sideOf d (meaningOf t count)) (moved size classes before after) glyphs (lineVerdicts t count d size glyphs classes before after) 0 startCursor
 unfolding lineVerdicts
 taken-none t count d size glyphs classes before after ready =

@@ -9,7 +9,7 @@ use Rattle.types.specs.declared.Verdict.{Verdict}
 use Rattle.meaning.specs.Ask.{sideOf}
 use Rattle.table.specs.Means.{meaningOf}
 use Rattle.line_rule.specs.Line.{verdictsFrom}
-use Rattle.line_verdicts.specs.Cursor.{moved, Ready}
+use Rattle.line_verdicts.specs.Cursor.{moved, HasMoves}
 
 -- the verdicts of a line, by the table's meaning in its direction
 unfoldable pub lineVerdicts : List ℕ → ℕ → Direction → ℕ → List ℕ → List ℕ → List ℤ → List ℤ → List Verdict
@@ -23,4 +23,4 @@ filledWith verdicts n list = take n verdicts ++ drop n list
 pub record Storable (t : List ℕ) (count : ℕ) (direction : Direction) (size : ℕ) (glyphs classes : List ℕ) (before after : List ℤ) (n space : ℕ) : Type 0 where
   pub room : n ≤ space
   pub most : n ≤ length (lineVerdicts t count direction size glyphs classes before after)
-  pub ready : 0 < n → Ready t count (moved size classes before after) glyphs
+  pub ready : 0 < n → HasMoves t count (moved size classes before after) glyphs

@@ -34,7 +34,7 @@ use Rattle.line_moves.specs.Parts.{Known}
 use Rattle.line_call.specs.declared.LineAnswer.the-variants.{Justified, Refused}
 use Rattle.line_call.specs.Justified.{Lent, justified}
 use Rattle.line_call.proofs.Theorems.{answered, cleared, walk-ends, walk-never}
-use Rattle.line_laws.specs.Bars.{sideFor, lineParts, walkLine, NeverEnds, EndsWith, Ready}
+use Rattle.line_laws.specs.Bars.{sideFor, lineParts, walkLine, NeverEnds, EndsWith, Walkable}
 use Rattle.line_laws.proofs.Tests.{lengths-are, size-is, advances-are, glyphs-are}
 use Rattle.line_laws.proofs.Refusals.{call-refused}
 
@@ -66,11 +66,11 @@ module _ (t : List ℕ) (n : ℕ) (l : Line) (b : Lent) (bytes : Bytes t) where
   of-never (some m) never = ap hasStopped (never-walked (walkMachine m) (walkLine m l) never .1)
 
   -- REFUSAL 14 exactly when nothing before it bars the line and the walk never ends
-  pub endless : Accepted t n → (justified t n l b .answer ≡ Refused EndlessWalk) ↔ (Ready n l b × NeverEnds (sideFor t n l .machine) l)
+  pub endless : Accepted t n → (justified t n l b .answer ≡ Refused EndlessWalk) ↔ (Walkable n l b × NeverEnds (sideFor t n l .machine) l)
   unfolding Accepted
   endless ok = (refused, λ h. call-refused t n l b EndlessWalk .1 (0, first (h .0) (h .1)))
     where
-      first : Ready n l b → NeverEnds (sideFor t n l .machine) l → First (lineParts t n l b) EndlessWalk 0
+      first : Walkable n l b → NeverEnds (sideFor t n l .machine) l → First (lineParts t n l b) EndlessWalk 0
       first h never =
           inr (
             ok,
@@ -89,7 +89,7 @@ module _ (t : List ℕ) (n : ℕ) (l : Line) (b : Lent) (bytes : Bytes t) where
             ),
           )
 
-      refused : justified t n l b .answer ≡ Refused EndlessWalk → Ready n l b × NeverEnds (sideFor t n l .machine) l
+      refused : justified t n l b .answer ≡ Refused EndlessWalk → Walkable n l b × NeverEnds (sideFor t n l .machine) l
       refused e = after-table (call-refused t n l b EndlessWalk .0 e .1)
         where
           at : ℕ
@@ -98,7 +98,7 @@ module _ (t : List ℕ) (n : ℕ) (l : Line) (b : Lent) (bytes : Bytes t) where
           apart : {A : Type 0} (r : Refusal) → (r ≡ EndlessWalk → ⊥) → (test : Bool) → rule test r 0 ≡ Bad EndlessWalk at → A
           apart r h test q = absurd (other-rule test r at h q)
 
-          after-table : First (lineParts t n l b) EndlessWalk at → Ready n l b × NeverEnds (sideFor t n l .machine) l
+          after-table : First (lineParts t n l b) EndlessWalk at → Walkable n l b × NeverEnds (sideFor t n l .machine) l
           after-table (inl q) = absurd (clear-not-bad ok q)
           after-table (inr (_, inl q)) = apart UnequalLengths (λ z. let y : _≡_ {A = ℕ} 0 1 = cc in omega arith) _ q
           after-table (inr (_, inr (_, inl q))) = apart LongLine (λ z. let y : _≡_ {A = ℕ} 0 1 = cc in omega arith) _ q

@@ -75,7 +75,7 @@ EndsWith (some m) l cs k = Ends (walkMachine m) (walkLine m l) cs k × (k ≤ m 
 
 -- ---- a line that nothing before its walk bars
 
-pub record Ready (n : ℕ) (l : Line) (b : Lent) : Type 0 where
+pub record Walkable (n : ℕ) (l : Line) (b : Lent) : Type 0 where
   pub lengths : OneLength l b
   pub short : length (l .glyphs) ≤ 1024
   pub some-size : 1 ≤ l .size

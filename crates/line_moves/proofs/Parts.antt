@@ -39,7 +39,7 @@ use Rattle.share.specs.Line.{Glyph, apart, Narrow}
 use Rattle.share.proofs.Lists.{div-mono}
 use Rattle.share.proofs.Fill.{fill-again, fill-end}
 use Rattle.line_rule.specs.Line.{recordFor, unitsOf, partBy, partOf, partsOf}
-use Rattle.line_moves.specs.Parts.{Small, IsSize, PartOf, Room, Laid}
+use Rattle.line_moves.specs.Parts.{Small, IsSize, PartOf, PartsRoom, Laid}
 use Rattle.line_moves.specs.declared.Part.{Part}
 
 -- ---- factors
@@ -180,13 +180,13 @@ one-more f ps g out i h inv e =
     fill-again out (map f (drop i ps)) (map f (drop (i + 1) ps)) i (f g) h inv (ap (map f) e ∙ ap (λ (k : ℕ). f g ∷ map f (drop k ps)) (sym (add-one i)))
 
 pub record Filling (ps : List Glyph) (i : ℕ) (ks us bs cs : List ℕ) : Type 0 where
-  pub room : Room (length ps) ks us bs cs
+  pub room : PartsRoom (length ps) ks us bs cs
   pub priorities : map (λ (g : Glyph). g .stage) ps ≡ take i ks ++ map (λ (g : Glyph). g .stage) (drop i ps)
   pub extras : map (λ (g : Glyph). g .extra) ps ≡ take i us ++ map (λ (g : Glyph). g .extra) (drop i ps)
   pub first : map (λ (g : Glyph). g .before) ps ≡ take i bs ++ map (λ (g : Glyph). g .before) (drop i ps)
   pub second : map (λ (g : Glyph). g .after) ps ≡ take i cs ++ map (λ (g : Glyph). g .after) (drop i ps)
 
-pub filling-start : (ps : List Glyph) (ks us bs cs : List ℕ) → Room (length ps) ks us bs cs → Filling ps 0 ks us bs cs
+pub filling-start : (ps : List Glyph) (ks us bs cs : List ℕ) → PartsRoom (length ps) ks us bs cs → Filling ps 0 ks us bs cs
 filling-start ps ks us bs cs r = record { room = r; priorities = refl; extras = refl; first = refl; second = refl }
 
 pub filling-on : {ps : List Glyph} {i : ℕ} {ks us bs cs : List ℕ} (g : Glyph) → Filling ps i ks us bs cs → i < length ps → drop i ps ≡ g ∷ drop (suc i) ps

@@ -47,7 +47,7 @@ pub record PartOf (p : Part) (g : Glyph) : Type 0 where
   pub after : p .after .0 ≡ pos (g .after)
 
 -- room for the parts of n glyphs
-pub record Room (n : ℕ) (ks us bs cs : List ℕ) : Type 0 where
+pub record PartsRoom (n : ℕ) (ks us bs cs : List ℕ) : Type 0 where
   pub priorities : length ks ≡ n
   pub extras : length us ≡ n
   pub first : length bs ≡ n

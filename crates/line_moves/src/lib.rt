@@ -16,7 +16,7 @@ ghost use Rattle.table.specs.Means.{meaningOf};
 ghost use Rattle.table_ask.specs.Places.{lookupIn, Readable};
 ghost use Rattle.class_walk.specs.Line.{handedOut};
 ghost use Rattle.line_rule.specs.Line.{walkOf, recordFor, unitsOf, stageOf, partBy, partOf, partsOf};
-ghost use Rattle.line_moves.specs.Parts.{Known, bareLine, Small, IsSize, PartOf, Laid, Room, SharedGap};
+ghost use Rattle.line_moves.specs.Parts.{Known, bareLine, Small, IsSize, PartOf, Laid, PartsRoom, SharedGap};
 use actions::Spot;
 use class_walk::Walked;
 use cluster::Sought;
@@ -192,7 +192,7 @@ fn lay_parts(
     second: &mut [u64],
 )
     requires { ⌜ (tableFault (now table) count ≡ Clear) × (length (now classes) ≡ length (now glyphs)) ⌝ }
-    requires { ⌜ Room (length (now glyphs)) (now priorities) (now extras) (now first) (now second) ⌝ }
+    requires { ⌜ PartsRoom (length (now glyphs)) (now priorities) (now extras) (now first) (now second) ⌝ }
     ensures { λ r. ⌜ Laid (partsOf (sideOf (shape .direction) (meaningOf (now (table .entry)) count)) shrink (shape .size) (now (glyphs .entry)) (now (classes .entry))) (now (priorities .exit)) (now (extras .exit)) (now (first .exit)) (now (second .exit)) ⌝ }
 {
     let direction = shape.direction;
@@ -226,7 +226,7 @@ fn share_parts(
     after: &mut [i32],
 ) -> Shared
     requires { ⌜ (tableFault (now table) count ≡ Clear) × (length (now classes) ≡ length (now glyphs)) ⌝ }
-    requires { ⌜ Room (length (now glyphs)) (now priorities) (now extras) (now first) (now second) ⌝ }
+    requires { ⌜ PartsRoom (length (now glyphs)) (now priorities) (now extras) (now first) (now second) ⌝ }
     requires { ⌜ (length (now before) ≡ length (now glyphs)) × (length (now after) ≡ length (now glyphs)) × (length (now glyphs) ≤ 1024) × (natAbs (gap .0) ≤ 1073741823) × (shape .size ≤ 67108864) ⌝ }
     ensures { λ r. ⌜ SharedGap (gap .0) (sideOf (shape .direction) (meaningOf (now (table .entry)) count)) (shape .size) (now (glyphs .entry)) (now (classes .entry)) (now (before .entry)) (now (after .entry)) r (now (before .exit)) (now (after .exit)) ⌝ }
 {

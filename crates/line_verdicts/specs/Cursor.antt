@@ -139,6 +139,6 @@ pub record Fits (l : Moved) (glyphs : List ℕ) : Type 0 where
   pub after : length (l .after) ≡ length glyphs
 
 -- what is asked of a table and a line before their verdicts are taken: the table is accepted, the line has its classes and movements
-pub record Ready (t : List ℕ) (n : ℕ) (l : Moved) (glyphs : List ℕ) : Type 0 where
+pub record HasMoves (t : List ℕ) (n : ℕ) (l : Moved) (glyphs : List ℕ) : Type 0 where
   pub accepted : tableFault t n ≡ Clear
   pub fits : Fits l glyphs

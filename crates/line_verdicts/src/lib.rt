@@ -14,7 +14,7 @@ ghost use Rattle.table.specs.Table.{tableFault};
 ghost use Rattle.table.specs.Means.{meaningOf};
 ghost use Rattle.table_ask.specs.Places.{lookupIn, Readable};
 ghost use Rattle.line_rule.specs.Line.{firings, verdictsFrom};
-ghost use Rattle.line_verdicts.specs.Cursor.{moved, stepOf, nothingAt, judgedAt, firesCount, handCursor, listLeft, Serves, Begins, InList, Here, InLine, Ready};
+ghost use Rattle.line_verdicts.specs.Cursor.{moved, stepOf, nothingAt, judgedAt, firesCount, handCursor, listLeft, Serves, Begins, InList, Here, InLine, HasMoves};
 use actions::Spot;
 use line_rule::LineShape;
 use lookup_targets::Kind;
@@ -216,7 +216,7 @@ pub fn next_verdict<'a>(
     after: &'a [i32],
     cursor: Cursor,
 ) -> Step
-    requires { ⌜ Ready (now table) count (moved (shape .size) (now classes) (now before) (now after)) (now glyphs) × Serves (now table) (length (now glyphs)) cursor ⌝ }
+    requires { ⌜ HasMoves (now table) count (moved (shape .size) (now classes) (now before) (now after)) (now glyphs) × Serves (now table) (length (now glyphs)) cursor ⌝ }
     ensures { λ r. ⌜ InLine (now (table .entry)) (sideOf (shape .direction) (meaningOf (now (table .entry)) count)) (moved (shape .size) (now (classes .entry)) (now (before .entry)) (now (after .entry))) (now (glyphs .entry)) (length (now (glyphs .entry))) cursor r ⌝ }
 {
     let direction = shape.direction;
@@ -315,7 +315,7 @@ pub fn count_verdicts<'a>(
     before: &'a [i32],
     after: &'a [i32],
 ) -> usize
-    requires { ⌜ Ready (now table) count (moved (shape .size) (now classes) (now before) (now after)) (now glyphs) ⌝ }
+    requires { ⌜ HasMoves (now table) count (moved (shape .size) (now classes) (now before) (now after)) (now glyphs) ⌝ }
     ensures { λ r. ⌜ r ≡ length (verdictsFrom (sideOf (shape .direction) (meaningOf (now (table .entry)) count)) (shape .size) 0 (now (glyphs .entry)) (now (classes .entry)) (now (before .entry)) (now (after .entry))) ⌝ }
 {
     let direction = shape.direction;

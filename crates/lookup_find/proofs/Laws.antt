@@ -18,7 +18,7 @@ use Rattle.lookup.specs.Find.{covers, unitValue, unitsValue, hasUnits, unitCoun
 use Rattle.lookup.proofs.Laws.{covers-high, first-single, first-range, size-single, size-range, units-none, value-none, value-in, from-0, from-8, from-units, count-none, units-fit}
 use Rattle.lookup.proofs.Unique.{ends-below, begins-above, unit-rules, unit-inside, rises, covering, none-above, units-clear}
 use Rattle.lookup_find.specs.declared.Head.{Head}
-use Rattle.lookup_find.specs.Halves.{unitOf, closes, openOf, openCount, looksIn, looksOf, headAt, Ready}
+use Rattle.lookup_find.specs.Halves.{unitOf, closes, openOf, openCount, looksIn, looksOf, headAt, Searchable}
 
 and-first : (a b : Bool) → (a && b) ≡ true → a ≡ true
 and-first true b e = refl
@@ -320,7 +320,7 @@ head-units t at e = ap (λ (k : Head). k .units) e
 
 -- ---- the value and the looks of a glyph in a lookup that is ready
 
-module _ {t : List ℕ} {glyphs at : ℕ} {head : Head} (s : Ready t glyphs at head) where
+module _ {t : List ℕ} {glyphs at : ℕ} {head : Head} (s : Searchable t glyphs at head) where
   -- the units that a find can look at are few, and have no fault
   pub ready-few : Bytes t → head .units < 2 ^ 16
   ready-few b = omega (arith, head-units t at (s .read), open-most t (u16At t at) (at + 12) (unitCount t at), units-fit t at b)

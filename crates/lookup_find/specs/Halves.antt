@@ -49,7 +49,7 @@ unfoldable pub headAt : List ℕ → ℕ → Head
 headAt t at = record { format = u16At t at; units = openCount t at }
 
 -- a lookup whose head was read, without a fault for a font of `glyphs` glyphs
-pub record Ready (t : List ℕ) (glyphs at : ℕ) (head : Head) : Type 0 where
+pub record Searchable (t : List ℕ) (glyphs at : ℕ) (head : Head) : Type 0 where
   pub near : at < 2 ^ 32
   pub read : head ≡ headAt t at
   pub few : glyphs < 65536

@@ -7,7 +7,7 @@ ghost use Rattle.fields.specs.declared.Fault.the-variants.{Clear};
 ghost use Rattle.fields.specs.Field.{u16At};
 ghost use Rattle.lookup.specs.Units.{unitSize, unitsFault};
 ghost use Rattle.lookup.specs.Find.{unitValue, unitsValue, valueOf};
-ghost use Rattle.lookup_find.specs.Halves.{unitOf, closes, openOf, headAt, Ready, looksIn, looksOf};
+ghost use Rattle.lookup_find.specs.Halves.{unitOf, closes, openOf, headAt, Searchable, looksIn, looksOf};
 use lookup::Found;
 
 // The head of a lookup, which is read once for many finds: its format, and how many units a find can look at.
@@ -141,7 +141,7 @@ pub fn find_units(
     head: Head,
     glyph: u16,
 ) -> Looked
-    requires { ⌜ Ready (now table) glyphs at head ⌝ }
+    requires { ⌜ Searchable (now table) glyphs at head ⌝ }
     requires { ⌜ (format ≡ head .format) × ((format ≡ 0 → ⊥) × (format ≡ 8 → ⊥)) ⌝ }
     ensures { λ r. ⌜ (r .looks ≡ looksOf (now (table .entry)) at glyph) × (r .found ≡ valueOf (now (table .entry)) glyphs at glyph) ⌝ }
 {
@@ -194,7 +194,7 @@ fn trimmed_value(table: &[u8], glyphs: usize, at: usize, glyph: usize) -> Found
 
 // The value at a glyph in the lookup at `at`, for a font of `glyphs` glyphs, and the looks that it took.
 pub fn find_by(table: &[u8], glyphs: usize, at: usize, head: Head, glyph: u16) -> Looked
-    requires { ⌜ Ready (now table) glyphs at head ⌝ }
+    requires { ⌜ Searchable (now table) glyphs at head ⌝ }
     ensures { λ r. ⌜ (r .looks ≡ looksOf (now (table .entry)) at glyph) × (r .found ≡ valueOf (now (table .entry)) glyphs at glyph) ⌝ }
 {
     let format = head.format;

@@ -8,7 +8,7 @@ use lib.ListN.{length, take, drop, getD, set, length-set}
 use Rattle.share.specs.Share.{total, plus, shareAt, sharesFrom, shares, most}
 use Rattle.share.specs.Carry.{widest}
 use Rattle.share.specs.Line.{evens, odds}
-use Rattle.share.specs.Inner.{factorsAt, extrasAt, Runs, Ready, Stepped, Moved}
+use Rattle.share.specs.Inner.{factorsAt, extrasAt, Runs, CanCarry, Stepped, Moved}
 use Rattle.share.specs.declared.Running.{Running}
 use Rattle.share.specs.declared.Step.{Step}
 use Rattle.share.proofs.Lists.{share-none, share-rises, part-le, getD-le-total, total-set}
@@ -114,11 +114,11 @@ module _ {r t s : ℕ} {ks fs gs bs₀ cs₀ : List ℕ} {run : Running} {bs cs 
     within : g .at + x + y ≤ t
     within = omega (arith, g .left, ap total e)
 
-    pub ready-first : r ≤ 1073741823 → t ≤ most → 0 < t → x ≤ widest → Ready run x
+    pub ready-first : r ≤ 1073741823 → t ≤ most → 0 < t → x ≤ widest → CanCarry run x
     ready-first h k p n = ready x (g .runs) h k p (omega (arith, within)) n
 
     module _ {one : Step} (f : Stepped run x one) where
-      pub ready-second : r ≤ 1073741823 → t ≤ most → 0 < t → y ≤ widest → Ready (one .next) y
+      pub ready-second : r ≤ 1073741823 → t ≤ most → 0 < t → y ≤ widest → CanCarry (one .next) y
       ready-second h k p n = ready y (f .next r t (g .at) (g .runs)) h k p within n
 
       first-rises : one .share + r * g .at / t ≤ r * (g .at + x + y) / t
@@ -199,7 +199,7 @@ pub record Extra (r t s : ℕ) (ks us cs₀ : List ℕ) (run : Running) (cs : Li
 
 module _ {r t s : ℕ} {ks us cs₀ : List ℕ} {run : Running} {cs : List ℕ} {i : ℕ} (g : Extra r t s ks us cs₀ run cs i) where
   module _ {x : ℕ} {todo : List ℕ} (e : extras s ks us i ≡ 0 ∷ x ∷ todo) where
-    pub ready-extra : r ≤ 1073741823 → t ≤ most → 0 < t → x ≤ widest → Ready run x
+    pub ready-extra : r ≤ 1073741823 → t ≤ most → 0 < t → x ≤ widest → CanCarry run x
     ready-extra h k p n = ready x (g .runs) h k p (omega (arith, g .left, ap total e)) n
 
     module _ {one : Step} (f : Stepped run x one) where

@@ -6,7 +6,7 @@ use native.Mathlib.Nat.{mul-le-mul, mul-add, add-mul, mul-zero, zero-div, zero-m
 use lib.Dec.{lit<}
 use Rattle.share.specs.Share.{shareAt, most}
 use Rattle.share.specs.Carry.{widest, farthest, Carries, Carriable, CarriedOn}
-use Rattle.share.specs.Inner.{Runs, Ready, Stepped}
+use Rattle.share.specs.Inner.{Runs, CanCarry, Stepped}
 use Rattle.share.specs.declared.Running.{Running}
 use Rattle.share.specs.declared.Step.{Step}
 use Rattle.share.proofs.Lists.{share-none, part-le}
@@ -78,7 +78,7 @@ started r t = record {
 }
 
 -- what the loop over the sides knows makes a state ready
-pub ready : {r t c : ℕ} {run : Running} (w : ℕ) → Runs r t c run → r ≤ 1073741823 → t ≤ most → 0 < t → c + w ≤ t → w ≤ widest → Ready run w
+pub ready : {r t c : ℕ} {run : Running} (w : ℕ) → Runs r t c run → r ≤ 1073741823 → t ≤ most → 0 < t → c + w ≤ t → w ≤ widest → CanCarry run w
 ready {r} {t} {c} {run} w s h k p l n =
     rw (s .amount, s .over, s .carries .quotient, s .carries .remainder) (carriable c w (omega arith) n p (omega arith) (omega arith))
 

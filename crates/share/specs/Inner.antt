@@ -37,8 +37,8 @@ pub record Runs (r t c : ℕ) (run : Running) : Type 0 where
   pub carries : Carries r t c (run .quotient) (run .remainder)
 
 -- a side of this weight may come next
-abbrev pub Ready : Running → ℕ → Type 0
-Ready run weight = Carriable (run .amount) (run .over) weight (run .quotient) (run .remainder)
+abbrev pub CanCarry : Running → ℕ → Type 0
+CanCarry run weight = Carriable (run .amount) (run .over) weight (run .quotient) (run .remainder)
 
 -- the side's share, and the state after it
 pub record Stepped (run : Running) (weight : ℕ) (step : Step) : Type 0 where

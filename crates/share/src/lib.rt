@@ -10,7 +10,7 @@ ghost use mathlib.Core.List.{map};
 ghost use Rattle.share.specs.Share.{total, most, plus, shares, stages, stageMoves, stageLeft, stagesMoves, stagesLeft, backMoves, backLeft, movements, remainder};
 ghost use Rattle.share.specs.Carry.{widest, Carriable, CarriedOn};
 ghost use Rattle.share.specs.Line.{evens, odds, glyphsOf, lineLeft, lineFits, beforeMoves, afterMoves, signedOf, Parts, Lent};
-ghost use Rattle.share.specs.Inner.{weave, factorsAt, extrasAt, lineOf, Runs, Ready, Stepped, Moved, Holds, Sides, stageCount, totalAt, totalsWithin, TotalsOf, Fit};
+ghost use Rattle.share.specs.Inner.{weave, factorsAt, extrasAt, lineOf, Runs, CanCarry, Stepped, Moved, Holds, Sides, stageCount, totalAt, totalsWithin, TotalsOf, Fit};
 
 // The most that a stage's total may be.
 const MOST: u64 = 8589934592;
@@ -83,7 +83,7 @@ pub fn carry_on(amount: u64, over: u64, weight: u64, quotient: u64, remainder: u
 
 // One side of step 1's formula. A side of no weight has no share, and costs no division.
 fn next_share(run: Running, weight: u64) -> Step
-    requires { ⌜ Ready run weight ⌝ }
+    requires { ⌜ CanCarry run weight ⌝ }
     ensures { λ r. ⌜ Stepped run weight r ⌝ }
 {
     if weight == 0 {

@@ -19,7 +19,7 @@ use Rattle.encoding.proofs.CodeLaws.{be32-free, be32-at}
 use Rattle.encoding.proofs.ListLaws.{all-at, all-map, elem-none}
 use Rattle.encoding.proofs.RunsLaws.{runs-ok, all-runs, ok-few}
 use Rattle.encoding.proofs.SectionLaws.{WideRun, run-free, ok-wide}
-use Rattle.sheet_sections.specs.Section.{Room}
+use Rattle.sheet_sections.specs.Section.{HasItems}
 use Rattle.sheet_sections.proofs.SectionLaws.{field16}
 use Rattle.types.specs.declared.Direction.{Direction}
 use Rattle.types.specs.declared.Entry.{Entry}
@@ -240,7 +240,7 @@ module _ (s : List ℕ) (bytes : Bytes s) (at k rows classes : ℕ) (cells : Lis
   readable : Readable s (at + 4) (at + 4 + 4 * u32At s at + 4) classes rows
   readable = cells-readable rows classes z s bytes at cells rest o e
 
-  pub cells-room : Room 4 s at
+  pub cells-room : HasItems 4 s at
   cells-room = omega (arith, readable .numbers-in)
 
   pub cell-fits : at + 4 + 4 * u32At s at + 4 + k < length s

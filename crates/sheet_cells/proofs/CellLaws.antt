@@ -15,7 +15,7 @@ use Rattle.encoding.proofs.CodeLaws.{counted-free}
 use Rattle.encoding.proofs.ReadLaws.{items-length, first-absent, second-absent, both-found}
 use Rattle.encoding.proofs.SectionLaws.{byte-free}
 use Rattle.encoding.proofs.NumberedLaws.{numbered-found, numbered-absent}
-use Rattle.sheet_sections.specs.Section.{Parses, Room}
+use Rattle.sheet_sections.specs.Section.{Parses, HasItems}
 use Rattle.sheet_sections.specs.declared.Read.{Read}
 use Rattle.sheet_sections.specs.declared.Read.the-variants.{Upto, Absent as Nothing}
 use Rattle.sheet_sections.proofs.SectionLaws.{field16, count-known, items-outside, items-good, items-bad}
@@ -51,11 +51,11 @@ module _ (rows : ℕ) (hr : rows ≤ 256) where
   entries-free a b s t ha hb e = counted-free entryCode WideEntry entry-free a b s t (few-entries a ha) (few-entries b hb) e
 
   module _ (s : List ℕ) (bytes : Bytes s) (at : ℕ) where
-    pub entries-outside : (Room 4 s at → ⊥) → Absent (counted entryCode) (OkEntries rows) s at
+    pub entries-outside : (HasItems 4 s at → ⊥) → Absent (counted entryCode) (OkEntries rows) s at
     entries-outside =
         items-outside entryCode WideEntry entry-free entryAt 4 (λ a. refl) s bytes (entry-wide s bytes) (entry-at s bytes) (OkEntries rows) few-entries at
 
-    module _ (room : Room 4 s at) where
+    module _ (room : HasItems 4 s at) where
       pub entries-good : OkEntries rows (itemsAt entryAt 4 s (at + 4) (u32At s at)) → Found (counted entryCode) (OkEntries rows) s at (at + 4 + 4 * u32At s at)
       entries-good =
           items-good entryCode WideEntry entry-free entryAt 4 (λ a. refl) s bytes (entry-wide s bytes) (entry-at s bytes) (OkEntries rows) few-entries at room
@@ -95,10 +95,10 @@ module _ (total count : ℕ) (ht : total < 2 ^ 32) (s : List ℕ) (bytes : Bytes
   few-numbers : (is : List ℕ) → OkNumbers total count is → (length is < 2 ^ 32) × All (λ (x : ℕ). Unit {0}) is
   few-numbers is h = (omega (arith, h .0), all-unit is)
 
-  pub numbers-outside : (Room 1 s at → ⊥) → Absent (counted byte) (OkNumbers total count) s at
+  pub numbers-outside : (HasItems 1 s at → ⊥) → Absent (counted byte) (OkNumbers total count) s at
   numbers-outside = items-outside byte (λ x. Unit {0}) byte-free byteAt 1 (λ a. refl) s bytes (λ p. tt) (byte-at s) (OkNumbers total count) few-numbers at
 
-  module _ (room : Room 1 s at) where
+  module _ (room : HasItems 1 s at) where
     numbers-bad : (OkNumbers total count (itemsAt byteAt 1 s (at + 4) (u32At s at)) → ⊥) → Absent (counted byte) (OkNumbers total count) s at
     numbers-bad = items-bad byte (λ x. Unit {0}) byte-free byteAt 1 (λ a. refl) s bytes (λ p. tt) (byte-at s) (OkNumbers total count) few-numbers at room
 

@@ -13,7 +13,7 @@ use Rattle.meaning.specs.Limits.{Rising}
 use Rattle.meaning.specs.Sheet.{pairCode}
 use Rattle.meaning.specs.Wide.{WidePair}
 use Rattle.meaning.proofs.SheetLaws.{pair-free, few-pairs}
-use Rattle.sheet_sections.specs.Section.{Room}
+use Rattle.sheet_sections.specs.Section.{HasItems}
 use Rattle.sheet_sections.proofs.SectionLaws.{field16, field32, items-outside, items-good, items-bad}
 use Rattle.sheet_cluster.specs.Clusters.{pairAt, GoodPair, GoodPairs, clusterCode, SomeCluster}
 
@@ -67,10 +67,10 @@ module _ (s : List ℕ) (bytes : Bytes s) (at : ℕ) where
       (field16 s bytes (p + 20) (p + 22) (omega arith) (omega arith) ∙ ap (λ (l : List ℕ). be16 (u16At s (p + 20)) ++ l)
       (field16 s bytes (p + 22) (p + 24) (omega arith) (omega arith)))))))
 
-  pub cluster-outside : (Room 24 s at → ⊥) → Absent clusterCode SomeCluster s at
+  pub cluster-outside : (HasItems 24 s at → ⊥) → Absent clusterCode SomeCluster s at
   cluster-outside = items-outside pairCode WidePair pair-free pairAt 24 (λ a. refl) s bytes pair-wide pair-at SomeCluster few at
 
-  module _ (room : Room 24 s at) where
+  module _ (room : HasItems 24 s at) where
     pub cluster-count : (1 ≤ u32At s at → u32At s at ≤ 128 → ⊥) → Absent clusterCode SomeCluster s at
     cluster-count n =
         refuse-count pairCode WidePair pair-free pairAt 24 (λ a. refl) s bytes pair-wide pair-at SomeCluster few at (omega arith)

@@ -16,7 +16,7 @@ use Rattle.encoding.specs.Sections.{runLessCode}
 use Rattle.encoding.proofs.RunsLaws.{ok-few}
 use Rattle.encoding.proofs.SectionLaws.{WideRunLess, run-less-free, ok-wide}
 use Rattle.encoding.proofs.PoolReadLaws.{values}
-use Rattle.sheet_sections.specs.Section.{Room}
+use Rattle.sheet_sections.specs.Section.{HasItems}
 use Rattle.sheet_sections.specs.RunSection.{Follows}
 use Rattle.sheet_sections.proofs.SectionLaws.{field16, items-outside, items-good, items-bad}
 use Rattle.sheet_sections.specs.Pool.{numberAt, NumbersFrom, NumberRuns, usedAfter}
@@ -116,10 +116,10 @@ module _ (n m : ℕ) (hn : n < 2 ^ 16) (hm : m < 2 ^ 16) where
         (field16 s bytes (p + 2) (p + 4) (omega arith) (omega arith) ∙ ap (λ (l : List ℕ). be16 (u16At s (p + 2)) ++ l)
         (field16 s bytes (p + 4) (p + 6) (omega arith) (omega arith) ∙ ap (λ (x : ℕ). be16 x ++ drop (p + 6) s) e))
 
-    pub numbers-outside : (Room 6 s at → ⊥) → Absent (counted runLessCode) (NumberRuns n m) s at
+    pub numbers-outside : (HasItems 6 s at → ⊥) → Absent (counted runLessCode) (NumberRuns n m) s at
     numbers-outside = items-outside runLessCode WideRunLess run-less-free numberAt 6 (λ a. refl) s bytes number-wide number-at (NumberRuns n m) few-numbers at
 
-    module _ (room : Room 6 s at) where
+    module _ (room : HasItems 6 s at) where
       pub numbers-good : NumberRuns n m (itemsAt numberAt 6 s (at + 4) (u32At s at)) → Found (counted runLessCode) (NumberRuns n m) s at (at + 4 + 6 * u32At s at)
       numbers-good = items-good runLessCode WideRunLess run-less-free numberAt 6 (λ a. refl) s bytes number-wide number-at (NumberRuns n m) few-numbers at room
 

@@ -13,7 +13,7 @@ use Rattle.encoding.specs.Sections.{runCode, runSection}
 use Rattle.encoding.proofs.ListLaws.{all-map}
 use Rattle.encoding.proofs.RunsLaws.{runs-ok, runs-unrun, unrun-length, all-runs, all-unrun, ok-few}
 use Rattle.encoding.proofs.SectionLaws.{WideRun, run-free, ok-wide}
-use Rattle.sheet_sections.specs.Section.{Room}
+use Rattle.sheet_sections.specs.Section.{HasItems}
 use Rattle.sheet_sections.specs.RunSection.{Below, runAt, Follows, GoodRuns}
 use Rattle.sheet_sections.proofs.SectionLaws.{field16, items-outside, items-good, items-bad}
 
@@ -87,10 +87,10 @@ module _ (s : List ℕ) (bytes : Bytes s) where
         h (runs ℕ-discrete skip 0 xs) rest
         (runs-ok ℕ-discrete skip xs n 0 (omega (arith, v .0)), all-runs ℕ-discrete skip (λ (x : ℕ). x < limit) xs 0 (v .1)) e
 
-    pub runs-outside : (Room 6 s at → ⊥) → Absent (runSection skip) (Below n limit) s at
+    pub runs-outside : (HasItems 6 s at → ⊥) → Absent (runSection skip) (Below n limit) s at
     runs-outside h = no-values (items-outside runCode WideRun run-free runAt 6 (λ a. refl) s bytes run-wide run-at (GoodRuns n limit skip 0 skip) few-runs at h)
 
-    module _ (room : Room 6 s at) where
+    module _ (room : HasItems 6 s at) where
       pub runs-good : GoodRuns n limit skip 0 skip (itemsAt runAt 6 s (at + 4) (u32At s at)) → Found (runSection skip) (Below n limit) s at (at + 4 + 6 * u32At s at)
       runs-good g =
           as-values (at + 4 + 6 * u32At s at)

@@ -12,7 +12,7 @@ use Rattle.encoding.specs.Codes.{All, many, counted, PrefixFree, Found, Absent,
 use Rattle.encoding.proofs.CodeLaws.{be32-free, be16-at, be32-at}
 use Rattle.encoding.proofs.ReadLaws.{refuse-short, refuse-long, refuse-items, accept-items}
 use Rattle.encoding.specs.Tests.{Says}
-use Rattle.sheet_sections.specs.Section.{Room}
+use Rattle.sheet_sections.specs.Section.{HasItems}
 
 -- what a test says
 pub says-yes : {b : Bool} (P : Type 0) → b ≡ true → Says b P → P
@@ -54,7 +54,7 @@ module _ {A : Type 0} (code : A → List ℕ) (wide : A → Type 0) (free : Pref
     (s : List ℕ) (bytes : Bytes s) (item-wide : (p : ℕ) → wide (item s p))
     (item-at : (p : ℕ) → p + w ≤ length s → drop p s ≡ code (item s p) ++ drop (p + w) s)
     (G : List A → Type 0) (few : (xs : List A) → G xs → (length xs < 2 ^ 32) × All wide xs) (at : ℕ) where
-  pub items-outside : (Room w s at → ⊥) → Absent (counted code) G s at
+  pub items-outside : (HasItems w s at → ⊥) → Absent (counted code) G s at
   items-outside h = go (decLe (at + 4) (length s))
     where
       go : Dec (at + 4 ≤ length s) → Absent (counted code) G s at
@@ -62,7 +62,7 @@ module _ {A : Type 0} (code : A → List ℕ) (wide : A → Type 0) (free : Pref
           refuse-long code wide free item w each s bytes item-wide item-at G few at l (omega (arith, h))
       go (no l) = refuse-short code wide free item w each s bytes item-wide item-at G few at (omega (arith, l))
 
-  module _ (room : Room w s at) where
+  module _ (room : HasItems w s at) where
     pub items-good : G (itemsAt item w s (at + 4) (u32At s at)) → Found (counted code) G s at (at + 4 + w * u32At s at)
     items-good = accept-items code wide free item w each s bytes item-wide item-at G few at (omega arith) room
 

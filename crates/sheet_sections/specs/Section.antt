@@ -15,5 +15,5 @@ Parses code ok bytes at (Upto q) = Found code ok bytes at q
 Parses code ok bytes at Nothing = Absent code ok bytes at
 
 -- a 32-bit count stands there, and as many items of so many bytes after it
-abbrev pub Room : ℕ → List ℕ → ℕ → Type 0
-Room width bytes at = at + 4 + width * u32At bytes at ≤ length bytes
+abbrev pub HasItems : ℕ → List ℕ → ℕ → Type 0
+HasItems width bytes at = at + 4 + width * u32At bytes at ≤ length bytes

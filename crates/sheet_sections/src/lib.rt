@@ -9,7 +9,7 @@ ghost use Rattle.fields.specs.Field.{u32At};
 ghost use Rattle.encoding.specs.Codes.{itemsAt, counted};
 ghost use Rattle.encoding.specs.Sections.{runSection, runLessCode};
 ghost use Rattle.encoding.specs.Tests.{Says};
-ghost use Rattle.sheet_sections.specs.Section.{Parses, Room};
+ghost use Rattle.sheet_sections.specs.Section.{Parses, HasItems};
 ghost use Rattle.sheet_sections.specs.RunSection.{runAt, Follows, GoodRuns, Below};
 ghost use Rattle.sheet_sections.specs.Pool.{numberAt, NumbersFrom, NumberRuns, usedAfter};
 
@@ -22,7 +22,7 @@ pub enum Read {
 // Whether a 32-bit count stands at a position, and as many items of `width` bytes after it.
 pub fn has_items(bytes: &[u8], at: usize, width: usize) -> bool
     requires { ⌜ width ≤ 2 ^ 16 ⌝ }
-    ensures { λ r. ⌜ Says r (Room width (now (bytes .entry)) at) ⌝ }
+    ensures { λ r. ⌜ Says r (HasItems width (now (bytes .entry)) at) ⌝ }
 {
     if bytes.len() < at {
         return false;

@@ -11,7 +11,7 @@ use Rattle.fields.specs.Laws.{u32At-fits}
 use Rattle.encoding.specs.Codes.{All, many, counted}
 use Rattle.encoding.specs.Sections.{byte}
 use Rattle.encoding.proofs.CodeLaws.{be32-free, be32-at, many-length}
-use Rattle.sheet_sections.specs.Section.{Room}
+use Rattle.sheet_sections.specs.Section.{HasItems}
 use Rattle.meaning.specs.Sheet.{actionCode}
 use Rattle.meaning.specs.Wide.{WideAction}
 use Rattle.sheet_seek.specs.Passes.{Passes, ItemsEnd, AtLeast, Reaches}
@@ -48,7 +48,7 @@ module _ {A : Type 0} (code : A → List ℕ) (ok : A → Type 0) (s : List ℕ)
     pub reached : (k q : ℕ) → Left code ok s k (at + 4) q → Reaches code ok k s at q
     reached k q h xs rest o e = h xs rest o (opened xs rest (o .1) e .2)
 
-    pub unreached : (k q : ℕ) → (Room 0 s at → ⊥) → Reaches code ok k s at q
+    pub unreached : (k q : ℕ) → (HasItems 0 s at → ⊥) → Reaches code ok k s at q
     unreached k q h xs rest o e = absurd (h (omega (arith, opened xs rest (o .1) e .0)))
 
     -- the count's own number is where the section ends
@@ -60,7 +60,7 @@ module _ {A : Type 0} (code : A → List ℕ) (ok : A → Type 0) (s : List ℕ)
 
     -- items of one width
     module _ (w : ℕ) (each : (a : A) → length (code a) ≡ w) where
-      pub items-there : (xs : List A) (rest : List ℕ) → length xs < 2 ^ 32 → drop at s ≡ counted code xs ++ rest → Room w s at
+      pub items-there : (xs : List A) (rest : List ℕ) → length xs < 2 ^ 32 → drop at s ≡ counted code xs ++ rest → HasItems w s at
       items-there xs rest l e =
           let o = opened xs rest l e in
           let m : w * u32At s at ≡ length xs * w = ap (λ (k : ℕ). w * k) (o .1) ∙ mul-comm w (length xs) in
@@ -75,7 +75,7 @@ module _ {A : Type 0} (code : A → List ℕ) (ok : A → Type 0) (s : List ℕ)
 
 -- an action: four bytes, then a section of bytes
 module _ (s : List ℕ) (bytes : Bytes s) (at : ℕ) where
-  pub action-none : (q : ℕ) → (Room 0 s at → ⊥) → Passes actionCode (λ x. []) WideAction s at q
+  pub action-none : (q : ℕ) → (HasItems 0 s at → ⊥) → Passes actionCode (λ x. []) WideAction s at q
   action-none q h a rest o e =
       absurd (h (omega (arith, ap length e, length-drop at s, length-append (be16 (a .class) ++ be16 (a .ty)) (counted byte (a .content) ++ rest))))
 

@@ -7,7 +7,7 @@ use native.Mathlib.Decide.{decLe}
 use Rattle.fields.specs.Field.{u16At, u32At}
 use Rattle.encoding.specs.Codes.{itemsAt}
 use Rattle.encoding.specs.Runs.{Run}
-use Rattle.sheet_sections.specs.Section.{Room}
+use Rattle.sheet_sections.specs.Section.{HasItems}
 
 -- the run that stands at a place, its value with something added: 1 for runs of numbers, which are written less one
 abbrev pub runMore : ℕ → List ℕ → ℕ → Run ℕ
@@ -20,4 +20,4 @@ lookUp skip i (r ∷ rs) = ite (decLe (r .first) i) (ite (decLe i (r .last)) (r 
 
 -- the value of an index in the section of runs at a place, if it is there
 abbrev pub ValueIn : ℕ → ℕ → List ℕ → ℕ → ℕ → ℕ → Type 0
-ValueIn more skip bytes at i r = Room 6 bytes at → r ≡ lookUp skip i (itemsAt (runMore more) 6 bytes (at + 4) (u32At bytes at))
+ValueIn more skip bytes at i r = HasItems 6 bytes at → r ≡ lookUp skip i (itemsAt (runMore more) 6 bytes (at + 4) (u32At bytes at))

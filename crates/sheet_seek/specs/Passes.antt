@@ -8,7 +8,7 @@ use lib.ListN.{length, drop}
 use Rattle.fields.specs.Field.{u32At}
 use Rattle.encoding.specs.Codes.{All, many, counted}
 use Rattle.encoding.specs.Sections.{numbered}
-use Rattle.sheet_sections.specs.Section.{Room}
+use Rattle.sheet_sections.specs.Section.{HasItems}
 use Rattle.types.specs.declared.Direction.{Direction}
 use Rattle.types.specs.declared.Direction.the-variants.{Horizontal, Vertical}
 use Rattle.sheet_items.specs.declared.Sort.{Sort}
@@ -24,7 +24,7 @@ Passes whole left ok bytes at q = (x : _) (rest : List ℕ) → ok x → drop at
 
 -- a count and as many items of one width end at q, if they are there
 abbrev pub ItemsEnd : ℕ → List ℕ → ℕ → ℕ → Type 0
-ItemsEnd width bytes at q = Room width bytes at → q ≡ at + 4 + width * u32At bytes at
+ItemsEnd width bytes at q = HasItems width bytes at → q ≡ at + 4 + width * u32At bytes at
 
 -- valid items, k or more, and not more than a 32-bit count can say
 abbrev pub AtLeast : {A : Type 0} → (A → Type 0) → ℕ → List A → Type 0

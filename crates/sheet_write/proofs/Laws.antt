@@ -20,7 +20,7 @@ use Rattle.meaning.specs.Sheet.{write}
 use Rattle.table.specs.Table.{directionAt, headerFault, directionFault, tableFault}
 use Rattle.table.specs.Means.{meaningOf}
 use Rattle.table.proofs.Laws.{direction-clear, short, few-glyphs}
-use Rattle.write_direction.specs.Side.{sideBytes, Ready as Ready-side}
+use Rattle.write_direction.specs.Side.{sideBytes, ClearSide}
 use Rattle.sheet_write.specs.Written.{sheetOf, refused, bytes, lengthBy, sheetLength, stored, writtenBy, written, Draft}
 
 -- ---- the sheet
@@ -44,7 +44,7 @@ module _ (t : List ℕ) (n : ℕ) where
     pub glyphs-few : n < 65536
     glyphs-few = omega (arith, few-glyphs t n header-clear)
 
-    pub side-ready : (d : Direction) (at : ℕ) → at < 2 ^ 16 → at ≡ directionAt t d → Ready-side t n at
+    pub side-ready : (d : Direction) (at : ℕ) → at < 2 ^ 16 → at ≡ directionAt t d → ClearSide t n at
     side-ready d at h c =
         record { bytes = bytes-few; few = glyphs-few; near = h; clear = ap (directionFault t n) c ∙ direction-clear t n e d }
 

@@ -7,7 +7,7 @@ use Rattle.fields.specs.declared.Fault.{Fault}
 use Rattle.fields.specs.declared.Fault.the-variants.{Clear}
 use Rattle.lookup.specs.declared.Found.{Found}
 use Rattle.lookup_find.specs.declared.Head.{Head}
-use Rattle.lookup_find.specs.Halves.{headAt, Ready}
+use Rattle.lookup_find.specs.Halves.{headAt, Searchable}
 use Rattle.lookup_targets.specs.declared.Kind.{Kind}
 use Rattle.fields.specs.Laws.{then-first}
 use Rattle.types.specs.declared.Direction.{Direction}
@@ -66,7 +66,7 @@ module _ (t : List ℕ) (n : ℕ) (e : tableFault t n ≡ Clear) where
 -- ---- a lookup that is there, as the code has taken it apart
 
 module _ (t : List ℕ) (n : ℕ) {l : Lookup} {at base : ℕ} {head : Head} (e : l ≡ There at base head) where
-  pub there-ready : Readable t l → Sound t n l → Ready t n at head
+  pub there-ready : Readable t l → Sound t n l → Searchable t n at head
   there-ready r s =
       let w = subst (Readable t) e r in
       let v = subst (Sound t n) e s in

@@ -28,9 +28,9 @@ use Rattle.write_item.specs.Items.{itemAt, item-discrete, itemCode}
 use Rattle.lookup_targets.specs.declared.Source.{Source}
 use Rattle.lookup_targets.specs.declared.Source.the-variants.{Lookup, Absent}
 use Rattle.write_glyphs.specs.Places.{itemHere, itemsFrom, Sound}
-use Rattle.write_pool.specs.Pool.{poolBytes, Short, Ready as Ready-pool}
+use Rattle.write_pool.specs.Pool.{poolBytes, Short, Numberable}
 use Rattle.write_machine.specs.Parts.{machineParts, machineBytes}
-use Rattle.write_direction.specs.Side.{sideBytes, Ready}
+use Rattle.write_direction.specs.Side.{sideBytes, ClearSide}
 use Rattle.write_direction.proofs.Short.{looked-short, absent-short}
 
 -- ---- items of a lookup
@@ -149,7 +149,7 @@ module _ (t : List ℕ) (n : ℕ) where
     source-short Absent w e = absent-short t n kind
 
 -- what the items of a kind need, from what the direction has
-pub pool-ready : (t : List ℕ) (n at : ℕ) → Ready t n at → Bytes t → (kind : Kind) (source : Source) → (source ≡ sourceAt t at kind) × Near source → Ready-pool kind t n source
+pub pool-ready : (t : List ℕ) (n at : ℕ) → ClearSide t n at → Bytes t → (kind : Kind) (source : Source) → (source ≡ sourceAt t at kind) × Near source → Numberable kind t n source
 pool-ready t n at r w kind source e =
     let clear = ap (sourceFault t n kind) (e .0) ∙ source-clear t at n (r .clear) kind in
     record { bytes = r .bytes; few = r .few; sound = source-sound t n kind source (e .1) clear; short = source-short t n kind source w clear }

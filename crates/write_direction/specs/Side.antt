@@ -12,7 +12,7 @@ unfoldable pub sideBytes : List ℕ → ℕ → ℕ → List ℕ
 sideBytes t n at = writeSide (directionOf t n at)
 
 -- a direction without fault
-pub record Ready (t : List ℕ) (n at : ℕ) : Type 0 where
+pub record ClearSide (t : List ℕ) (n at : ℕ) : Type 0 where
   pub bytes : length t ≤ 2 ^ 15
   pub few : n < 2 ^ 16
   pub near : at < 2 ^ 16

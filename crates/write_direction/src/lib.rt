@@ -4,12 +4,12 @@ ghost use mathlib.Core.Path.{_≡_};
 ghost use Prim.Native.Nat.{_+_, _<_, _^_};
 ghost use lib.ListN.{length};
 ghost use lib.Seq.{sets};
-ghost use Rattle.write_direction.specs.Side.{sideBytes, Ready};
+ghost use Rattle.write_direction.specs.Side.{sideBytes, ClearSide};
 use lookup_targets::Kind;
 
 // Stores the direction, and answers where it ends; what would stand past the end of the bytes is dropped.
 pub fn put_side(table: &[u8], glyphs: usize, at: usize, out: &mut [u8], to: usize) -> usize
-    requires { ⌜ Ready (now table) glyphs at × (to < 2 ^ 36) ⌝ }
+    requires { ⌜ ClearSide (now table) glyphs at × (to < 2 ^ 36) ⌝ }
     ensures { λ r. ⌜ (r ≡ to + length (sideBytes (now (table .entry)) glyphs at)) × (r < to + 2 ^ 30 + 2 ^ 20)
         × (now (out .exit) ≡ sets (now (out .entry)) to (sideBytes (now (table .entry)) glyphs at)) ⌝ }
 {

@@ -27,7 +27,7 @@ abbrev pub Short : (kind : Kind) → Item kind → Type 0
 Short kind x = length (itemCode kind x) ≤ 5380
 
 -- a table and a source in it, such that what n glyphs have can be numbered and written
-pub record Ready (kind : Kind) (t : List ℕ) (n : ℕ) (source : Source) : Type 0 where
+pub record Numberable (kind : Kind) (t : List ℕ) (n : ℕ) (source : Source) : Type 0 where
   pub bytes : length t ≤ 2 ^ 15
   pub few : n < 2 ^ 16
   pub sound : Sound t n source

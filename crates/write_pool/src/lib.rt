@@ -13,7 +13,7 @@ ghost use Rattle.write_item.specs.Items.{itemCode};
 ghost use Rattle.write_numbers.specs.Numbered.{placed, Blank};
 ghost use Rattle.write_glyphs.specs.Places.{Rooms};
 ghost use Rattle.write_runs.specs.Spread.{Stretches};
-ghost use Rattle.write_pool.specs.Pool.{sections, Short, Ready, Placed, Tried};
+ghost use Rattle.write_pool.specs.Pool.{sections, Short, Numberable, Placed, Tried};
 use lookup_targets::Kind;
 use lookup_targets::Source;
 
@@ -73,7 +73,7 @@ fn put_with(
     out: &mut [u8],
     to: usize,
 ) -> usize
-    requires { ⌜ Ready kind (now table) glyphs (Source.Lookup at base) × (to < 2 ^ 38) ⌝ }
+    requires { ⌜ Numberable kind (now table) glyphs (Source.Lookup at base) × (to < 2 ^ 38) ⌝ }
     requires { ⌜ Rooms (length (now ends)) (length (now nums)) (length (now firsts)) (length (now others)) (length (now slots)) × (Blank (now others) × (Blank (now slots) × (Blank (now seen) × Blank (now alike)))) ⌝ }
     ensures { λ r. ⌜ Tried kind (now (table .entry)) glyphs (Source.Lookup at base) (length (now (ends .entry))) (now (out .entry)) (now (out .exit)) to r ⌝ }
 {
@@ -109,7 +109,7 @@ fn put_small(
     out: &mut [u8],
     to: usize,
 ) -> usize
-    requires { ⌜ Ready kind (now table) glyphs (Source.Lookup at base) × (to < 2 ^ 38) ⌝ }
+    requires { ⌜ Numberable kind (now table) glyphs (Source.Lookup at base) × (to < 2 ^ 38) ⌝ }
     ensures { λ r. ⌜ Tried kind (now (table .entry)) glyphs (Source.Lookup at base) 128 (now (out .entry)) (now (out .exit)) to r ⌝ }
 {
     let mut ends = [0u16; 128];
@@ -148,7 +148,7 @@ fn put_medium(
     out: &mut [u8],
     to: usize,
 ) -> usize
-    requires { ⌜ Ready kind (now table) glyphs (Source.Lookup at base) × (to < 2 ^ 38) ⌝ }
+    requires { ⌜ Numberable kind (now table) glyphs (Source.Lookup at base) × (to < 2 ^ 38) ⌝ }
     requires { ⌜ Blank (now alike) ⌝ }
     ensures { λ r. ⌜ Tried kind (now (table .entry)) glyphs (Source.Lookup at base) 4096 (now (out .entry)) (now (out .exit)) to r ⌝ }
 {
@@ -186,7 +186,7 @@ fn put_by_format(
     out: &mut [u8],
     to: usize,
 ) -> usize
-    requires { ⌜ Ready kind (now table) glyphs (Source.Lookup at base) × (to < 2 ^ 38) ⌝ }
+    requires { ⌜ Numberable kind (now table) glyphs (Source.Lookup at base) × (to < 2 ^ 38) ⌝ }
     ensures { λ r. ⌜ Tried kind (now (table .entry)) glyphs (Source.Lookup at base) 4096 (now (out .entry)) (now (out .exit)) to r ⌝ }
 {
     if fields::u16_at(table, at) == 4 {
@@ -207,7 +207,7 @@ fn put_large(
     out: &mut [u8],
     to: usize,
 ) -> usize
-    requires { ⌜ Ready kind (now table) glyphs (Source.Lookup at base) × (to < 2 ^ 38) ⌝ }
+    requires { ⌜ Numberable kind (now table) glyphs (Source.Lookup at base) × (to < 2 ^ 38) ⌝ }
     ensures { λ r. ⌜ Tried kind (now (table .entry)) glyphs (Source.Lookup at base) 65536 (now (out .entry)) (now (out .exit)) to r ⌝ }
 {
     let mut ends = [0u16; 65536];
@@ -259,7 +259,7 @@ fn put_looked(
     out: &mut [u8],
     to: usize,
 ) -> usize
-    requires { ⌜ Ready kind (now table) glyphs (Source.Lookup at base) × (to < 2 ^ 38) ⌝ }
+    requires { ⌜ Numberable kind (now table) glyphs (Source.Lookup at base) × (to < 2 ^ 38) ⌝ }
     ensures { λ r. ⌜ Placed kind (now (table .entry)) glyphs (Source.Lookup at base) (now (out .entry)) (now (out .exit)) to r ⌝ }
 {
     if has_many_units(table, at) {
@@ -282,7 +282,7 @@ fn put_lookup(
     out: &mut [u8],
     to: usize,
 ) -> usize
-    requires { ⌜ Ready kind (now table) glyphs (Source.Lookup at base) × (to < 2 ^ 38) ⌝ }
+    requires { ⌜ Numberable kind (now table) glyphs (Source.Lookup at base) × (to < 2 ^ 38) ⌝ }
     ensures { λ r. ⌜ Placed kind (now (table .entry)) glyphs (Source.Lookup at base) (now (out .entry)) (now (out .exit)) to r ⌝ }
 {
     let end = put_small(table, glyphs, kind, at, base, out, to);
@@ -310,7 +310,7 @@ pub fn put_pool(
     out: &mut [u8],
     to: usize,
 ) -> usize
-    requires { ⌜ Ready kind (now table) glyphs source × (to < 2 ^ 38) ⌝ }
+    requires { ⌜ Numberable kind (now table) glyphs source × (to < 2 ^ 38) ⌝ }
     ensures { λ r. ⌜ Placed kind (now (table .entry)) glyphs source (now (out .entry)) (now (out .exit)) to r ⌝ }
 {
     let Source::Lookup { at, base } = source else {

@@ -8,7 +8,7 @@ use Rattle.types.specs.declared.Pair.{Pair}
 use Rattle.table.specs.Means.{meaningOf}
 use Rattle.meaning.specs.Ask.{sideOf}
 use Rattle.line_rule.specs.Line.{partOf, partsOf}
-use Rattle.line_moves.specs.Parts.{PartOf, Room}
+use Rattle.line_moves.specs.Parts.{PartOf, PartsRoom}
 use Rattle.line_moves.proofs.Parts.{parts-length, parts-next, Filling, filling-start, filling-part, filling-end, not-below}
 use borrow.Author.Needs.{needs}
 use Rattle.line_moves.proofs.lay_parts.Statement.{statement}
@@ -33,7 +33,7 @@ loop-holds : tie.Need-loop-holds Inv-loop μ-loop
 loop-holds c =
     let a = c .before .before .before .before .before .before .before .before .args in
     let s = sideOf (a .shape .direction) (meaningOf (a .table .now) (a .count)) in
-    (omega arith, filling-start _ _ _ _ _ (subst (λ (n : ℕ). Room n (a .priorities .now) (a .extras .now) (a .first .now) (a .second .now)) (sym (parts-length s (a .shrink) (a .shape .size) (a .glyphs .now) (a .classes .now) (c .before .before .before .before .before .before .before .before .pre .0 .1))) (c .before .before .before .before .before .before .before .before .pre .1)))
+    (omega arith, filling-start _ _ _ _ _ (subst (λ (n : ℕ). PartsRoom n (a .priorities .now) (a .extras .now) (a .first .now) (a .second .now)) (sym (parts-length s (a .shrink) (a .shape .size) (a .glyphs .now) (a .classes .now) (c .before .before .before .before .before .before .before .before .pre .0 .1))) (c .before .before .before .before .before .before .before .before .pre .1)))
 
 mul-record-for : tie.Need-mul-record-for Inv-loop μ-loop
 mul-record-for c = omega arith

@@ -1,7 +1,7 @@
 -- `sheet_ask::cell_in` meets its contract. The cell's number and its entry stand inside, or no cells stand there. Assumes nothing.
 use Rattle.sheet_ask.proofs.MachineLaws.{cells-room, cell-fits, entry-fits, cell-is}
 use Rattle.sheet_sections.proofs.SectionLaws.{failed, passed}
-use Rattle.sheet_sections.specs.Section.{Room}
+use Rattle.sheet_sections.specs.Section.{HasItems}
 use Rattle.fields.specs.Field.{u32At, Bytes}
 use mathlib.Core.Path.{_≡_}
 use Prim.Native.Nat.{ℕ, _+_, _*_}
@@ -18,13 +18,13 @@ returns c = λ rows classes cells rest z o e h.
     let a = c .before .before .before .args in
     let s = a .bytes .now in
     let bytes : Bytes s = λ i. omega (arith, c .before .before .shared-slice-known .given i) in
-    absurd (failed (c .before .has-items .result) (Room 4 s (a .at)) (c .if1 .taken) (c .before .has-items .ensures)
+    absurd (failed (c .before .has-items .result) (HasItems 4 s (a .at)) (c .if1 .taken) (c .before .has-items .ensures)
     (cells-room s bytes (a .at) (a .cell) rows classes cells rest z o e h))
 
 add-cells : tie.Need-add-cells
 add-cells c =
     let a = c .before .before .before .args in
-    let room = passed (c .before .has-items .result) (Room 4 (a .bytes .now) (a .at)) (c .if1 .left) (c .before .has-items .ensures) in
+    let room = passed (c .before .has-items .result) (HasItems 4 (a .bytes .now) (a .at)) (c .if1 .left) (c .before .has-items .ensures) in
     omega (arith, room)
 
 u32-at-requires : tie.Need-u32-at-requires
@@ -36,13 +36,13 @@ mul-cells c = search needs
 add-cells-2 : tie.Need-add-cells-2
 add-cells-2 c =
     let a = c .before .before .before .before .args in
-    let room = passed (c .before .before .has-items .result) (Room 4 (a .bytes .now) (a .at)) (c .before .if1 .left) (c .before .before .has-items .ensures) in
+    let room = passed (c .before .before .has-items .result) (HasItems 4 (a .bytes .now) (a .at)) (c .before .if1 .left) (c .before .before .has-items .ensures) in
     omega (arith, room, c .u32-at .ensures .0)
 
 sub-if2 : tie.Need-sub-if2
 sub-if2 c =
     let a = c .before .before .before .before .args in
-    let room = passed (c .before .before .has-items .result) (Room 4 (a .bytes .now) (a .at)) (c .before .if1 .left) (c .before .before .has-items .ensures) in
+    let room = passed (c .before .before .has-items .result) (HasItems 4 (a .bytes .now) (a .at)) (c .before .if1 .left) (c .before .before .has-items .ensures) in
     omega (arith, room, c .u32-at .ensures .0)
 
 add-if2 : tie.Need-add-if2

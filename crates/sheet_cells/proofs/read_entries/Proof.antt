@@ -4,7 +4,7 @@ use mathlib.Core.Path.{_≡_, sym, subst}
 use native.Mathlib.Omega.{arith}
 use Rattle.fields.specs.Field.{u32At, Bytes}
 use Rattle.encoding.specs.Codes.{counted, Found, itemsAt}
-use Rattle.sheet_sections.specs.Section.{Room}
+use Rattle.sheet_sections.specs.Section.{HasItems}
 use Rattle.sheet_sections.proofs.SectionLaws.{failed, passed}
 use Rattle.meaning.specs.Sheet.{entryCode}
 use Rattle.sheet_cells.specs.Cells.{entryAt, OkEntries}
@@ -21,7 +21,7 @@ returns c =
     let a = c .before .before .before .args in
     let s = a .bytes .now in
     let bytes : Bytes s = λ i. omega (arith, c .before .before .shared-slice-known .given i) in
-    entries-outside (a .rows) (c .before .before .before .pre) s bytes (a .at) (failed (c .before .has-items .result) (Room 4 s (a .at)) (c .if1 .taken) (c .before .has-items .ensures))
+    entries-outside (a .rows) (c .before .before .before .pre) s bytes (a .at) (failed (c .before .has-items .result) (HasItems 4 s (a .at)) (c .if1 .taken) (c .before .has-items .ensures))
 
 u32-at-requires : tie.Need-u32-at-requires
 u32-at-requires c κs = search needs
@@ -31,21 +31,21 @@ returns-2 c =
     let a = c .before .before .before .before .before .args in
     let s = a .bytes .now in
     let bytes : Bytes s = λ i. omega (arith, c .before .before .before .before .shared-slice-known .given i) in
-    let room = passed (c .before .before .before .has-items .result) (Room 4 s (a .at)) (c .before .before .if1 .left) (c .before .before .before .has-items .ensures) in
+    let room = passed (c .before .before .before .has-items .result) (HasItems 4 s (a .at)) (c .before .before .if1 .left) (c .before .before .before .has-items .ensures) in
     entries-many (a .rows) (c .before .before .before .before .before .pre) s bytes (a .at) room (omega (arith, c .before .u32-at .ensures .0))
 
 add-good-entries : tie.Need-add-good-entries
 add-good-entries c =
     let a = c .before .before .before .before .before .args in
     let s = a .bytes .now in
-    let room = passed (c .before .before .before .has-items .result) (Room 4 s (a .at)) (c .before .before .if1 .left) (c .before .before .before .has-items .ensures) in
+    let room = passed (c .before .before .before .has-items .result) (HasItems 4 s (a .at)) (c .before .before .if1 .left) (c .before .before .before .has-items .ensures) in
     omega (arith, room)
 
 good-entries-requires : tie.Need-good-entries-requires
 good-entries-requires c κs =
     let a = c .before .before .before .before .before .args in
     let s = a .bytes .now in
-    let room = passed (c .before .before .before .has-items .result) (Room 4 s (a .at)) (c .before .before .if1 .left) (c .before .before .before .has-items .ensures) in
+    let room = passed (c .before .before .before .has-items .result) (HasItems 4 s (a .at)) (c .before .before .if1 .left) (c .before .before .before .has-items .ensures) in
     (omega (arith, room), omega arith)
 
 returns-3 : tie.Need-returns-3
@@ -53,7 +53,7 @@ returns-3 c =
     let a = c .before .before .before .before .before .before .before .args in
     let s = a .bytes .now in
     let bytes : Bytes s = λ i. omega (arith, c .before .before .before .before .before .before .shared-slice-known .given i) in
-    let room = passed (c .before .before .before .before .before .has-items .result) (Room 4 s (a .at)) (c .before .before .before .before .if1 .left) (c .before .before .before .before .before .has-items .ensures) in
+    let room = passed (c .before .before .before .before .before .has-items .result) (HasItems 4 s (a .at)) (c .before .before .before .before .if1 .left) (c .before .before .before .before .before .has-items .ensures) in
     let count = c .before .before .before .u32-at .result in
     let e : count ≡ u32At s (a .at) = c .before .before .before .u32-at .ensures .0 in
     let g = failed (c .before .good-entries .result) (OkEntries (a .rows) (itemsAt entryAt 4 s (a .at + 4) count)) (c .if3 .taken) (c .before .good-entries .ensures) in
@@ -63,7 +63,7 @@ add-t7 : tie.Need-add-t7
 add-t7 c =
     let a = c .before .before .before .before .before .before .before .args in
     let s = a .bytes .now in
-    let room = passed (c .before .before .before .before .before .has-items .result) (Room 4 s (a .at)) (c .before .before .before .before .if1 .left) (c .before .before .before .before .before .has-items .ensures) in
+    let room = passed (c .before .before .before .before .before .has-items .result) (HasItems 4 s (a .at)) (c .before .before .before .before .if1 .left) (c .before .before .before .before .before .has-items .ensures) in
     omega (arith, room)
 
 mul-t8 : tie.Need-mul-t8
@@ -73,7 +73,7 @@ add-t9 : tie.Need-add-t9
 add-t9 c =
     let a = c .before .before .before .before .before .before .before .args in
     let s = a .bytes .now in
-    let room = passed (c .before .before .before .before .before .has-items .result) (Room 4 s (a .at)) (c .before .before .before .before .if1 .left) (c .before .before .before .before .before .has-items .ensures) in
+    let room = passed (c .before .before .before .before .before .has-items .result) (HasItems 4 s (a .at)) (c .before .before .before .before .if1 .left) (c .before .before .before .before .before .has-items .ensures) in
     omega (arith, room)
 
 returns-4 : tie.Need-returns-4
@@ -81,7 +81,7 @@ returns-4 c =
     let a = c .before .before .before .before .before .before .before .args in
     let s = a .bytes .now in
     let bytes : Bytes s = λ i. omega (arith, c .before .before .before .before .before .before .shared-slice-known .given i) in
-    let room = passed (c .before .before .before .before .before .has-items .result) (Room 4 s (a .at)) (c .before .before .before .before .if1 .left) (c .before .before .before .before .before .has-items .ensures) in
+    let room = passed (c .before .before .before .before .before .has-items .result) (HasItems 4 s (a .at)) (c .before .before .before .before .if1 .left) (c .before .before .before .before .before .has-items .ensures) in
     let count = c .before .before .before .u32-at .result in
     let e : count ≡ u32At s (a .at) = c .before .before .before .u32-at .ensures .0 in
     let g = passed (c .before .good-entries .result) (OkEntries (a .rows) (itemsAt entryAt 4 s (a .at + 4) count)) (c .if3 .left) (c .before .good-entries .ensures) in

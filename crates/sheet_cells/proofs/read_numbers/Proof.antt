@@ -5,7 +5,7 @@ use native.Mathlib.Omega.{arith}
 use Rattle.fields.specs.Field.{u32At, Bytes}
 use Rattle.encoding.specs.Codes.{itemsAt}
 use Rattle.encoding.specs.Distinct.{InOrder}
-use Rattle.sheet_sections.specs.Section.{Room}
+use Rattle.sheet_sections.specs.Section.{HasItems}
 use Rattle.sheet_sections.proofs.SectionLaws.{failed, passed}
 use Rattle.sheet_cells.specs.Cells.{byteAt}
 use Rattle.sheet_cells.proofs.CellLaws.{numbers-outside, numbers-other, numbers-wrong, numbers-good}
@@ -21,7 +21,7 @@ returns c =
     let a = c .before .before .before .args in
     let s = a .bytes .now in
     let bytes : Bytes s = λ i. omega (arith, c .before .before .shared-slice-known .given i) in
-    numbers-outside (a .total) (a .count) (c .before .before .before .pre) s bytes (a .at) (failed (c .before .has-items .result) (Room 1 s (a .at)) (c .if1 .taken) (c .before .has-items .ensures))
+    numbers-outside (a .total) (a .count) (c .before .before .before .pre) s bytes (a .at) (failed (c .before .has-items .result) (HasItems 1 s (a .at)) (c .if1 .taken) (c .before .has-items .ensures))
 
 u32-at-requires : tie.Need-u32-at-requires
 u32-at-requires c κs = search needs
@@ -31,14 +31,14 @@ returns-2 c =
     let a = c .before .before .before .before .before .args in
     let s = a .bytes .now in
     let bytes : Bytes s = λ i. omega (arith, c .before .before .before .before .shared-slice-known .given i) in
-    let room = passed (c .before .before .before .has-items .result) (Room 1 s (a .at)) (c .before .before .if1 .left) (c .before .before .before .has-items .ensures) in
+    let room = passed (c .before .before .before .has-items .result) (HasItems 1 s (a .at)) (c .before .before .if1 .left) (c .before .before .before .has-items .ensures) in
     numbers-other (a .total) (a .count) (c .before .before .before .before .before .pre) s bytes (a .at) room (λ e. c .if2 .taken (c .before .u32-at .ensures .0 ∙ e))
 
 add-in-order : tie.Need-add-in-order
 add-in-order c =
     let a = c .before .before .before .before .before .args in
     let s = a .bytes .now in
-    let room = passed (c .before .before .before .has-items .result) (Room 1 s (a .at)) (c .before .before .if1 .left) (c .before .before .before .has-items .ensures) in
+    let room = passed (c .before .before .before .has-items .result) (HasItems 1 s (a .at)) (c .before .before .if1 .left) (c .before .before .before .has-items .ensures) in
     let e : u32At s (a .at) ≡ a .total = omega (arith, c .before .u32-at .ensures .0) in
     omega (arith, room, e)
 
@@ -46,7 +46,7 @@ in-order-requires : tie.Need-in-order-requires
 in-order-requires c κs =
     let a = c .before .before .before .before .before .args in
     let s = a .bytes .now in
-    let room = passed (c .before .before .before .has-items .result) (Room 1 s (a .at)) (c .before .before .if1 .left) (c .before .before .before .has-items .ensures) in
+    let room = passed (c .before .before .before .has-items .result) (HasItems 1 s (a .at)) (c .before .before .if1 .left) (c .before .before .before .has-items .ensures) in
     let e : u32At s (a .at) ≡ a .total = omega (arith, c .before .u32-at .ensures .0) in
     omega (arith, room, e)
 
@@ -55,7 +55,7 @@ returns-3 c =
     let a = c .before .before .before .before .before .before .before .args in
     let s = a .bytes .now in
     let bytes : Bytes s = λ i. omega (arith, c .before .before .before .before .before .before .shared-slice-known .given i) in
-    let room = passed (c .before .before .before .before .before .has-items .result) (Room 1 s (a .at)) (c .before .before .before .before .if1 .left) (c .before .before .before .before .before .has-items .ensures) in
+    let room = passed (c .before .before .before .before .before .has-items .result) (HasItems 1 s (a .at)) (c .before .before .before .before .if1 .left) (c .before .before .before .before .before .has-items .ensures) in
     let e : u32At s (a .at) ≡ a .total = omega (arith, c .before .before .before .u32-at .ensures .0) in
     numbers-wrong (a .total) (a .count) (c .before .before .before .before .before .before .before .pre) s bytes (a .at) room e (failed (c .before .in-order .result) (InOrder (a .count) 0 (itemsAt byteAt 1 s (a .at + 4) (a .total))) (c .if3 .taken) (c .before .in-order .ensures))
 
@@ -63,7 +63,7 @@ add-t7 : tie.Need-add-t7
 add-t7 c =
     let a = c .before .before .before .before .before .before .before .args in
     let s = a .bytes .now in
-    let room = passed (c .before .before .before .before .before .has-items .result) (Room 1 s (a .at)) (c .before .before .before .before .if1 .left) (c .before .before .before .before .before .has-items .ensures) in
+    let room = passed (c .before .before .before .before .before .has-items .result) (HasItems 1 s (a .at)) (c .before .before .before .before .if1 .left) (c .before .before .before .before .before .has-items .ensures) in
     let e : u32At s (a .at) ≡ a .total = omega (arith, c .before .before .before .u32-at .ensures .0) in
     omega (arith, room, e)
 
@@ -71,7 +71,7 @@ add-t8 : tie.Need-add-t8
 add-t8 c =
     let a = c .before .before .before .before .before .before .before .args in
     let s = a .bytes .now in
-    let room = passed (c .before .before .before .before .before .has-items .result) (Room 1 s (a .at)) (c .before .before .before .before .if1 .left) (c .before .before .before .before .before .has-items .ensures) in
+    let room = passed (c .before .before .before .before .before .has-items .result) (HasItems 1 s (a .at)) (c .before .before .before .before .if1 .left) (c .before .before .before .before .before .has-items .ensures) in
     let e : u32At s (a .at) ≡ a .total = omega (arith, c .before .before .before .u32-at .ensures .0) in
     omega (arith, room, e)
 
@@ -80,7 +80,7 @@ returns-4 c =
     let a = c .before .before .before .before .before .before .before .args in
     let s = a .bytes .now in
     let bytes : Bytes s = λ i. omega (arith, c .before .before .before .before .before .before .shared-slice-known .given i) in
-    let room = passed (c .before .before .before .before .before .has-items .result) (Room 1 s (a .at)) (c .before .before .before .before .if1 .left) (c .before .before .before .before .before .has-items .ensures) in
+    let room = passed (c .before .before .before .before .before .has-items .result) (HasItems 1 s (a .at)) (c .before .before .before .before .if1 .left) (c .before .before .before .before .before .has-items .ensures) in
     let e : u32At s (a .at) ≡ a .total = omega (arith, c .before .before .before .u32-at .ensures .0) in
     numbers-good (a .total) (a .count) (c .before .before .before .before .before .before .before .pre) s bytes (a .at) room e (passed (c .before .in-order .result) (InOrder (a .count) 0 (itemsAt byteAt 1 s (a .at + 4) (a .total))) (c .if3 .left) (c .before .in-order .ensures))
 

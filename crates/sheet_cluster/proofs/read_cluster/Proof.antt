@@ -6,7 +6,7 @@ use borrow.Author.Needs.{needs}
 use Rattle.fields.specs.Field.{u32At, Bytes}
 use Rattle.encoding.specs.Codes.{Found, itemsAt}
 use Rattle.sheet_sections.proofs.SectionLaws.{says-yes, says-no, failed, passed}
-use Rattle.sheet_sections.specs.Section.{Room}
+use Rattle.sheet_sections.specs.Section.{HasItems}
 use Rattle.sheet_cluster.proofs.ClusterLaws.{cluster-outside, cluster-count, cluster-bad, cluster-good}
 use Rattle.sheet_cluster.specs.Clusters.{pairAt, GoodPairs, clusterCode, SomeCluster}
 use Rattle.sheet_cluster.proofs.read_cluster.Statement.{statement}
@@ -20,7 +20,7 @@ returns c =
     let a = c .before .before .before .args in
     let s = a .bytes .now in
     let bytes : Bytes s = λ i. omega (arith, c .before .before .shared-slice-known .given i) in
-    cluster-outside s bytes (a .at) (failed (c .before .has-items .result) (Room 24 s (a .at)) (c .if1 .taken) (c .before .has-items .ensures))
+    cluster-outside s bytes (a .at) (failed (c .before .has-items .result) (HasItems 24 s (a .at)) (c .if1 .taken) (c .before .has-items .ensures))
 
 u32-at-requires : tie.Need-u32-at-requires
 u32-at-requires c κs = search needs
@@ -30,7 +30,7 @@ returns-2 c =
     let a = c .before .before .before .before .before .args in
     let s = a .bytes .now in
     let bytes : Bytes s = λ i. omega (arith, c .before .before .before .before .shared-slice-known .given i) in
-    let room = passed (c .before .before .before .has-items .result) (Room 24 s (a .at)) (c .before .before .if1 .left) (c .before .before .before .has-items .ensures) in
+    let room = passed (c .before .before .before .has-items .result) (HasItems 24 s (a .at)) (c .before .before .if1 .left) (c .before .before .before .has-items .ensures) in
     cluster-count s bytes (a .at) room (λ g h. omega (arith, c .before .u32-at .ensures .0))
 
 returns-3 : tie.Need-returns-3
@@ -38,25 +38,25 @@ returns-3 c =
     let a = c .before .before .before .before .before .before .args in
     let s = a .bytes .now in
     let bytes : Bytes s = λ i. omega (arith, c .before .before .before .before .before .shared-slice-known .given i) in
-    let room = passed (c .before .before .before .before .has-items .result) (Room 24 s (a .at)) (c .before .before .before .if1 .left) (c .before .before .before .before .has-items .ensures) in
+    let room = passed (c .before .before .before .before .has-items .result) (HasItems 24 s (a .at)) (c .before .before .before .if1 .left) (c .before .before .before .before .has-items .ensures) in
     cluster-count s bytes (a .at) room (λ g h. omega (arith, c .before .before .u32-at .ensures .0))
 
 add-good-pairs : tie.Need-add-good-pairs
 add-good-pairs c =
     let a = c .before .before .before .before .before .before .args in
-    let room = passed (c .before .before .before .before .has-items .result) (Room 24 (a .bytes .now) (a .at)) (c .before .before .before .if1 .left) (c .before .before .before .before .has-items .ensures) in
+    let room = passed (c .before .before .before .before .has-items .result) (HasItems 24 (a .bytes .now) (a .at)) (c .before .before .before .if1 .left) (c .before .before .before .before .has-items .ensures) in
     omega (arith, room)
 
 good-pairs-requires : tie.Need-good-pairs-requires
 good-pairs-requires c κs =
     let a = c .before .before .before .before .before .before .args in
-    let room = passed (c .before .before .before .before .has-items .result) (Room 24 (a .bytes .now) (a .at)) (c .before .before .before .if1 .left) (c .before .before .before .before .has-items .ensures) in
+    let room = passed (c .before .before .before .before .has-items .result) (HasItems 24 (a .bytes .now) (a .at)) (c .before .before .before .if1 .left) (c .before .before .before .before .has-items .ensures) in
     omega (arith, room)
 
 add-t9 : tie.Need-add-t9
 add-t9 c =
     let a = c .before .before .before .before .before .before .before .before .args in
-    let room = passed (c .before .before .before .before .before .before .has-items .result) (Room 24 (a .bytes .now) (a .at)) (c .before .before .before .before .before .if1 .left) (c .before .before .before .before .before .before .has-items .ensures) in
+    let room = passed (c .before .before .before .before .before .before .has-items .result) (HasItems 24 (a .bytes .now) (a .at)) (c .before .before .before .before .before .if1 .left) (c .before .before .before .before .before .before .has-items .ensures) in
     omega (arith, room)
 
 mul-t10 : tie.Need-mul-t10
@@ -65,7 +65,7 @@ mul-t10 c = search needs
 add-t11 : tie.Need-add-t11
 add-t11 c =
     let a = c .before .before .before .before .before .before .before .before .args in
-    let room = passed (c .before .before .before .before .before .before .has-items .result) (Room 24 (a .bytes .now) (a .at)) (c .before .before .before .before .before .if1 .left) (c .before .before .before .before .before .before .has-items .ensures) in
+    let room = passed (c .before .before .before .before .before .before .has-items .result) (HasItems 24 (a .bytes .now) (a .at)) (c .before .before .before .before .before .if1 .left) (c .before .before .before .before .before .before .has-items .ensures) in
     omega (arith, room)
 
 returns-4 : tie.Need-returns-4
@@ -73,7 +73,7 @@ returns-4 c =
     let a = c .before .before .before .before .before .before .before .before .args in
     let s = a .bytes .now in
     let bytes : Bytes s = λ i. omega (arith, c .before .before .before .before .before .before .before .shared-slice-known .given i) in
-    let room = passed (c .before .before .before .before .before .before .has-items .result) (Room 24 s (a .at)) (c .before .before .before .before .before .if1 .left) (c .before .before .before .before .before .before .has-items .ensures) in
+    let room = passed (c .before .before .before .before .before .before .has-items .result) (HasItems 24 s (a .at)) (c .before .before .before .before .before .if1 .left) (c .before .before .before .before .before .before .has-items .ensures) in
     let count = c .before .before .before .before .u32-at .result in
     let e : count ≡ u32At s (a .at) = c .before .before .before .before .u32-at .ensures .0 in
     let g = says-yes (GoodPairs 0 (itemsAt pairAt 24 s (a .at + 4) count)) (c .if4 .taken) (c .before .good-pairs .ensures) in
@@ -85,7 +85,7 @@ returns-5 c =
     let a = c .before .before .before .before .before .before .before .before .args in
     let s = a .bytes .now in
     let bytes : Bytes s = λ i. omega (arith, c .before .before .before .before .before .before .before .shared-slice-known .given i) in
-    let room = passed (c .before .before .before .before .before .before .has-items .result) (Room 24 s (a .at)) (c .before .before .before .before .before .if1 .left) (c .before .before .before .before .before .before .has-items .ensures) in
+    let room = passed (c .before .before .before .before .before .before .has-items .result) (HasItems 24 s (a .at)) (c .before .before .before .before .before .if1 .left) (c .before .before .before .before .before .before .has-items .ensures) in
     let count = c .before .before .before .before .u32-at .result in
     let e : count ≡ u32At s (a .at) = c .before .before .before .before .u32-at .ensures .0 in
     let g = says-no (GoodPairs 0 (itemsAt pairAt 24 s (a .at + 4) count)) (c .if4 .left) (c .before .good-pairs .ensures) in

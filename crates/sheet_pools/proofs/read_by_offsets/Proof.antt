@@ -3,7 +3,7 @@ use Prim.Native.Nat.{_+_, _<_, _^_}
 use mathlib.Core.Path.{subst}
 use native.Mathlib.Omega.{arith}
 use Rattle.fields.specs.Field.{Bytes}
-use Rattle.sheet_sections.specs.Section.{Room}
+use Rattle.sheet_sections.specs.Section.{HasItems}
 use Rattle.sheet_sections.specs.declared.Read.{Read}
 use Rattle.sheet_sections.proofs.SectionLaws.{says-yes, says-no, failed, passed}
 use Rattle.sheet_distinct.specs.Order.{stretch, Apart, countFrom}
@@ -23,7 +23,7 @@ returns c =
     let a = c .before .before .before .before .before .before .args in
     let s = a .bytes .now in
     let few : a .glyphs < 2 ^ 32 = omega arith in
-    let no-room = failed (c .before .has-items .result) (Room 0 s (a .at)) (c .if1 .taken) (c .before .has-items .ensures) in
+    let no-room = failed (c .before .has-items .result) (HasItems 0 s (a .at)) (c .if1 .taken) (c .before .has-items .ensures) in
     items-short (itemCode (a .sort)) (SomeItem (a .sort) (a .glyphs)) (some-free (a .sort) (a .glyphs)) (noItem (a .sort)) (item-discrete (a .sort)) (a .glyphs) few s (a .at) (omega (arith, no-room))
 
 u32-at-requires : tie.Need-u32-at-requires
@@ -35,19 +35,19 @@ returns-2 c =
     let s = a .bytes .now in
     let bytes : Bytes s = λ i. omega (arith, c .before .before .before .before .before .before .before .shared-slice-known .given i) in
     let few : a .glyphs < 2 ^ 32 = omega arith in
-    let room = passed (c .before .before .before .has-items .result) (Room 0 s (a .at)) (c .before .before .if1 .left) (c .before .before .before .has-items .ensures) in
+    let room = passed (c .before .before .before .has-items .result) (HasItems 0 s (a .at)) (c .before .before .if1 .left) (c .before .before .before .has-items .ensures) in
     items-many (itemCode (a .sort)) (SomeItem (a .sort) (a .glyphs)) (some-free (a .sort) (a .glyphs)) (noItem (a .sort)) (item-discrete (a .sort)) (a .glyphs) few s (a .at) bytes (omega (arith, room)) (omega (arith, c .before .u32-at .ensures .0))
 
 add-scan-items : tie.Need-add-scan-items
 add-scan-items c =
     let a = c .before .before .before .before .before .before .before .before .args in
-    let room = passed (c .before .before .before .has-items .result) (Room 0 (a .bytes .now) (a .at)) (c .before .before .if1 .left) (c .before .before .before .has-items .ensures) in
+    let room = passed (c .before .before .before .has-items .result) (HasItems 0 (a .bytes .now) (a .at)) (c .before .before .if1 .left) (c .before .before .before .has-items .ensures) in
     omega (arith, room)
 
 scan-items-requires : tie.Need-scan-items-requires
 scan-items-requires c κs =
     let a = c .before .before .before .before .before .before .before .before .before .args in
-    let room = passed (c .before .before .before .before .has-items .result) (Room 0 (a .bytes .now) (a .at)) (c .before .before .before .if1 .left) (c .before .before .before .before .has-items .ensures) in
+    let room = passed (c .before .before .before .before .has-items .result) (HasItems 0 (a .bytes .now) (a .at)) (c .before .before .before .if1 .left) (c .before .before .before .before .has-items .ensures) in
     (omega (arith, room), omega arith)
 
 enum-known-found : tie.Need-enum-known-found
@@ -74,7 +74,7 @@ returns-3 c =
     let s = a .bytes .now in
     let bytes : Bytes s = λ i. omega (arith, c .before .before .before .before .before .before .before .before .before .before .before .before .before .before .before .before .before .before .before .before .before .before .before .shared-slice-known .given i) in
     let few : a .glyphs < 2 ^ 32 = omega arith in
-    let room = passed (c .before .before .before .before .before .before .before .before .before .before .before .before .before .before .before .before .before .before .before .has-items .result) (Room 0 s (a .at)) (c .before .before .before .before .before .before .before .before .before .before .before .before .before .before .before .before .before .before .if1 .left) (c .before .before .before .before .before .before .before .before .before .before .before .before .before .before .before .before .before .before .before .has-items .ensures) in
+    let room = passed (c .before .before .before .before .before .before .before .before .before .before .before .before .before .before .before .before .before .before .before .has-items .result) (HasItems 0 s (a .at)) (c .before .before .before .before .before .before .before .before .before .before .before .before .before .before .before .before .before .before .if1 .left) (c .before .before .before .before .before .before .before .before .before .before .before .before .before .before .before .before .before .before .before .has-items .ensures) in
     let m = c .before .before .before .before .before .before .before .before .before .before .before .before .before .before .before .before .before .u32-at .result in
     let offsets = c .before .before .before .before .before .before .before .before .before .before .before .before .before .before .scan-items .last .1 .1 .1 .1 .1 .0 in
     let q = c .before .before .before .before .before .before .before .before .before .before .found .given .0 .0 in
@@ -98,7 +98,7 @@ returns-4 c =
     let s = a .bytes .now in
     let bytes : Bytes s = λ i. omega (arith, c .before .before .before .before .before .before .before .before .before .before .before .before .before .before .before .before .before .before .before .before .before .before .before .shared-slice-known .given i) in
     let few : a .glyphs < 2 ^ 32 = omega arith in
-    let room = passed (c .before .before .before .before .before .before .before .before .before .before .before .before .before .before .before .before .before .before .before .has-items .result) (Room 0 s (a .at)) (c .before .before .before .before .before .before .before .before .before .before .before .before .before .before .before .before .before .before .if1 .left) (c .before .before .before .before .before .before .before .before .before .before .before .before .before .before .before .before .before .before .before .has-items .ensures) in
+    let room = passed (c .before .before .before .before .before .before .before .before .before .before .before .before .before .before .before .before .before .before .before .has-items .result) (HasItems 0 s (a .at)) (c .before .before .before .before .before .before .before .before .before .before .before .before .before .before .before .before .before .before .if1 .left) (c .before .before .before .before .before .before .before .before .before .before .before .before .before .before .before .before .before .before .before .has-items .ensures) in
     let m = c .before .before .before .before .before .before .before .before .before .before .before .before .before .before .before .before .before .u32-at .result in
     let offsets = c .before .before .before .before .before .before .before .before .before .before .before .before .before .before .scan-items .last .1 .1 .1 .1 .1 .0 in
     let q = c .before .before .before .before .before .before .before .before .before .before .found .given .0 .0 in
@@ -116,7 +116,7 @@ returns-5 c =
     let s = a .bytes .now in
     let bytes : Bytes s = λ i. omega (arith, c .before .before .before .before .before .before .before .before .before .before .before .before .before .shared-slice-known .given i) in
     let few : a .glyphs < 2 ^ 32 = omega arith in
-    let room = passed (c .before .before .before .before .before .before .before .before .before .has-items .result) (Room 0 s (a .at)) (c .before .before .before .before .before .before .before .before .if1 .left) (c .before .before .before .before .before .before .before .before .before .has-items .ensures) in
+    let room = passed (c .before .before .before .before .before .before .before .before .before .has-items .result) (HasItems 0 s (a .at)) (c .before .before .before .before .before .before .before .before .if1 .left) (c .before .before .before .before .before .before .before .before .before .has-items .ensures) in
     let m = c .before .before .before .before .before .before .before .u32-at .result in
     let offsets = c .before .before .before .before .scan-items .last .1 .1 .1 .1 .1 .0 in
     items-none (itemCode (a .sort)) (SomeItem (a .sort) (a .glyphs)) (some-free (a .sort) (a .glyphs)) (noItem (a .sort)) (item-discrete (a .sort)) (a .glyphs) few s (a .at) bytes (omega (arith, room)) m (c .before .before .before .before .before .before .before .u32-at .ensures .0)

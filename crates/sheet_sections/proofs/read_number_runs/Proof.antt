@@ -7,7 +7,7 @@ use Rattle.fields.specs.Field.{u32At, Bytes}
 use Rattle.encoding.specs.Sections.{runLessCode}
 use Rattle.encoding.specs.Codes.{Found, counted, itemsAt}
 use Rattle.sheet_sections.proofs.SectionLaws.{says-yes, says-no}
-use Rattle.sheet_sections.specs.Section.{Room}
+use Rattle.sheet_sections.specs.Section.{HasItems}
 use Rattle.sheet_sections.proofs.NumberLaws.{numbers-outside, numbers-good, numbers-bad}
 use Rattle.sheet_sections.specs.Pool.{numberAt, NumberRuns}
 use Rattle.sheet_sections.proofs.read_number_runs.Statement.{statement}
@@ -22,19 +22,19 @@ u32-at-requires c κs = search needs
 add-good-numbers : tie.Need-add-good-numbers
 add-good-numbers c =
     let a = c .before .before .before .before .args in
-    let room = says-yes (Room 6 (a .bytes .now) (a .at)) (c .before .if1 .taken) (c .before .before .has-items .ensures) in
+    let room = says-yes (HasItems 6 (a .bytes .now) (a .at)) (c .before .if1 .taken) (c .before .before .has-items .ensures) in
     omega (arith, room)
 
 good-numbers-requires : tie.Need-good-numbers-requires
 good-numbers-requires c κs =
     let a = c .before .before .before .before .args in
-    let room = says-yes (Room 6 (a .bytes .now) (a .at)) (c .before .if1 .taken) (c .before .before .has-items .ensures) in
+    let room = says-yes (HasItems 6 (a .bytes .now) (a .at)) (c .before .if1 .taken) (c .before .before .has-items .ensures) in
     (omega (arith, room), omega arith, omega arith)
 
 add-t11 : tie.Need-add-t11
 add-t11 c =
     let a = c .before .before .before .before .before .before .args in
-    let room = says-yes (Room 6 (a .bytes .now) (a .at)) (c .before .before .before .if1 .taken) (c .before .before .before .before .has-items .ensures) in
+    let room = says-yes (HasItems 6 (a .bytes .now) (a .at)) (c .before .before .before .if1 .taken) (c .before .before .before .before .has-items .ensures) in
     omega (arith, room)
 
 mul-t12 : tie.Need-mul-t12
@@ -43,7 +43,7 @@ mul-t12 c = search needs
 add-t13 : tie.Need-add-t13
 add-t13 c =
     let a = c .before .before .before .before .before .before .args in
-    let room = says-yes (Room 6 (a .bytes .now) (a .at)) (c .before .before .before .if1 .taken) (c .before .before .before .before .has-items .ensures) in
+    let room = says-yes (HasItems 6 (a .bytes .now) (a .at)) (c .before .before .before .if1 .taken) (c .before .before .before .before .has-items .ensures) in
     omega (arith, room)
 
 returns : tie.Need-returns
@@ -52,7 +52,7 @@ returns c =
     let q = c .before .before .before .before .before .before .pre in
     let s = a .bytes .now in
     let bytes : Bytes s = λ i. omega (arith, c .before .before .before .before .before .shared-slice-known .given i) in
-    let room = says-yes (Room 6 s (a .at)) (c .before .before .before .if1 .taken) (c .before .before .before .before .has-items .ensures) in
+    let room = says-yes (HasItems 6 s (a .at)) (c .before .before .before .if1 .taken) (c .before .before .before .before .has-items .ensures) in
     let count = c .before .before .u32-at .result in
     let e : count ≡ u32At s (a .at) = c .before .before .u32-at .ensures .0 in
     let g = says-yes (NumberRuns (a .glyphs) (a .items) (itemsAt numberAt 6 s (a .at + 4) count)) (c .if2 .taken) (c .before .good-numbers .ensures) in
@@ -66,7 +66,7 @@ returns-2 c =
     let q = c .before .before .before .before .before .before .pre in
     let s = a .bytes .now in
     let bytes : Bytes s = λ i. omega (arith, c .before .before .before .before .before .shared-slice-known .given i) in
-    let room = says-yes (Room 6 s (a .at)) (c .before .before .before .if1 .taken) (c .before .before .before .before .has-items .ensures) in
+    let room = says-yes (HasItems 6 s (a .at)) (c .before .before .before .if1 .taken) (c .before .before .before .before .has-items .ensures) in
     let count = c .before .before .u32-at .result in
     let e : count ≡ u32At s (a .at) = c .before .before .u32-at .ensures .0 in
     let g = says-no (NumberRuns (a .glyphs) (a .items) (itemsAt numberAt 6 s (a .at + 4) count)) (c .if2 .left) (c .before .good-numbers .ensures) in
@@ -79,7 +79,7 @@ returns-3 c =
     let q = c .before .before .before .pre in
     let s = a .bytes .now in
     let bytes : Bytes s = λ i. omega (arith, c .before .before .shared-slice-known .given i) in
-    numbers-outside (a .glyphs) (a .items) (q .0) (q .1) s bytes (a .at) (says-no (Room 6 s (a .at)) (c .if1 .left) (c .before .has-items .ensures))
+    numbers-outside (a .glyphs) (a .items) (q .0) (q .1) s bytes (a .at) (says-no (HasItems 6 s (a .at)) (c .if1 .left) (c .before .has-items .ensures))
 
 pub read-number-runs-spec : {M : Type 1} → statement M
 read-number-runs-spec =

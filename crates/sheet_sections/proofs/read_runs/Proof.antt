@@ -9,7 +9,7 @@ use Rattle.encoding.specs.Codes.{Found, itemsAt}
 use Rattle.sheet_sections.proofs.RunLaws.{runs-outside, runs-good, runs-bad}
 use Rattle.sheet_sections.proofs.SectionLaws.{says-yes, says-no}
 use Rattle.sheet_sections.specs.RunSection.{runAt, GoodRuns, Below}
-use Rattle.sheet_sections.specs.Section.{Room}
+use Rattle.sheet_sections.specs.Section.{HasItems}
 use Rattle.sheet_sections.proofs.read_runs.Statement.{statement}
 use Rattle.sheet_sections.proofs.read_runs.Tie as tie
 
@@ -22,19 +22,19 @@ u32-at-requires c κs = search needs
 add-good-runs : tie.Need-add-good-runs
 add-good-runs c =
     let a = c .before .before .before .before .args in
-    let room = says-yes (Room 6 (a .bytes .now) (a .at)) (c .before .if1 .taken) (c .before .before .has-items .ensures) in
+    let room = says-yes (HasItems 6 (a .bytes .now) (a .at)) (c .before .if1 .taken) (c .before .before .has-items .ensures) in
     omega (arith, room)
 
 good-runs-requires : tie.Need-good-runs-requires
 good-runs-requires c κs =
     let a = c .before .before .before .before .args in
-    let room = says-yes (Room 6 (a .bytes .now) (a .at)) (c .before .if1 .taken) (c .before .before .has-items .ensures) in
+    let room = says-yes (HasItems 6 (a .bytes .now) (a .at)) (c .before .if1 .taken) (c .before .before .has-items .ensures) in
     (omega (arith, room), omega arith)
 
 add-t12 : tie.Need-add-t12
 add-t12 c =
     let a = c .before .before .before .before .before .before .args in
-    let room = says-yes (Room 6 (a .bytes .now) (a .at)) (c .before .before .before .if1 .taken) (c .before .before .before .before .has-items .ensures) in
+    let room = says-yes (HasItems 6 (a .bytes .now) (a .at)) (c .before .before .before .if1 .taken) (c .before .before .before .before .has-items .ensures) in
     omega (arith, room)
 
 mul-t13 : tie.Need-mul-t13
@@ -43,7 +43,7 @@ mul-t13 c = search needs
 add-t14 : tie.Need-add-t14
 add-t14 c =
     let a = c .before .before .before .before .before .before .args in
-    let room = says-yes (Room 6 (a .bytes .now) (a .at)) (c .before .before .before .if1 .taken) (c .before .before .before .before .has-items .ensures) in
+    let room = says-yes (HasItems 6 (a .bytes .now) (a .at)) (c .before .before .before .if1 .taken) (c .before .before .before .before .has-items .ensures) in
     omega (arith, room)
 
 returns : tie.Need-returns
@@ -52,7 +52,7 @@ returns c =
     let q = c .before .before .before .before .before .before .pre in
     let s = a .bytes .now in
     let bytes : Bytes s = λ i. omega (arith, c .before .before .before .before .before .shared-slice-known .given i) in
-    let room = says-yes (Room 6 s (a .at)) (c .before .before .before .if1 .taken) (c .before .before .before .before .has-items .ensures) in
+    let room = says-yes (HasItems 6 s (a .at)) (c .before .before .before .if1 .taken) (c .before .before .before .before .has-items .ensures) in
     let count = c .before .before .u32-at .result in
     let e : count ≡ u32At s (a .at) = c .before .before .u32-at .ensures .0 in
     let g = says-yes (GoodRuns (a .glyphs) (a .limit) (a .skip) 0 (a .skip) (itemsAt runAt 6 s (a .at + 4) count)) (c .if2 .taken) (c .before .good-runs .ensures) in
@@ -66,7 +66,7 @@ returns-2 c =
     let q = c .before .before .before .before .before .before .pre in
     let s = a .bytes .now in
     let bytes : Bytes s = λ i. omega (arith, c .before .before .before .before .before .shared-slice-known .given i) in
-    let room = says-yes (Room 6 s (a .at)) (c .before .before .before .if1 .taken) (c .before .before .before .before .has-items .ensures) in
+    let room = says-yes (HasItems 6 s (a .at)) (c .before .before .before .if1 .taken) (c .before .before .before .before .has-items .ensures) in
     let count = c .before .before .u32-at .result in
     let e : count ≡ u32At s (a .at) = c .before .before .u32-at .ensures .0 in
     let g = says-no (GoodRuns (a .glyphs) (a .limit) (a .skip) 0 (a .skip) (itemsAt runAt 6 s (a .at + 4) count)) (c .if2 .left) (c .before .good-runs .ensures) in
@@ -79,7 +79,7 @@ returns-3 c =
     let q = c .before .before .before .pre in
     let s = a .bytes .now in
     let bytes : Bytes s = λ i. omega (arith, c .before .before .shared-slice-known .given i) in
-    runs-outside s bytes (a .glyphs) (a .limit) (a .skip) (a .at) (q .0) (q .1) (q .2) (says-no (Room 6 s (a .at)) (c .if1 .left) (c .before .has-items .ensures))
+    runs-outside s bytes (a .glyphs) (a .limit) (a .skip) (a .at) (q .0) (q .1) (q .2) (says-no (HasItems 6 s (a .at)) (c .if1 .left) (c .before .has-items .ensures))
 
 pub read-runs-spec : {M : Type 1} → statement M
 read-runs-spec =

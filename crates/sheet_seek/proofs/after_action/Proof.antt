@@ -2,7 +2,7 @@
 use lib.ListN.{length}
 use Rattle.sheet_seek.proofs.PassLaws.{action-none, action-end}
 use Rattle.sheet_sections.proofs.SectionLaws.{failed, passed}
-use Rattle.sheet_sections.specs.Section.{Room}
+use Rattle.sheet_sections.specs.Section.{HasItems}
 use Rattle.fields.specs.Field.{Bytes}
 use native.Mathlib.Omega.{arith}
 use borrow.Author.Needs.{needs}
@@ -17,12 +17,12 @@ returns c =
     let a = c .before .before .before .args in
     let s = a .bytes .now in
     let bytes : Bytes s = λ i. omega (arith, c .before .before .shared-slice-known .given i) in
-    action-none s bytes (a .at) (length s) (failed (c .before .has-items .result) (Room 0 s (a .at)) (c .if1 .taken) (c .before .has-items .ensures))
+    action-none s bytes (a .at) (length s) (failed (c .before .has-items .result) (HasItems 0 s (a .at)) (c .if1 .taken) (c .before .has-items .ensures))
 
 add-after-items : tie.Need-add-after-items
 add-after-items c =
     let a = c .before .before .before .args in
-    let room = passed (c .before .has-items .result) (Room 0 (a .bytes .now) (a .at)) (c .if1 .left) (c .before .has-items .ensures) in
+    let room = passed (c .before .has-items .result) (HasItems 0 (a .bytes .now) (a .at)) (c .if1 .left) (c .before .has-items .ensures) in
     omega (arith, room)
 
 after-items-requires : tie.Need-after-items-requires

@@ -1,7 +1,7 @@
 -- `write_pool::put_pool` meets its contract.
 use mathlib.Core.Path.{sym, subst}
 use Rattle.lookup_targets.specs.declared.Source.{Source}
-use Rattle.write_pool.specs.Pool.{Ready, Placed}
+use Rattle.write_pool.specs.Pool.{Numberable, Placed}
 use Rattle.write_pool.proofs.Laws.{absent-placed}
 use borrow.Author.Needs.{needs}
 use Rattle.write_pool.proofs.put_pool.Statement.{statement}
@@ -28,7 +28,7 @@ returns c =
     absent-placed (a .kind) (a .table .now) (a .glyphs) (a .source) (a .out .now) ((c .before .before .put-none) .last .0) (a .to) ((c .before .before .before .before .enum-told) .given .1) ((c .before .before .put-none) .ensures)
 
 put-looked-requires : tie.Need-put-looked-requires
-put-looked-requires c κs = (subst (λ (s : Source). Ready ((c .before .before .before .before .before .before .before .args) .kind) ((c .before .before .before .before .before .before .before .args) .table .now) ((c .before .before .before .before .before .before .before .args) .glyphs) s) ((c .before .before .before .source) .given .1) ((c .before .before .before .before .before .before .before .pre) .0), (c .before .before .before .before .before .before .before .pre) .1)
+put-looked-requires c κs = (subst (λ (s : Source). Numberable ((c .before .before .before .before .before .before .before .args) .kind) ((c .before .before .before .before .before .before .before .args) .table .now) ((c .before .before .before .before .before .before .before .args) .glyphs) s) ((c .before .before .before .source) .given .1) ((c .before .before .before .before .before .before .before .pre) .0), (c .before .before .before .before .before .before .before .pre) .1)
 
 same-length-2 : tie.Need-same-length-2
 same-length-2 c = search needs
@@ -39,7 +39,7 @@ returns-2 c =
     subst (λ (s : Source). Placed (a .kind) (a .table .now) (a .glyphs) s (a .out .now) ((c .before .before .put-looked) .last .1 .1 .1 .1 .1 .0) (a .to) ((c .before .before .put-looked) .result)) (sym ((c .before .before .before .before .before .before .source) .given .1)) ((c .before .before .put-looked) .ensures)
 
 put-lookup-requires : tie.Need-put-lookup-requires
-put-lookup-requires c κs = (subst (λ (s : Source). Ready ((c .before .before .before .before .before .before .before .args) .kind) ((c .before .before .before .before .before .before .before .args) .table .now) ((c .before .before .before .before .before .before .before .args) .glyphs) s) ((c .before .before .before .source) .given .1) ((c .before .before .before .before .before .before .before .pre) .0), (c .before .before .before .before .before .before .before .pre) .1)
+put-lookup-requires c κs = (subst (λ (s : Source). Numberable ((c .before .before .before .before .before .before .before .args) .kind) ((c .before .before .before .before .before .before .before .args) .table .now) ((c .before .before .before .before .before .before .before .args) .glyphs) s) ((c .before .before .before .source) .given .1) ((c .before .before .before .before .before .before .before .pre) .0), (c .before .before .before .before .before .before .before .pre) .1)
 
 same-length-3 : tie.Need-same-length-3
 same-length-3 c = search needs
