@@ -1,4 +1,4 @@
--- What the cases of an answer say (document 01, "The sheet" and "Numbers of refusal"): a refusal its number alone, everything else the part that was asked for.
+-- What the cases of an answer say (document 01, "The sheet" and "Numbers of refusal"): a refusal its number and (document 02, 4/14) its offset, everything else the part that was asked for.
 use Prim.Native.Nat.{ℕ}
 use mathlib.Core.List.{List, []}
 use lib.ListN.{replicate, take}
@@ -25,44 +25,53 @@ use Rattle.answers.specs.declared.Sought.{Sought}
 use Rattle.answers.specs.declared.Sought.the-variants as sought
 use Rattle.answers.specs.declared.ActionAnswer.{ActionAnswer}
 
--- a refusal's number, or an answer
+-- what a call that only judges says: accepted, or the refusal's number and its offset from the table's start, which is 0 but for 4 to 8
+pub data Judgement : Type 0 where
+  accepted : Judgement
+  barred : ℕ → ℕ → Judgement
+
+-- a refusal's number and offset, or an answer
 pub data Reply : Type 0 where
-  refused : ℕ → Reply
+  refused : ℕ → ℕ → Reply
   given : Answer → Reply
 
 -- the refusal of a fault comes first
 abbrev pub unlessBad : Fault → Answer → Reply
 unlessBad Clear a = given a
-unlessBad (Bad r at) a = refused (numberOf r)
+unlessBad (Bad r at) a = refused (numberOf r) at
 
--- whether a fault bars, as a call says it
-abbrev pub checkedBy : Fault → Checked
-checkedBy Clear = checked.Accepted
-checkedBy (Bad r at) = checked.Refused r
+-- whether a fault bars
+abbrev pub judgedBy : Fault → Judgement
+judgedBy Clear = accepted
+judgedBy (Bad r at) = barred (numberOf r) at
+
+abbrev pub saysChecked : Checked → Judgement
+saysChecked checked.Accepted = accepted
+saysChecked (checked.Refused r at) = barred (numberOf r) at
 
 abbrev pub saysCount : CountAnswer → Reply
 saysCount (count.Count n) = given (number n)
-saysCount (count.Refused r) = refused (numberOf r)
+saysCount (count.Refused r at) = refused (numberOf r) at
 
 abbrev pub saysSizes : SizesAnswer → Reply
 saysSizes (sizes.Sizes s c) = given (both s c)
 saysSizes sizes.Nothing = given nothing
-saysSizes (sizes.Refused r) = refused (numberOf r)
+saysSizes (sizes.Refused r at) = refused (numberOf r) at
 
 abbrev pub saysClass : ClassAnswer → Reply
 saysClass (class.Class c) = given (number c)
 saysClass class.Nothing = given nothing
-saysClass (class.Refused r) = refused (numberOf r)
+saysClass (class.Refused r at) = refused (numberOf r) at
 
 abbrev pub saysCell : CellAnswer → Reply
 saysCell (cell.Cell e) = given (entry e)
 saysCell cell.Nothing = given nothing
-saysCell (cell.Refused r) = refused (numberOf r)
+saysCell (cell.Refused r at) = refused (numberOf r) at
 
 abbrev pub saysRecord : RecordAnswer → Reply
 saysRecord (width.Record p) = given (pair p)
 saysRecord width.Nothing = given nothing
-saysRecord (width.Refused r) = refused (numberOf r)
+saysRecord (width.Refused r at) = refused (numberOf r) at
 
 -- the action in its room of 76 bytes: its data is the first `size` of them
 abbrev pub actionIn : HeldAction → Action
@@ -71,7 +80,7 @@ actionIn h = record { class = h .class; ty = h .ty; content = take (h .size) (h 
 abbrev pub saysSought : Sought → HeldAction → Reply
 saysSought sought.Found h = given (act (actionIn h))
 saysSought sought.Nothing h = given nothing
-saysSought (sought.Refused r) h = refused (numberOf r)
+saysSought (sought.Refused r at) h = refused (numberOf r) at
 
 abbrev pub saysAction : ActionAnswer → Reply
 saysAction r = saysSought (r .sought) (r .action)
@@ -90,4 +99,4 @@ roomFor (pair p) = noAction
 
 abbrev pub roomAfter : Reply → HeldAction
 roomAfter (given a) = roomFor a
-roomAfter (refused n) = noAction
+roomAfter (refused n at) = noAction

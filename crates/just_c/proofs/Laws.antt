@@ -15,14 +15,14 @@ use Rattle.just_c.specs.WriterInC.{lengthIn, OutcomeInC, outcomeIn}
 pub action-given : (s : Sought) (h : HeldAction) (r : Reply) → saysSought s h ≡ r → h ≡ roomAfter r → actionOut s h ≡ actionIn r
 action-given Found h r e k = ap (actionOut Found) (k ∙ ap roomAfter (sym e)) ∙ ap actionIn e
 action-given Nothing h r e k = ap (actionOut Nothing) (k ∙ ap roomAfter (sym e)) ∙ ap actionIn e
-action-given (Refused x) h r e k = ap (actionOut (Refused x)) (k ∙ ap roomAfter (sym e)) ∙ ap actionIn e
+action-given (Refused x at) h r e k = ap (actionOut (Refused x at)) (k ∙ ap roomAfter (sym e)) ∙ ap actionIn e
 
 -- what is said of a sheet, as a struct
-pub length-given : (k : ℕ) (s : Said) → s ≡ bytes k → record { refusal = 0; length = k } ≡ lengthIn s
+pub length-given : (k : ℕ) (s : Said) → s ≡ bytes k → record { refusal = 0; offset = 0; length = k } ≡ lengthIn s
 length-given k s e = cc
 
-pub length-refused : (n k : ℕ) (s : Said) → n ≡ k → s ≡ refused k → record { refusal = n; length = 0 } ≡ lengthIn s
-length-refused n k s i e = cc
+pub length-refused : (n k at : ℕ) (s : Said) → n ≡ k → s ≡ refused k at → record { refusal = n; offset = at; length = 0 } ≡ lengthIn s
+length-refused n k at s i e = cc
 
 -- the same, with the room that the writer was lent
 pub outcome-given : (a : JustLength) (s : Said) (after : List ℕ) (o : Outcome) → a ≡ lengthIn s

@@ -1,4 +1,4 @@
--- What the numbers and structs of the C boundary say: a refusal is its number and everything else zeros; a part that is not there is `found` false and zeros.
+-- What the structs of the C boundary say: a refusal is its number and its offset (document 02, 4/14) and everything else zeros; a part that is not there is `found` false and zeros.
 use Prim.Native.Nat.{ℕ, _-_}
 use mathlib.Core.Bool.{true, false}
 use Rattle.fields.specs.Refusals.{numberOf}
@@ -6,12 +6,11 @@ use Rattle.types.specs.declared.Entry.{Entry}
 use Rattle.types.specs.declared.Pair.{Pair}
 use Rattle.types.specs.declared.HeldAction.{HeldAction}
 use Rattle.meaning.specs.Ask.{Answer, nothing, number, both, entry, pair, act, held}
-use Rattle.answers.specs.declared.Checked.{Checked}
-use Rattle.answers.specs.declared.Checked.the-variants.{Accepted, Refused}
 use Rattle.answers.specs.declared.Sought.{Sought}
 use Rattle.answers.specs.declared.Sought.the-variants as sought
-use Rattle.answers.specs.Says.{Reply, refused, given, noAction}
+use Rattle.answers.specs.Says.{Judgement, accepted, barred, Reply, refused, given, noAction}
 use Rattle.actions.specs.declared.Stretch.{Stretch}
+use Rattle.just_c.specs.declared.JustChecked.{JustChecked}
 use Rattle.just_c.specs.declared.JustCount.{JustCount}
 use Rattle.just_c.specs.declared.JustSizes.{JustSizes}
 use Rattle.just_c.specs.declared.JustClass.{JustClass}
@@ -20,10 +19,10 @@ use Rattle.just_c.specs.declared.JustRecord.{JustRecord}
 use Rattle.just_c.specs.declared.JustAction.{JustAction}
 use Rattle.just_c.specs.declared.JustStretch.{JustStretch}
 
--- 0 for accepted, else the number of the refusal
-abbrev pub checkedNumber : Checked → ℕ
-checkedNumber Accepted = 0
-checkedNumber (Refused r) = numberOf r
+-- 0 and 0 for accepted, else the number and the offset of the refusal
+abbrev pub checkedIn : Judgement → JustChecked
+checkedIn accepted = record { refusal = 0; offset = 0 }
+checkedIn (barred n at) = record { refusal = n; offset = at }
 
 -- what of an answer a call hands out, and zeros for any other
 abbrev pub numberIn : Answer → ℕ
@@ -35,56 +34,56 @@ numberIn (pair p) = 0
 numberIn (act a) = 0
 
 abbrev pub countIn : Reply → JustCount
-countIn (refused n) = record { refusal = n; count = 0 }
-countIn (given a) = record { refusal = 0; count = numberIn a }
+countIn (refused n at) = record { refusal = n; offset = at; count = 0 }
+countIn (given a) = record { refusal = 0; offset = 0; count = numberIn a }
 
--- zeros beside a number, which is that of a refusal, or 0 where a part is not there
-abbrev pub noSizes : ℕ → JustSizes
-noSizes n = record { refusal = n; found = false; rows = 0; classes = 0 }
+-- zeros beside an offset and a number, which are those of a refusal, or both 0 where a part is not there
+abbrev pub noSizes : ℕ → ℕ → JustSizes
+noSizes at n = record { refusal = n; offset = at; found = false; rows = 0; classes = 0 }
 
 abbrev pub sizesGiven : Answer → JustSizes
-sizesGiven (both s c) = record { refusal = 0; found = true; rows = s; classes = c }
-sizesGiven nothing = noSizes 0
-sizesGiven (number n) = noSizes 0
-sizesGiven (entry e) = noSizes 0
-sizesGiven (pair p) = noSizes 0
-sizesGiven (act a) = noSizes 0
+sizesGiven (both s c) = record { refusal = 0; offset = 0; found = true; rows = s; classes = c }
+sizesGiven nothing = noSizes 0 0
+sizesGiven (number n) = noSizes 0 0
+sizesGiven (entry e) = noSizes 0 0
+sizesGiven (pair p) = noSizes 0 0
+sizesGiven (act a) = noSizes 0 0
 
 abbrev pub sizesIn : Reply → JustSizes
-sizesIn (refused n) = noSizes n
+sizesIn (refused n at) = noSizes at n
 sizesIn (given a) = sizesGiven a
 
-abbrev pub noClass : ℕ → JustClass
-noClass n = record { refusal = n; found = false; class = 0 }
+abbrev pub noClass : ℕ → ℕ → JustClass
+noClass at n = record { refusal = n; offset = at; found = false; class = 0 }
 
 abbrev pub classGiven : Answer → JustClass
-classGiven (number c) = record { refusal = 0; found = true; class = c }
-classGiven nothing = noClass 0
-classGiven (both s c) = noClass 0
-classGiven (entry e) = noClass 0
-classGiven (pair p) = noClass 0
-classGiven (act a) = noClass 0
+classGiven (number c) = record { refusal = 0; offset = 0; found = true; class = c }
+classGiven nothing = noClass 0 0
+classGiven (both s c) = noClass 0 0
+classGiven (entry e) = noClass 0 0
+classGiven (pair p) = noClass 0 0
+classGiven (act a) = noClass 0 0
 
 abbrev pub classIn : Reply → JustClass
-classIn (refused n) = noClass n
+classIn (refused n at) = noClass at n
 classIn (given a) = classGiven a
 
 abbrev pub noEntry : Entry
 noEntry = record { row = 0; flags = 0 }
 
-abbrev pub noCell : ℕ → JustCell
-noCell n = record { refusal = n; found = false; entry = noEntry }
+abbrev pub noCell : ℕ → ℕ → JustCell
+noCell at n = record { refusal = n; offset = at; found = false; entry = noEntry }
 
 abbrev pub cellGiven : Answer → JustCell
-cellGiven (entry e) = record { refusal = 0; found = true; entry = e }
-cellGiven nothing = noCell 0
-cellGiven (number n) = noCell 0
-cellGiven (both s c) = noCell 0
-cellGiven (pair p) = noCell 0
-cellGiven (act a) = noCell 0
+cellGiven (entry e) = record { refusal = 0; offset = 0; found = true; entry = e }
+cellGiven nothing = noCell 0 0
+cellGiven (number n) = noCell 0 0
+cellGiven (both s c) = noCell 0 0
+cellGiven (pair p) = noCell 0 0
+cellGiven (act a) = noCell 0 0
 
 abbrev pub cellIn : Reply → JustCell
-cellIn (refused n) = noCell n
+cellIn (refused n at) = noCell at n
 cellIn (given a) = cellGiven a
 
 abbrev pub noPair : Pair
@@ -96,41 +95,41 @@ noPair =
       flags = record { grow = 0; shrink = 0 };
     }
 
-abbrev pub noRecord : ℕ → JustRecord
-noRecord n = record { refusal = n; found = false; pair = noPair }
+abbrev pub noRecord : ℕ → ℕ → JustRecord
+noRecord at n = record { refusal = n; offset = at; found = false; pair = noPair }
 
 abbrev pub recordGiven : Answer → JustRecord
-recordGiven (pair p) = record { refusal = 0; found = true; pair = p }
-recordGiven nothing = noRecord 0
-recordGiven (number n) = noRecord 0
-recordGiven (both s c) = noRecord 0
-recordGiven (entry e) = noRecord 0
-recordGiven (act a) = noRecord 0
+recordGiven (pair p) = record { refusal = 0; offset = 0; found = true; pair = p }
+recordGiven nothing = noRecord 0 0
+recordGiven (number n) = noRecord 0 0
+recordGiven (both s c) = noRecord 0 0
+recordGiven (entry e) = noRecord 0 0
+recordGiven (act a) = noRecord 0 0
 
 abbrev pub recordIn : Reply → JustRecord
-recordIn (refused n) = noRecord n
+recordIn (refused n at) = noRecord at n
 recordIn (given a) = recordGiven a
 
-abbrev pub noHeld : ℕ → JustAction
-noHeld n = record { refusal = n; found = false; action = noAction }
+abbrev pub noHeld : ℕ → ℕ → JustAction
+noHeld at n = record { refusal = n; offset = at; found = false; action = noAction }
 
 abbrev pub actionGiven : Answer → JustAction
-actionGiven (act a) = record { refusal = 0; found = true; action = held a }
-actionGiven nothing = noHeld 0
-actionGiven (number n) = noHeld 0
-actionGiven (both s c) = noHeld 0
-actionGiven (entry e) = noHeld 0
-actionGiven (pair p) = noHeld 0
+actionGiven (act a) = record { refusal = 0; offset = 0; found = true; action = held a }
+actionGiven nothing = noHeld 0 0
+actionGiven (number n) = noHeld 0 0
+actionGiven (both s c) = noHeld 0 0
+actionGiven (entry e) = noHeld 0 0
+actionGiven (pair p) = noHeld 0 0
 
 abbrev pub actionIn : Reply → JustAction
-actionIn (refused n) = noHeld n
+actionIn (refused n at) = noHeld at n
 actionIn (given a) = actionGiven a
 
 -- an action's answer with its room, as it was found or not
 abbrev pub actionOut : Sought → HeldAction → JustAction
-actionOut sought.Found h = record { refusal = 0; found = true; action = h }
-actionOut sought.Nothing h = record { refusal = 0; found = false; action = h }
-actionOut (sought.Refused r) h = record { refusal = numberOf r; found = false; action = h }
+actionOut sought.Found h = record { refusal = 0; offset = 0; found = true; action = h }
+actionOut sought.Nothing h = record { refusal = 0; offset = 0; found = false; action = h }
+actionOut (sought.Refused r at) h = record { refusal = numberOf r; offset = at; found = false; action = h }
 
 abbrev pub stretchIn : Stretch → JustStretch
 stretchIn s = record { offset = s .from; length = s .to - s .from }

@@ -1,12 +1,12 @@
--- What the calls that measure and write a table's sheet say in C: a refusal is its number and length 0, anything else the sheet's length in bytes.
+-- What the calls that measure and write a table's sheet say in C: a refusal is its number, its offset and length 0, anything else the sheet's length in bytes.
 use Prim.Native.Nat.{ℕ}
 use mathlib.Core.List.{List}
 use Rattle.sheet_write.specs.Written.{Said, refused, bytes, Outcome}
 use Rattle.just_c.specs.declared.JustLength.{JustLength}
 
 abbrev pub lengthIn : Said → JustLength
-lengthIn (refused n) = record { refusal = n; length = 0 }
-lengthIn (bytes k) = record { refusal = 0; length = k }
+lengthIn (refused n at) = record { refusal = n; offset = at; length = 0 }
+lengthIn (bytes k) = record { refusal = 0; offset = 0; length = k }
 
 -- the answer, and what the lent room holds afterwards
 pub record OutcomeInC : Type 0 where

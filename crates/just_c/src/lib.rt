@@ -1,17 +1,17 @@
 // The library for programs in C and other languages: each call with numbers, slices (a pointer, then a length) and
-// structs of C layout. A refusal is its number, 0 for none. A direction is 0 for horizontal, any other number for
+// structs of C layout. A refusal is its number, 0 for none, and its offset. A direction is 0 for horizontal, any other number for
 // vertical. specs/InC.antt says what each struct holds.
 ghost use mathlib.Core.Path.{_≡_};
 ghost use Rattle.types.specs.InC.{directionIn};
 ghost use Rattle.meaning.specs.Ask.{ask, glyphCount, along, sizes, class, cell, width, action};
-ghost use Rattle.answers.specs.Says.{checkedBy, unlessBad, saysCount, saysSizes, saysClass, saysCell, saysRecord};
+ghost use Rattle.answers.specs.Says.{judgedBy, saysChecked, unlessBad, saysCount, saysSizes, saysClass, saysCell, saysRecord};
 ghost use Rattle.table.specs.Table.{tableFault};
 ghost use Rattle.table.specs.Means.{meaningOf};
 ghost use Rattle.table_ask.specs.Components.{componentsOf};
 ghost use Rattle.table_find.specs.Values.{valueAsked, unitsAsked};
 ghost use Rattle.table_find.specs.ValuesInC.{kindIn, valueIn, unitsOut};
 ghost use Rattle.sheet_write.specs.Written.{saysLength, saysWritten, sheetLength, written};
-ghost use Rattle.just_c.specs.InC.{checkedNumber, countIn, sizesIn, classIn, cellIn, recordIn, noPair, actionIn, actionOut, stretchIn};
+ghost use Rattle.just_c.specs.InC.{checkedIn, countIn, sizesIn, classIn, cellIn, recordIn, noPair, actionIn, actionOut, stretchIn};
 ghost use Rattle.just_c.specs.SheetInC.{SheetNumber, Given};
 ghost use Rattle.just_c.specs.WriterInC.{lengthIn, OutcomeInC, outcomeIn};
 use answers::ActionAnswer;
@@ -33,14 +33,22 @@ use types::Limits;
 use types::Pair;
 
 #[repr(C)]
+pub struct JustChecked {
+    pub refusal: u32,
+    pub offset: u64,
+}
+
+#[repr(C)]
 pub struct JustCount {
     pub refusal: u32,
+    pub offset: u64,
     pub count: u32,
 }
 
 #[repr(C)]
 pub struct JustSizes {
     pub refusal: u32,
+    pub offset: u64,
     pub found: bool,
     pub rows: u16,
     pub classes: u16,
@@ -49,6 +57,7 @@ pub struct JustSizes {
 #[repr(C)]
 pub struct JustClass {
     pub refusal: u32,
+    pub offset: u64,
     pub found: bool,
     pub class: u8,
 }
@@ -56,6 +65,7 @@ pub struct JustClass {
 #[repr(C)]
 pub struct JustCell {
     pub refusal: u32,
+    pub offset: u64,
     pub found: bool,
     pub entry: Entry,
 }
@@ -63,6 +73,7 @@ pub struct JustCell {
 #[repr(C)]
 pub struct JustRecord {
     pub refusal: u32,
+    pub offset: u64,
     pub found: bool,
     pub pair: Pair,
 }
@@ -70,6 +81,7 @@ pub struct JustRecord {
 #[repr(C)]
 pub struct JustAction {
     pub refusal: u32,
+    pub offset: u64,
     pub found: bool,
     pub action: HeldAction,
 }
@@ -83,6 +95,7 @@ pub struct JustStretch {
 #[repr(C)]
 pub struct JustLength {
     pub refusal: u32,
+    pub offset: u64,
     pub length: u32,
 }
 
@@ -92,9 +105,14 @@ fn count_out(answer: CountAnswer) -> JustCount
     ensures { λ r. ⌜ r ≡ countIn (saysCount answer) ⌝ }
 {
     match answer {
-        CountAnswer::Count(count) => JustCount { refusal: 0, count },
-        CountAnswer::Refused(refusal) => JustCount {
+        CountAnswer::Count(count) => JustCount {
+            refusal: 0,
+            offset: 0,
+            count,
+        },
+        CountAnswer::Refused { refusal, at } => JustCount {
             refusal: fields::number_of(refusal),
+            offset: at as u64,
             count: 0,
         },
     }
@@ -106,18 +124,21 @@ fn sizes_out(answer: SizesAnswer) -> JustSizes
     match answer {
         SizesAnswer::Sizes { rows, classes } => JustSizes {
             refusal: 0,
+            offset: 0,
             found: true,
             rows,
             classes,
         },
         SizesAnswer::Nothing => JustSizes {
             refusal: 0,
+            offset: 0,
             found: false,
             rows: 0,
             classes: 0,
         },
-        SizesAnswer::Refused(refusal) => JustSizes {
+        SizesAnswer::Refused { refusal, at } => JustSizes {
             refusal: fields::number_of(refusal),
+            offset: at as u64,
             found: false,
             rows: 0,
             classes: 0,
@@ -131,16 +152,19 @@ fn class_out(answer: ClassAnswer) -> JustClass
     match answer {
         ClassAnswer::Class(class) => JustClass {
             refusal: 0,
+            offset: 0,
             found: true,
             class,
         },
         ClassAnswer::Nothing => JustClass {
             refusal: 0,
+            offset: 0,
             found: false,
             class: 0,
         },
-        ClassAnswer::Refused(refusal) => JustClass {
+        ClassAnswer::Refused { refusal, at } => JustClass {
             refusal: fields::number_of(refusal),
+            offset: at as u64,
             found: false,
             class: 0,
         },
@@ -153,16 +177,19 @@ fn cell_out(answer: CellAnswer) -> JustCell
     match answer {
         CellAnswer::Cell(entry) => JustCell {
             refusal: 0,
+            offset: 0,
             found: true,
             entry,
         },
         CellAnswer::Nothing => JustCell {
             refusal: 0,
+            offset: 0,
             found: false,
             entry: Entry { row: 0, flags: 0 },
         },
-        CellAnswer::Refused(refusal) => JustCell {
+        CellAnswer::Refused { refusal, at } => JustCell {
             refusal: fields::number_of(refusal),
+            offset: at as u64,
             found: false,
             entry: Entry { row: 0, flags: 0 },
         },
@@ -187,16 +214,19 @@ fn record_out(answer: RecordAnswer) -> JustRecord
     match answer {
         RecordAnswer::Record(pair) => JustRecord {
             refusal: 0,
+            offset: 0,
             found: true,
             pair,
         },
         RecordAnswer::Nothing => JustRecord {
             refusal: 0,
+            offset: 0,
             found: false,
             pair: no_pair(),
         },
-        RecordAnswer::Refused(refusal) => JustRecord {
+        RecordAnswer::Refused { refusal, at } => JustRecord {
             refusal: fields::number_of(refusal),
+            offset: at as u64,
             found: false,
             pair: no_pair(),
         },
@@ -211,16 +241,19 @@ fn action_out(answer: ActionAnswer) -> JustAction
     match sought {
         Sought::Found => JustAction {
             refusal: 0,
+            offset: 0,
             found: true,
             action,
         },
         Sought::Nothing => JustAction {
             refusal: 0,
+            offset: 0,
             found: false,
             action,
         },
-        Sought::Refused(refusal) => JustAction {
+        Sought::Refused { refusal, at } => JustAction {
             refusal: fields::number_of(refusal),
+            offset: at as u64,
             found: false,
             action,
         },
@@ -231,9 +264,14 @@ fn length_out(answer: LengthAnswer) -> JustLength
     ensures { λ r. ⌜ r ≡ lengthIn (saysLength answer) ⌝ }
 {
     match answer {
-        LengthAnswer::Length(length) => JustLength { refusal: 0, length },
-        LengthAnswer::Refused(refusal) => JustLength {
+        LengthAnswer::Length(length) => JustLength {
+            refusal: 0,
+            offset: 0,
+            length,
+        },
+        LengthAnswer::Refused { refusal, at } => JustLength {
             refusal: fields::number_of(refusal),
+            offset: at as u64,
             length: 0,
         },
     }
@@ -243,23 +281,40 @@ fn written_out(answer: WriteAnswer) -> JustLength
     ensures { λ r. ⌜ r ≡ lengthIn (saysWritten answer) ⌝ }
 {
     match answer {
-        WriteAnswer::Written(length) => JustLength { refusal: 0, length },
-        WriteAnswer::Refused(refusal) => JustLength {
+        WriteAnswer::Written(written) => JustLength {
+            refusal: 0,
+            offset: 0,
+            length: written,
+        },
+        WriteAnswer::Refused { refusal, at } => JustLength {
             refusal: fields::number_of(refusal),
+            offset: at as u64,
             length: 0,
         },
     }
 }
 
-// Whether a table is accepted with a glyph count: 0, or the number of its first fault.
-#[no_mangle]
-pub extern "C" fn just_check_table(table: &[u8], glyphs: u32) -> u32
-    ensures { λ r. ⌜ r ≡ checkedNumber (checkedBy (tableFault (now (table .entry)) glyphs)) ⌝ }
+fn checked_out(checked: Checked) -> JustChecked
+    ensures { λ r. ⌜ r ≡ checkedIn (saysChecked checked) ⌝ }
 {
-    match table::check_table(table, glyphs) {
-        Checked::Accepted => 0,
-        Checked::Refused(refusal) => fields::number_of(refusal),
+    match checked {
+        Checked::Accepted => JustChecked {
+            refusal: 0,
+            offset: 0,
+        },
+        Checked::Refused { refusal, at } => JustChecked {
+            refusal: fields::number_of(refusal),
+            offset: at as u64,
+        },
     }
+}
+
+// Whether a table is accepted with a glyph count, or the number and the offset of its first fault.
+#[no_mangle]
+pub extern "C" fn just_check_table(table: &[u8], glyphs: u32) -> JustChecked
+    ensures { λ r. ⌜ r ≡ checkedIn (judgedBy (tableFault (now (table .entry)) glyphs)) ⌝ }
+{
+    checked_out(table::check_table(table, glyphs))
 }
 
 // The glyph count of an accepted table.
@@ -414,15 +469,12 @@ pub extern "C" fn just_table_write_sheet(table: &[u8], glyphs: u32, room: &mut [
     written_out(sheet_write::write_sheet(table, glyphs, room))
 }
 
-// Whether bytes are a sheet: 0, or 17.
+// Whether bytes are a sheet, or 17.
 #[no_mangle]
-pub extern "C" fn just_check_sheet(sheet: &[u8]) -> u32
+pub extern "C" fn just_check_sheet(sheet: &[u8]) -> JustChecked
     ensures { λ r. ⌜ SheetNumber (now (sheet .entry)) r ⌝ }
 {
-    match sheet_check::check_sheet(sheet) {
-        Checked::Accepted => 0,
-        Checked::Refused(refusal) => fields::number_of(refusal),
-    }
+    checked_out(sheet_check::check_sheet(sheet))
 }
 
 // The glyph count of a sheet.

@@ -6,7 +6,7 @@ use lib.IntN.{ℤ}
 use Rattle.types.specs.declared.Verdict.{Verdict}
 use Rattle.line_rule.specs.declared.LineShape.{LineShape}
 use Rattle.line_call.specs.declared.LineAnswer.{LineAnswer}
-use Rattle.line_call.specs.Justified.{Lent, justified}
+use Rattle.line_call.specs.Justified.{Lent, saysLine, justified}
 use Rattle.line_call.specs.Settle.{lineBy}
 use Rattle.line_justify.specs.Outcome.{outcomeIs}
 use Rattle.just_line.specs.declared.JustLine.{JustLine}
@@ -17,7 +17,7 @@ pub called : (t : List ℕ) (count : ℕ) {shape shape′ : LineShape} (glyphs :
     (r : JustLine) (answer : LineAnswer) (classes : List ℕ) (before after : List ℤ) (verdicts : List Verdict)
     → shape ≡ shape′
     → outcomeIs answer classes before after verdicts ≡ justified t count (lineBy shape glyphs advances) lent
-    → r ≡ lineIn answer
+    → r ≡ lineIn (saysLine answer)
     → calledIs r classes before after verdicts ≡ calledIn (justified t count (lineBy shape′ glyphs advances) lent)
 called t count glyphs advances lent r answer classes before after verdicts shaped justifies out =
     ap (λ (x : JustLine). calledIs x classes before after verdicts) out

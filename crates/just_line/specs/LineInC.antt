@@ -3,13 +3,10 @@ use Prim.Native.Nat.{ℕ}
 use mathlib.Core.Bool.{Bool}
 use mathlib.Core.List.{List}
 use lib.IntN.{ℤ, pos}
-use Rattle.fields.specs.Refusals.{numberOf}
 use Rattle.types.specs.declared.Verdict.{Verdict}
 use Rattle.types.specs.InC.{directionIn}
 use Rattle.line_rule.specs.declared.LineShape.{LineShape}
-use Rattle.line_call.specs.declared.LineAnswer.{LineAnswer}
-use Rattle.line_call.specs.declared.LineAnswer.the-variants.{Justified, Refused}
-use Rattle.line_call.specs.Justified.{Lent, Outcome}
+use Rattle.line_call.specs.Justified.{Lent, LineReply, justifies, refuses, Outcome}
 use Rattle.line_call.specs.Settle.{lentBy}
 use Rattle.just_line.specs.declared.JustLine.{JustLine}
 
@@ -17,14 +14,14 @@ use Rattle.just_line.specs.declared.JustLine.{JustLine}
 abbrev pub shapeIn : ℕ → Bool → Bool → ℕ → ℤ → LineShape
 shapeIn direction starts ends size target = record { direction = directionIn direction; starts = starts; ends = ends; size = size; target = target }
 
--- a refusal's number, and zeros beside it
-abbrev pub refusedIn : ℕ → JustLine
-refusedIn n = record { refusal = n; remainder = pos 0; entries = 0; verdicts = 0 }
+-- a refusal's number and offset, and zeros beside them
+abbrev pub refusedIn : ℕ → ℕ → JustLine
+refusedIn at n = record { refusal = n; offset = at; remainder = pos 0; entries = 0; verdicts = 0 }
 
 -- refusal 0 and what is answered, or the refusal
-abbrev pub lineIn : LineAnswer → JustLine
-lineIn (Justified remainder entries verdicts) = record { refusal = 0; remainder = remainder; entries = entries; verdicts = verdicts }
-lineIn (Refused r) = refusedIn (numberOf r)
+abbrev pub lineIn : LineReply → JustLine
+lineIn (justifies remainder entries verdicts) = record { refusal = 0; offset = 0; remainder = remainder; entries = entries; verdicts = verdicts }
+lineIn (refuses number at) = refusedIn at number
 
 -- the struct, and what the lent buffers hold afterwards
 pub record Called : Type 0 where

@@ -1,8 +1,8 @@
 // The call for a line for programs in C and other languages (document 01, demand 2), in the conventions of `just_c`:
-// numbers, slices (a pointer, then a length) and structs of C layout; a refusal is its number, 0 for none; a direction
+// numbers, slices (a pointer, then a length) and structs of C layout; a refusal is its number, 0 for none, and its offset; a direction
 // is 0 for horizontal, any other number for vertical. specs/LineInC.antt says what the struct holds.
 ghost use mathlib.Core.Path.{_≡_};
-ghost use Rattle.line_call.specs.Justified.{justified};
+ghost use Rattle.line_call.specs.Justified.{saysLine, justified};
 ghost use Rattle.line_call.specs.Settle.{lineBy, lentBy};
 ghost use Rattle.just_line.specs.LineInC.{shapeIn, lineIn, calledIn, calledIs};
 use line_call::LineAnswer;
@@ -13,6 +13,7 @@ use types::Verdict;
 #[repr(C)]
 pub struct JustLine {
     pub refusal: u32,
+    pub offset: u64,
     pub remainder: i32,
     pub entries: u32,
     pub verdicts: u32,
@@ -33,7 +34,7 @@ fn shape_in(direction: u32, starts: bool, ends: bool, size: u32, target: i32) ->
 }
 
 fn line_out(answer: LineAnswer) -> JustLine
-    ensures { λ r. ⌜ r ≡ lineIn answer ⌝ }
+    ensures { λ r. ⌜ r ≡ lineIn (saysLine answer) ⌝ }
 {
     match answer {
         LineAnswer::Justified {
@@ -42,12 +43,14 @@ fn line_out(answer: LineAnswer) -> JustLine
             verdicts,
         } => JustLine {
             refusal: 0,
+            offset: 0,
             remainder,
             entries,
             verdicts,
         },
-        LineAnswer::Refused(refusal) => JustLine {
+        LineAnswer::Refused { refusal, at } => JustLine {
             refusal: fields::number_of(refusal),
+            offset: at as u64,
             remainder: 0,
             entries: 0,
             verdicts: 0,

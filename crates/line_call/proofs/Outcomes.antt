@@ -24,7 +24,7 @@ use Rattle.line_call.specs.declared.LineAnswer.the-variants.{Justified, 
 use Rattle.line_call.specs.declared.Settled.{Settled}
 use Rattle.line_call.specs.declared.Worked.{Worked}
 use Rattle.line_call.specs.declared.Worked.the-variants as worked
-use Rattle.line_call.specs.Justified.{roomTest, workedFault, lineFault, settled, justified}
+use Rattle.line_call.specs.Justified.{justifies, roomTest, workedFault, lineFault, settled, justified}
 use Rattle.line_call.specs.Settle.{lentBy, settlementIs, settlementIn}
 use Rattle.line_call.specs.Steps.{inputFault, workFault, workedBy, WorkedOut, Finished, SettledIn}
 use Rattle.line_call.proofs.Tests.{and-right, lengths-hold}
@@ -33,7 +33,7 @@ use Rattle.line_call.proofs.Tests.{and-right, lengths-hold}
 
 module _ {room verdicts : ℕ} (remainder : ℤ) (entries : ℕ) (held cs : List ℕ) (moved bs moves fs : List ℤ) where
   pub finished-short : room < verdicts
-      → Finished room verdicts remainder entries held cs cs moved bs bs moves fs fs (record { answer = Refused ShortRoom; stored = 0 })
+      → Finished room verdicts remainder entries held cs cs moved bs bs moves fs fs (record { answer = Refused ShortRoom 0; stored = 0 })
   finished-short h =
       let e : leb verdicts room ≡ false = lt-leb verdicts room h in
       record { says = sym (rw e); classes = sym (rw e); before = sym (rw e); after = sym (rw e) }
@@ -57,19 +57,19 @@ module _ (s : Side) (n : ℕ) (l : Line) (room : ℕ) (cs : List ℕ) (bs fs : L
 
   -- a fault bars the line and changes nothing
   outcome-bad : {f : Fault} (r : Refusal) (at : ℕ) → f ≡ Bad r at → (verdicts : List Verdict)
-      → settlementIs (record { answer = Refused r; stored = 0 }) cs bs fs ≡ settlementIn (settled f s l (lentBy cs bs fs verdicts))
+      → settlementIs (record { answer = Refused r at; stored = 0 }) cs bs fs ≡ settlementIn (settled f s l (lentBy cs bs fs verdicts))
   outcome-bad {f} r at e verdicts = ap (λ (f : Fault). settlementIn (settled f s l (lentBy cs bs fs verdicts))) (sym e)
 
-  worked-bad : (f : Fault) (r : Refusal) → worked.Bad r ≡ workedBy f s l → (at : ℕ) × (f ≡ Bad r at)
-  worked-bad Clear r e = let z : _≡_ {A = ℕ} 0 1 = cc in absurd (omega arith)
-  worked-bad (Bad q at) r e = let g : q ≡ r = cc in (at, ap (λ (x : Refusal). Bad x at) g)
+  worked-bad : (f : Fault) (r : Refusal) (at : ℕ) → worked.Bad r at ≡ workedBy f s l → f ≡ Bad r at
+  worked-bad Clear r at e = let z : _≡_ {A = ℕ} 0 1 = cc in absurd (omega arith)
+  worked-bad (Bad q p) r at e = let g : q ≡ r = cc in let k : p ≡ at = cc in ap₂ Bad g k
 
-  pub settled-bad : {w : Worked} (r : Refusal) → w ≡ worked.Bad r → w ≡ workedBy (workFault s n l) s l
-      → SettledIn s n l room cs bs fs (record { answer = Refused r; stored = 0 }) cs bs fs
+  pub settled-bad : {w : Worked} (r : Refusal) (at : ℕ) → w ≡ worked.Bad r at → w ≡ workedBy (workFault s n l) s l
+      → SettledIn s n l room cs bs fs (record { answer = Refused r at; stored = 0 }) cs bs fs
   unfolding last
-  settled-bad {w} r q e verdicts =
-      let f = worked-bad (workFault s n l) r (sym q ∙ e) in
-      outcome-bad r (f .0) (then-stop last (f .1) ∙ f .1) verdicts
+  settled-bad {w} r at q e verdicts =
+      let f = worked-bad (workFault s n l) r at (sym q ∙ e) in
+      outcome-bad r at (then-stop last f ∙ f) verdicts
 
   record WorkedClear (z : ℤ) (k : ℕ) : Type 0 where
     clear : workFault s n l ≡ Clear
@@ -88,7 +88,7 @@ module _ (s : Side) (n : ℕ) (l : Line) (room : ℕ) (cs : List ℕ) (bs fs : L
       → v ≡ length (verdictsOf s l) → xs ≡ classesOf (walkOf (s .machine) l) → ys ≡ beforeOf s l → zs ≡ afterOf s l → (verdicts : List Verdict)
       → settlementIs (record { answer = Justified z k v; stored = v }) xs ys zs ≡ settlementIn (settled f s l (lentBy cs bs fs verdicts))
   outcome-clear {f} {z} {k} {v} {xs} {ys} {zs} e ez ek ev ex ey ew verdicts =
-      (λ i. record { answer = Justified (ez i) (ek i) (ev i); stored = ev i; classes = ex i; before = ey i; after = ew i })
+      (λ i. record { answer = justifies (ez i) (ek i) (ev i); stored = ev i; classes = ex i; before = ey i; after = ew i })
       ∙ ap (λ (f : Fault). settlementIn (settled f s l (lentBy cs bs fs verdicts))) (sym e)
 
   module _ {w : Worked} {held : List ℕ} {moved moves : List ℤ} (o : WorkedOut s n l w held moved moves) (z : ℤ) (k : ℕ) (q : w ≡ worked.Done z k) where
@@ -116,7 +116,7 @@ module _ (s : Side) (n : ℕ) (l : Line) (room : ℕ) (cs : List ℕ) (bs fs : L
         fault : (workFault s n l then last) ≡ rule (leb count room) ShortRoom 0
         fault = then-go last (done .clear) ∙ ap (λ (x : ℕ). rule (leb x room) ShortRoom 0) (sym counted)
 
-        go : (t : Bool) → leb count room ≡ t → answer ≡ cond t (record { answer = Justified z′ k count; stored = count }) (record { answer = Refused ShortRoom; stored = 0 })
+        go : (t : Bool) → leb count room ≡ t → answer ≡ cond t (record { answer = Justified z′ k count; stored = count }) (record { answer = Refused ShortRoom 0; stored = 0 })
             → cs′ ≡ cond t held cs → bs′ ≡ cond t moved bs → fs′ ≡ cond t moves fs
             → settlementIs answer cs′ bs′ fs′ ≡ settlementIn (settled (workFault s n l then last) s l (lentBy cs bs fs verdicts))
         go true t a x y w =
@@ -142,7 +142,7 @@ module _ (t : List ℕ) (n : ℕ) (l : Line) (cs : List ℕ) (bs fs : List ℤ) 
   split verdicts = chain _ _ _ _ _ _ _ _ _
 
   pub whole-bad : (r : Refusal) (at : ℕ) {f : Fault} → f ≡ input → f ≡ Bad r at → (verdicts : List Verdict)
-      → settlementIs (record { answer = Refused r; stored = 0 }) cs bs fs ≡ settlementIn (justified t n l (lentBy cs bs fs verdicts))
+      → settlementIs (record { answer = Refused r at; stored = 0 }) cs bs fs ≡ settlementIn (justified t n l (lentBy cs bs fs verdicts))
   unfolding justified s
   whole-bad r at {f} e q verdicts =
       let b : input ≡ Bad r at = sym e ∙ q in
@@ -172,11 +172,11 @@ module _ (t : List ℕ) (n : ℕ) (l : Line) (cs : List ℕ) (bs fs : List ℤ) 
         small = leb-true _ _ (and-right (leb 1 (l .size)) (leb (l .size) 67108864) (rule-holds _ PointSize 0 (then-second _ _ (then-second _ _ b))));
       }
 
-  pub whole-clear : {f : Fault} {room : ℕ} {answer : Settled} {cs′ : List ℕ} {bs′ fs′ : List ℤ} → f ≡ input → f ≡ Clear
+  pub whole-clear : (answer : Settled) {f : Fault} {room : ℕ} {cs′ : List ℕ} {bs′ fs′ : List ℤ} → f ≡ input → f ≡ Clear
       → SettledIn (sideOf (l .direction) (meaningOf t n)) n l room cs bs fs answer cs′ bs′ fs′ → (verdicts : List Verdict) → length verdicts ≡ room
       → settlementIs answer cs′ bs′ fs′ ≡ settlementIn (justified t n l (lentBy cs bs fs verdicts))
   unfolding justified s
-  whole-clear {f} {room} {answer} {cs′} {bs′} {fs′} e q w verdicts h =
+  whole-clear answer {f} {room} {cs′} {bs′} {fs′} e q w verdicts h =
       w verdicts
       ∙ ap (λ (x : ℕ). settlementIn (settled (workFault s n l then roomTest s l x) s l (lentBy cs bs fs verdicts))) (sym h)
       ∙ ap (λ (g : Fault). settlementIn (settled g s l (lentBy cs bs fs verdicts))) (sym (split verdicts ∙ then-go _ (sym e ∙ q)))

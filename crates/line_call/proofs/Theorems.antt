@@ -33,19 +33,18 @@ use Rattle.line_rule.specs.Line.{Line, gapOf, shrinks, gapSize, walkMachine, co
 use Rattle.line_moves.specs.Parts.{Known}
 use Rattle.line_moves.proofs.Walks.{walk-length}
 use Rattle.line_moves.proofs.Parts.{parts-length}
-use Rattle.line_call.specs.declared.LineAnswer.the-variants.{Justified, Refused}
-use Rattle.line_call.specs.Justified.{Lent, lengthsOf, workedFault, lineFault, settled, justified}
+use Rattle.line_call.specs.Justified.{Lent, justifies, refuses, lengthsOf, workedFault, lineFault, settled, justified}
 use Rattle.line_call.specs.Settle.{storedIn}
 use Rattle.line_call.proofs.Tests.{known-each}
 
 -- ---- refusals
 
 -- A REFUSAL CHANGES NOTHING
-pub refused-unchanged : (t : List ℕ) (n : ℕ) (l : Line) (b : Lent) (r : Refusal) → justified t n l b .answer ≡ Refused r → justified t n l b .lent ≡ b
+pub refused-unchanged : (t : List ℕ) (n : ℕ) (l : Line) (b : Lent) (number at : ℕ) → justified t n l b .answer ≡ refuses number at → justified t n l b .lent ≡ b
 unfolding justified
-refused-unchanged t n l b r e = go (lineFault t n l b) e
+refused-unchanged t n l b number at e = go (lineFault t n l b) e
   where
-    go : (f : Fault) → settled f (sideOf (l .direction) (meaningOf t n)) l b .answer ≡ Refused r → settled f (sideOf (l .direction) (meaningOf t n)) l b .lent ≡ b
+    go : (f : Fault) → settled f (sideOf (l .direction) (meaningOf t n)) l b .answer ≡ refuses number at → settled f (sideOf (l .direction) (meaningOf t n)) l b .lent ≡ b
     go Clear e = let z : _≡_ {A = ℕ} 0 1 = cc in absurd (omega arith)
     go (Bad q at) e = refl
 
@@ -63,11 +62,11 @@ module _ (t : List ℕ) (n : ℕ) (l : Line) (b : Lent) where
     pub before : justified t n l b .lent .before ≡ beforeOf side l
     pub after : justified t n l b .lent .after ≡ afterOf side l
 
-  pub answered : (z : ℤ) (k v : ℕ) → justified t n l b .answer ≡ Justified z k v → Answered z k v
+  pub answered : (z : ℤ) (k v : ℕ) → justified t n l b .answer ≡ justifies z k v → Answered z k v
   unfolding justified
   answered z k v e = go (lineFault t n l b) refl e
     where
-      go : (f : Fault) → lineFault t n l b ≡ f → settled f side l b .answer ≡ Justified z k v → Answered z k v
+      go : (f : Fault) → lineFault t n l b ≡ f → settled f side l b .answer ≡ justifies z k v → Answered z k v
       go (Bad q at) w e = let z : _≡_ {A = ℕ} 0 1 = cc in absurd (omega arith)
       go Clear w e =
           record {
@@ -90,7 +89,7 @@ module _ (t : List ℕ) (n : ℕ) (l : Line) (b : Lent) where
       go (negsuc a) = refl
 
   -- MOVEMENTS AND REMAINDER SUM TO THE GAP, to the unit
-  pub sum-is-gap : (z : ℤ) (k v : ℕ) → justified t n l b .answer ≡ Justified z k v
+  pub sum-is-gap : (z : ℤ) (k v : ℕ) → justified t n l b .answer ≡ justifies z k v
       → (sumℤ (justified t n l b .lent .before) +ℤ sumℤ (justified t n l b .lent .after)) +ℤ z ≡ gapOf l
   unfolding beforeOf afterOf remainderOf
   sum-is-gap z k v e =
@@ -103,7 +102,7 @@ module _ (t : List ℕ) (n : ℕ) (l : Line) (b : Lent) where
       ∙ gap-signed
 
   -- WHEN THERE IS A REMAINDER: it is the whole gap where nothing can move, and 0 otherwise
-  pub remainder-is : (z : ℤ) (k v : ℕ) → justified t n l b .answer ≡ Justified z k v → z ≡ cond (nothingMoves (partsFor side l)) (gapOf l) (pos 0)
+  pub remainder-is : (z : ℤ) (k v : ℕ) → justified t n l b .answer ≡ justifies z k v → z ≡ cond (nothingMoves (partsFor side l)) (gapOf l) (pos 0)
   unfolding remainderOf
   remainder-is z k v e =
       answered z k v e .remainder

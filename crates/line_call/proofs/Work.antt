@@ -73,7 +73,7 @@ module _ (l : Line) {t : ℤ} (r : t ≡ l .target) where
 -- ---- what bars it
 
 module _ (s : Side) (n : ℕ) (l : Line) where
-  barred : (r : Refusal) {cs : List ℕ} {bs fs : List ℤ} → workFault s n l ≡ Bad r 0 → WorkedOut s n l (worked.Bad r) cs bs fs
+  barred : (r : Refusal) {cs : List ℕ} {bs fs : List ℤ} → workFault s n l ≡ Bad r 0 → WorkedOut s n l (worked.Bad r 0) cs bs fs
   barred r {cs} {bs} {fs} e =
       record {
         says = ap (λ (f : Fault). workedBy f s l) (sym e);
@@ -82,22 +82,22 @@ module _ (s : Side) (n : ℕ) (l : Line) where
         after = λ c. let z : _≡_ {A = ℕ} 0 1 = cc in absurd (omega arith);
       }
 
-  pub bad-advances : {cs : List ℕ} {bs fs : List ℤ} → goodAdvances l ≡ false → WorkedOut s n l (worked.Bad Advances) cs bs fs
+  pub bad-advances : {cs : List ℕ} {bs fs : List ℤ} → goodAdvances l ≡ false → WorkedOut s n l (worked.Bad Advances 0) cs bs fs
   unfolding workFault _then_ rule
   bad-advances a = barred Advances (rw a)
 
   module _ (a : goodAdvances l ≡ true) where
-    pub bad-glyph : {cs : List ℕ} {bs fs : List ℤ} → allKnown n (l .glyphs) ≡ false → WorkedOut s n l (worked.Bad UnknownGlyph) cs bs fs
+    pub bad-glyph : {cs : List ℕ} {bs fs : List ℤ} → allKnown n (l .glyphs) ≡ false → WorkedOut s n l (worked.Bad UnknownGlyph 0) cs bs fs
     unfolding workFault _then_ rule
     bad-glyph k = barred UnknownGlyph (rw (a, k))
 
     module _ (k : allKnown n (l .glyphs) ≡ true) where
-      pub bad-walk : {cs : List ℕ} {bs fs : List ℤ} → hasStopped (walkOf (s .machine) l) ≡ false → WorkedOut s n l (worked.Bad EndlessWalk) cs bs fs
+      pub bad-walk : {cs : List ℕ} {bs fs : List ℤ} → hasStopped (walkOf (s .machine) l) ≡ false → WorkedOut s n l (worked.Bad EndlessWalk 0) cs bs fs
       unfolding workFault _then_ rule
       bad-walk w = barred EndlessWalk (rw (a, k, w))
 
       module _ (w : hasStopped (walkOf (s .machine) l) ≡ true) where
-        bad-total : {cs : List ℕ} {bs fs : List ℤ} → lineFits (partsFor s l) ≡ false → WorkedOut s n l (worked.Bad StageTotal) cs bs fs
+        bad-total : {cs : List ℕ} {bs fs : List ℤ} → lineFits (partsFor s l) ≡ false → WorkedOut s n l (worked.Bad StageTotal 0) cs bs fs
         unfolding workFault _then_ rule
         bad-total f = barred StageTotal (rw (a, k, w, f))
 
@@ -145,7 +145,7 @@ module _ (s : Side) (n : ℕ) (l : Line) {g : ℤ} (d : Gapped l g) (k : allKnow
       subst (λ (cs : List ℕ). SharedGap (gapOf l) s (l .size) (l .glyphs) cs bs fs sh bs′ fs′) eh
       (subst (λ (z : ℤ). SharedGap z s (l .size) (l .glyphs) held bs fs sh bs′ fs′) (sym (d .gap)) o)
 
-  pub work-over : {cs : List ℕ} {xs ys : List ℤ} → sh ≡ Over → WorkedOut s n l (worked.Bad StageTotal) cs xs ys
+  pub work-over : {cs : List ℕ} {xs ys : List ℤ} → sh ≡ Over → WorkedOut s n l (worked.Bad StageTotal 0) cs xs ys
   work-over {cs} {xs} {ys} e = bad-total s n l (d .good) k w (shared-over out e)
 
   module _ (u : Units) (e : sh ≡ Left u) where

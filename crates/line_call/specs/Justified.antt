@@ -11,6 +11,7 @@ use Rattle.fields.specs.declared.Refusal.{Refusal}
 use Rattle.fields.specs.declared.Refusal.the-variants.{UnequalLengths, LongLine, PointSize, Advances, UnknownGlyph, EndlessWalk, StageTotal, ShortRoom}
 use Rattle.fields.specs.declared.Fault.{Fault}
 use Rattle.fields.specs.declared.Fault.the-variants.{Clear, Bad}
+use Rattle.fields.specs.Refusals.{numberOf}
 use Rattle.fields.specs.Faults.{_then_, rule}
 use Rattle.types.specs.declared.Verdict.{Verdict}
 use Rattle.meaning.specs.Meaning.{Side}
@@ -19,7 +20,7 @@ use Rattle.share.specs.Line.{lineFits, sumℤ}
 use Rattle.table.specs.Table.{tableFault}
 use Rattle.table.specs.Means.{meaningOf}
 use Rattle.line_call.specs.declared.LineAnswer.{LineAnswer}
-use Rattle.line_call.specs.declared.LineAnswer.the-variants.{Justified, Refused}
+use Rattle.line_call.specs.declared.LineAnswer.the-variants as line
 use Rattle.line_rule.specs.Line.{Line, walkOf, hasStopped, classesOf, entriesOf, partsFor, beforeOf, afterOf, remainderOf, verdictsOf}
 
 -- what is lent: a class, a before and an after movement for each glyph, and room for verdicts
@@ -97,18 +98,27 @@ lineFault t n l b = workedFault t n l (lengthsOf b) then roomTest (sideOf (l .di
 
 -- ---- the outcome
 
--- an answer, and what the lent buffers hold afterwards
+-- what an answer says: the remainder, the count of entries taken and the count of verdicts; or a refusal's number and offset
+pub data LineReply : Type 0 where
+  justifies : ℤ → ℕ → ℕ → LineReply
+  refuses : ℕ → ℕ → LineReply
+
+abbrev pub saysLine : LineAnswer → LineReply
+saysLine (line.Justified remainder entries verdicts) = justifies remainder entries verdicts
+saysLine (line.Refused r at) = refuses (numberOf r) at
+
+-- what is answered, and what the lent buffers hold afterwards
 pub record Outcome : Type 0 where
-  pub answer : LineAnswer
+  pub answer : LineReply
   pub lent : Lent
 
--- a refusal is the refusal alone, and changes no buffer; else every class and movement is stored, and the verdicts at the front of their room, the rest of
+-- a refusal is its number and offset alone (document 02, 4/14), and changes no buffer; else every class and movement is stored, and the verdicts at the front of their room, the rest of
 -- which stays as it was
 abbrev pub settled : Fault → Side → Line → Lent → Outcome
-settled (Bad r at) s l b = record { answer = Refused r; lent = b }
+settled (Bad r at) s l b = record { answer = refuses (numberOf r) at; lent = b }
 settled Clear s l b =
     record {
-      answer = Justified (remainderOf s l) (entriesOf (walkOf (s .machine) l)) (length (verdictsOf s l));
+      answer = justifies (remainderOf s l) (entriesOf (walkOf (s .machine) l)) (length (verdictsOf s l));
       lent =
           record {
             classes = classesOf (walkOf (s .machine) l);

@@ -6,10 +6,8 @@ use lib.IntN.{ℤ}
 use Rattle.types.specs.declared.Verdict.{Verdict}
 use Rattle.line_rule.specs.declared.LineShape.{LineShape}
 use Rattle.line_rule.specs.Line.{Line}
-use Rattle.line_call.specs.declared.LineAnswer.{LineAnswer}
-use Rattle.line_call.specs.declared.LineAnswer.the-variants.{Justified, Refused}
 use Rattle.line_call.specs.declared.Settled.{Settled}
-use Rattle.line_call.specs.Justified.{Lent, Outcome}
+use Rattle.line_call.specs.Justified.{Lent, LineReply, justifies, refuses, saysLine, Outcome}
 
 -- the line and what is lent, as the call has them
 abbrev pub lineBy : LineShape → List ℕ → List ℤ → Line
@@ -28,13 +26,13 @@ abbrev pub lentBy : List ℕ → List ℤ → List ℤ → List Verdict → Lent
 lentBy classes before after verdicts = record { classes = classes; before = before; after = after; verdicts = verdicts }
 
 -- the verdicts of an answer; a refusal has none
-abbrev pub storedIn : LineAnswer → ℕ
-storedIn (Justified remainder entries verdicts) = verdicts
-storedIn (Refused r) = 0
+abbrev pub storedIn : LineReply → ℕ
+storedIn (justifies remainder entries verdicts) = verdicts
+storedIn (refuses number at) = 0
 
 -- what is settled
 pub record Settlement : Type 0 where
-  pub answer : LineAnswer
+  pub answer : LineReply
   pub stored : ℕ
   pub classes : List ℕ
   pub before : List ℤ
@@ -46,4 +44,4 @@ settlementIn o =
     record { answer = o .answer; stored = storedIn (o .answer); classes = o .lent .classes; before = o .lent .before; after = o .lent .after }
 
 abbrev pub settlementIs : Settled → List ℕ → List ℤ → List ℤ → Settlement
-settlementIs r classes before after = record { answer = r .answer; stored = r .stored; classes = classes; before = before; after = after }
+settlementIs r classes before after = record { answer = saysLine (r .answer); stored = r .stored; classes = classes; before = before; after = after }

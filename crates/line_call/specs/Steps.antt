@@ -54,7 +54,7 @@ workFault s n l = firstFault (workTests s n l)
 
 abbrev pub workedBy : Fault → Side → Line → Worked
 workedBy Clear s l = worked.Done (remainderOf s l) (entriesOf (walkOf (s .machine) l))
-workedBy (Bad r at) s l = worked.Bad r
+workedBy (Bad r at) s l = worked.Bad r at
 
 -- the answer, and what the classes and movements hold where nothing bars the line
 pub record WorkedOut (s : Side) (n : ℕ) (l : Line) (answer : Worked) (cs : List ℕ) (bs fs : List ℤ) : Type 0 where
@@ -76,7 +76,7 @@ abbrev pub roomed : ℕ → ℕ → ℤ → ℕ → Settled
 roomed room verdicts remainder entries =
     cond (leb verdicts room)
     (record { answer = Justified remainder entries verdicts; stored = verdicts })
-    (record { answer = Refused ShortRoom; stored = 0 })
+    (record { answer = Refused ShortRoom 0; stored = 0 })
 
 pub record Finished (room verdicts : ℕ) (remainder : ℤ) (entries : ℕ) (held cs cs′ : List ℕ) (moved bs bs′ moves fs fs′ : List ℤ) (answer : Settled) : Type 0 where
   pub says : answer ≡ roomed room verdicts remainder entries

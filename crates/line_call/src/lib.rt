@@ -23,14 +23,17 @@ use line_rule::LineShape;
 use units::Units;
 
 // What a line's call answers: the remainder in units, the count of entries that the class walk took, and the count
-// of verdicts; or the refusal alone.
+// of verdicts; or the refusal and its offset.
 pub enum LineAnswer {
     Justified {
         remainder: i32,
         entries: u32,
         verdicts: u32,
     },
-    Refused(Refusal),
+    Refused {
+        refusal: Refusal,
+        at: usize,
+    },
 }
 
 // The answer of a line's call, and how many verdicts are still to be stored: none where it is a refusal.
@@ -51,10 +54,10 @@ enum Gap {
     Unfit,
 }
 
-// What the classes and the movements of a line leave to say: the remainder and the entries taken; or the refusal.
+// What the classes and the movements of a line leave to say: the remainder and the entries taken; or the refusal, with its offset.
 enum Worked {
     Done { remainder: i32, entries: u32 },
-    Bad(Refusal),
+    Bad { refusal: Refusal, at: usize },
 }
 
 // The most units that advances may sum to, and the most that a target may be.
@@ -225,7 +228,10 @@ fn work_out(
         ⌝ }
 {
     let Gap::Of(gap) = gap_of(advances, shape.target) else {
-        return Worked::Bad(Refusal::Advances);
+        return Worked::Bad {
+            refusal: Refusal::Advances,
+            at: 0,
+        };
     };
     if all_known(count, glyphs) {
         let walked = line_moves::line_walk(table, count, shape, glyphs);
@@ -244,16 +250,25 @@ fn work_out(
                 afters,
             );
             let Shared::Left(remainder) = shared else {
-                return Worked::Bad(Refusal::StageTotal);
+                return Worked::Bad {
+                    refusal: Refusal::StageTotal,
+                    at: 0,
+                };
             };
             return Worked::Done {
                 remainder: remainder.0 as i32,
                 entries: walked.count,
             };
         }
-        return Worked::Bad(Refusal::EndlessWalk);
+        return Worked::Bad {
+            refusal: Refusal::EndlessWalk,
+            at: 0,
+        };
     }
-    Worked::Bad(Refusal::UnknownGlyph)
+    Worked::Bad {
+        refusal: Refusal::UnknownGlyph,
+        at: 0,
+    }
 }
 
 // Refusal 16; where there is room for the verdicts, classes and movements are copied out.
@@ -299,7 +314,10 @@ fn finish<'a, 'b>(
     );
     if room < verdicts {
         return Settled {
-            answer: LineAnswer::Refused(Refusal::ShortRoom),
+            answer: LineAnswer::Refused {
+                refusal: Refusal::ShortRoom,
+                at: 0,
+            },
             stored: 0,
         };
     }
@@ -345,8 +363,8 @@ fn settle_in<'a, 'b>(
 {
     let worked = work_out(table, count, shape, glyphs, advances, held, befores, afters);
     match worked {
-        Worked::Bad(refusal) => Settled {
-            answer: LineAnswer::Refused(refusal),
+        Worked::Bad { refusal, at } => Settled {
+            answer: LineAnswer::Refused { refusal, at },
             stored: 0,
         },
         Worked::Done { remainder, entries } => finish(
@@ -398,9 +416,9 @@ pub fn settle<'a, 'b>(
         before.len(),
         after.len(),
     );
-    if let Fault::Bad { refusal, at: _ } = fault {
+    if let Fault::Bad { refusal, at } = fault {
         return Settled {
-            answer: LineAnswer::Refused(refusal),
+            answer: LineAnswer::Refused { refusal, at },
             stored: 0,
         };
     }

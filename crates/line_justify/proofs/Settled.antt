@@ -19,7 +19,7 @@ use Rattle.table.specs.Table.{tableFault}
 use Rattle.table.specs.Means.{meaningOf}
 use Rattle.line_rule.specs.Line.{Line, walkOf, classesOf, beforeOf, afterOf, verdictsFrom, verdictsOf}
 use Rattle.line_call.specs.declared.Settled.{Settled}
-use Rattle.line_call.specs.Justified.{Outcome, Lent, lengthsOf, equalLengths, workedFault, lineFault, settled, justified}
+use Rattle.line_call.specs.Justified.{Outcome, saysLine, Lent, lengthsOf, equalLengths, workedFault, lineFault, settled, justified}
 use Rattle.line_call.specs.Settle.{lentBy, Settlement, settlementIs, settlementIn}
 use Rattle.line_call.proofs.Tests.{lengths-hold}
 use Rattle.line_verdicts.specs.Cursor.{Fits, moved}
@@ -88,7 +88,7 @@ module _ (t : List ℕ) (n : ℕ) (l : Line) (cs : List ℕ) (bs fs : List ℤ) 
       after-are : fs′ ≡ o .lent .after
       after-are = ap (λ (x : Settlement). x .after) e
 
-      answer-is : r .answer ≡ o .answer
+      answer-is : saysLine (r .answer) ≡ o .answer
       answer-is = ap (λ (x : Settlement). x .answer) e
 
     -- the verdicts can be stored
@@ -123,10 +123,10 @@ module _ (t : List ℕ) (n : ℕ) (l : Line) (cs : List ℕ) (bs fs : List ℤ) 
             let o : Outcome = settled (Bad q at) s l b in
             let z : r .stored ≡ 0 = stored-is o w in
             let h : zs ≡ ys = f ∙ ap (λ (k : ℕ). filledWith (vs cs′ bs′ fs′) k ys) z in
-            λ i. outcomeIs (answer-is o w i) (classes-are o w i) (before-are o w i) (after-are o w i) (h i)
+            λ i. record { answer = answer-is o w i; lent = lentBy (classes-are o w i) (before-are o w i) (after-are o w i) (h i) }
         go Clear w =
             let o : Outcome = settled Clear s l b in
             let z : r .stored ≡ length (verdictsOf s l) = stored-is o w in
             let v : vs cs′ bs′ fs′ ≡ verdictsOf s l = same-verdicts cs′ bs′ fs′ (classes-are o w) (before-are o w) (after-are o w) in
             let h : zs ≡ verdictsOf s l ++ drop (length (verdictsOf s l)) ys = f ∙ (λ i. filledWith (v i) (z i) ys) ∙ stored-all (verdictsOf s l) ys in
-            λ i. outcomeIs (answer-is o w i) (classes-are o w i) (before-are o w i) (after-are o w i) (h i)
+            λ i. record { answer = answer-is o w i; lent = lentBy (classes-are o w i) (before-are o w i) (after-are o w i) (h i) }

@@ -4,8 +4,8 @@ use mathlib.Core.List.{List}
 use lib.IntN.{ℤ}
 use Rattle.types.specs.declared.Verdict.{Verdict}
 use Rattle.line_call.specs.declared.LineAnswer.{LineAnswer}
-use Rattle.line_call.specs.Justified.{Outcome}
+use Rattle.line_call.specs.Justified.{Outcome, saysLine}
 use Rattle.line_call.specs.Settle.{lentBy}
 
 abbrev pub outcomeIs : LineAnswer → List ℕ → List ℤ → List ℤ → List Verdict → Outcome
-outcomeIs r classes before after verdicts = record { answer = r; lent = lentBy classes before after verdicts }
+outcomeIs r classes before after verdicts = record { answer = saysLine r; lent = lentBy classes before after verdicts }

@@ -4,3 +4,4 @@ pub mod Walks
 pub mod Same
 pub mod Edges
 pub mod Columns
+pub mod Placed

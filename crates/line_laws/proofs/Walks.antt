@@ -31,8 +31,7 @@ use Rattle.table_laws.proofs.Faults.{clear-not-bad, rule-bad}
 use Rattle.table_laws.proofs.Valid.{valid-meaning}
 use Rattle.line_rule.specs.Line.{Line, walkMachine, walkOf, hasStopped, classesOf, entriesOf}
 use Rattle.line_moves.specs.Parts.{Known}
-use Rattle.line_call.specs.declared.LineAnswer.the-variants.{Justified, Refused}
-use Rattle.line_call.specs.Justified.{Lent, justified}
+use Rattle.line_call.specs.Justified.{Lent, justifies, refuses, justified}
 use Rattle.line_call.proofs.Theorems.{answered, cleared, walk-ends, walk-never}
 use Rattle.line_laws.specs.Bars.{sideFor, lineParts, walkLine, NeverEnds, EndsWith, Walkable}
 use Rattle.line_laws.proofs.Tests.{lengths-are, size-is, advances-are, glyphs-are}
@@ -66,9 +65,9 @@ module _ (t : List ℕ) (n : ℕ) (l : Line) (b : Lent) (bytes : Bytes t) where
   of-never (some m) never = ap hasStopped (never-walked (walkMachine m) (walkLine m l) never .1)
 
   -- REFUSAL 14 exactly when nothing before it bars the line and the walk never ends
-  pub endless : Accepted t n → (justified t n l b .answer ≡ Refused EndlessWalk) ↔ (Walkable n l b × NeverEnds (sideFor t n l .machine) l)
+  pub endless : Accepted t n → (justified t n l b .answer ≡ refuses 14 0) ↔ (Walkable n l b × NeverEnds (sideFor t n l .machine) l)
   unfolding Accepted
-  endless ok = (refused, λ h. call-refused t n l b EndlessWalk .1 (0, first (h .0) (h .1)))
+  endless ok = (refused, λ h. call-refused t n l b EndlessWalk 0 .1 (first (h .0) (h .1)))
     where
       first : Walkable n l b → NeverEnds (sideFor t n l .machine) l → First (lineParts t n l b) EndlessWalk 0
       first h never =
@@ -89,16 +88,13 @@ module _ (t : List ℕ) (n : ℕ) (l : Line) (b : Lent) (bytes : Bytes t) where
             ),
           )
 
-      refused : justified t n l b .answer ≡ Refused EndlessWalk → Walkable n l b × NeverEnds (sideFor t n l .machine) l
-      refused e = after-table (call-refused t n l b EndlessWalk .0 e .1)
+      refused : justified t n l b .answer ≡ refuses 14 0 → Walkable n l b × NeverEnds (sideFor t n l .machine) l
+      refused e = after-table (call-refused t n l b EndlessWalk 0 .0 e)
         where
-          at : ℕ
-          at = call-refused t n l b EndlessWalk .0 e .0
+          apart : {A : Type 0} (r : Refusal) → (r ≡ EndlessWalk → ⊥) → (test : Bool) → rule test r 0 ≡ Bad EndlessWalk 0 → A
+          apart r h test q = absurd (other-rule test r 0 h q)
 
-          apart : {A : Type 0} (r : Refusal) → (r ≡ EndlessWalk → ⊥) → (test : Bool) → rule test r 0 ≡ Bad EndlessWalk at → A
-          apart r h test q = absurd (other-rule test r at h q)
-
-          after-table : First (lineParts t n l b) EndlessWalk at → Walkable n l b × NeverEnds (sideFor t n l .machine) l
+          after-table : First (lineParts t n l b) EndlessWalk 0 → Walkable n l b × NeverEnds (sideFor t n l .machine) l
           after-table (inl q) = absurd (clear-not-bad ok q)
           after-table (inr (_, inl q)) = apart UnequalLengths (λ z. let y : _≡_ {A = ℕ} 0 1 = cc in omega arith) _ q
           after-table (inr (_, inr (_, inl q))) = apart LongLine (λ z. let y : _≡_ {A = ℕ} 0 1 = cc in omega arith) _ q
@@ -116,7 +112,7 @@ module _ (t : List ℕ) (n : ℕ) (l : Line) (b : Lent) (bytes : Bytes t) where
                   measured = advances-are l .0 (rule-holds _ Advances 0 p12);
                   known = known;
                 },
-                never-of (sideFor t n l .machine) (side-machine ok) known (rule-bad _ EndlessWalk EndlessWalk 0 at q .0),
+                never-of (sideFor t n l .machine) (side-machine ok) known (rule-bad _ EndlessWalk EndlessWalk 0 0 q .0),
               )
           after-table (inr (_, inr (_, inr (_, inr (_, inr (_, inr (_, inr (_, inl q)))))))) = apart StageTotal (λ z. let y : _≡_ {A = ℕ} 0 1 = cc in omega arith) _ q
           after-table (inr (_, inr (_, inr (_, inr (_, inr (_, inr (_, inr (_, inr (_, inl q))))))))) = apart ShortRoom (λ z. let y : _≡_ {A = ℕ} 0 1 = cc in omega arith) _ q
@@ -137,7 +133,7 @@ module _ (t : List ℕ) (n : ℕ) (l : Line) (b : Lent) (bytes : Bytes t) where
   accepted-is q = q
 
   -- THE WALK ENDS with the classes that are stored and the count that is answered
-  pub ended : (z : ℤ) (k v : ℕ) → justified t n l b .answer ≡ Justified z k v → EndsWith (sideFor t n l .machine) l (justified t n l b .lent .classes) k
+  pub ended : (z : ℤ) (k v : ℕ) → justified t n l b .answer ≡ justifies z k v → EndsWith (sideFor t n l .machine) l (justified t n l b .lent .classes) k
   ended z k v e =
       let a = answered t n l b z k v e in
       let c = cleared t n l b (a .clear) in

@@ -6,15 +6,14 @@ use lib.IntN.{ℤ}
 use lib.Signed.{_≤ℤ_}
 use Rattle.line_rule.specs.Line.{Line}
 use Rattle.line_rule.specs.Edges.{leftEdge, rightEdge, aimed}
-use Rattle.line_call.specs.declared.LineAnswer.the-variants.{Justified}
-use Rattle.line_call.specs.Justified.{Lent, justified}
+use Rattle.line_call.specs.Justified.{Lent, justifies, justified}
 
 -- a line's call is accepted: it answers with numbers
 pub record Shown (t : List ℕ) (n : ℕ) (l : Line) (b : Lent) : Type 0 where
   pub remainder : ℤ
   pub entries : ℕ
   pub verdicts : ℕ
-  pub answer : justified t n l b .answer ≡ Justified remainder entries verdicts
+  pub answer : justified t n l b .answer ≡ justifies remainder entries verdicts
 
 -- the edges of the glyph at place i, by the movements that the call leaves in the lent buffers
 abbrev pub left : List ℕ → ℕ → Line → Lent → ℕ → ℤ

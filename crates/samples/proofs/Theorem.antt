@@ -29,10 +29,9 @@ use Rattle.share.specs.Line.{lineMoves, lineLeft, lineFits}
 use Rattle.verdict.specs.Verdict.{breaks, typeFires, firesOf}
 use Rattle.table.specs.Table.{Accepted}
 use Rattle.line_rule.specs.Line.{Line, gapOf, walkMachine, columnOf, walkOf, hasStopped, classesOf, entriesOf, partsOf, partsFor, beforeOf, afterOf, remainderOf, verdictsFrom, verdictsOf}
-use Rattle.line_call.specs.Justified.{Lent, settled, roomTest, workedFault, lineFault, justified}
+use Rattle.line_call.specs.Justified.{Lent, justifies, refuses, settled, roomTest, workedFault, lineFault, justified}
 use Rattle.line_call.specs.Settle.{lineBy, lentBy}
 use Rattle.line_call.proofs.Tests.{lengths-hold}
-use Rattle.line_call.specs.declared.LineAnswer.the-variants.{Justified, Refused}
 use Rattle.samples.specs.Samples.{Proper, Empty, Stuck, sideFor, cases, Holds}
 use Rattle.samples.proofs.Lines.{empty-line, stuck-line}
 
@@ -79,11 +78,11 @@ module _ (direction : Direction) (starts ends : Bool) (size : ℕ) (s : Side) (n
       then-go _ (then-go _ (rule-clear EndlessWalk 0 (ap hasStopped bare-walk)) ∙ rule-clear StageTotal 0 refl)
       ∙ rule-clear ShortRoom 0 (le-leb 0 (length verdicts) (omega arith))
 
-  bare-settled : settled Clear s bare room ≡ record { answer = Justified (pos 4) 0 0; lent = room }
+  bare-settled : settled Clear s bare room ≡ record { answer = justifies (pos 4) 0 0; lent = room }
   unfolding remainderOf beforeOf afterOf verdictsOf verdictsFrom gapOf partsOf lineLeft lineMoves leftBy movesBy stageLeft stageMoves shares stages goesBack
   bare-settled =
       ap (λ (w : Walk). record {
-        answer = Justified (pos 4) (entriesOf w) 0;
+        answer = justifies (pos 4) (entriesOf w) 0;
         lent = record { classes = classesOf w; before = []; after = []; verdicts = verdicts };
       })
       bare-walk
@@ -124,13 +123,13 @@ module _ (t : List ℕ) (n : ℕ) (l : Line) (b : Lent) (p : Proper t n l b) (e 
       ∙ ap₂ (last (sideFor t n l)) line-is lent-is
       ∙ bare-clear (l .direction) (l .starts) (l .ends) (l .size) (sideFor t n l) (e .no-machine) (b .verdicts)
 
-  empty-holds : justified t n l b ≡ record { answer = Justified (pos 4) 0 0; lent = b }
+  empty-holds : justified t n l b ≡ record { answer = justifies (pos 4) 0 0; lent = b }
   unfolding justified
   empty-holds =
       ap (λ (f : Fault). settled f (sideFor t n l) l b) empty-clear
       ∙ ap₂ (settled Clear (sideFor t n l)) line-is lent-is
       ∙ bare-settled (l .direction) (l .starts) (l .ends) (l .size) (sideFor t n l) (e .no-machine) (b .verdicts)
-      ∙ ap (λ (c : Lent). record { answer = Justified (pos 4) 0 0; lent = c }) (sym lent-is)
+      ∙ ap (λ (c : Lent). record { answer = justifies (pos 4) 0 0; lent = c }) (sym lent-is)
 
 -- ---- the line that is stuck
 
@@ -148,7 +147,7 @@ module _ (t : List ℕ) (n : ℕ) (l : Line) (b : Lent) (p : Proper t n l b) (e 
       ∙ ap₂ (λ (ks : List ℕ) (starts : Bool). hasStopped (walked (walkMachine m) (lineOf ks starts (l .ends)))) columns (e .not-first)
       ∙ ap hasStopped (w .1)
 
-  stuck-holds : justified t n l b ≡ record { answer = Refused EndlessWalk; lent = b }
+  stuck-holds : justified t n l b ≡ record { answer = refuses 14 0; lent = b }
   unfolding justified
   stuck-holds =
       let short : leb (length (l .glyphs)) 1024 ≡ true = ap (λ (gs : List ℕ). leb (length gs) 1024) (e .one-glyph) in

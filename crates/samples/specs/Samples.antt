@@ -6,7 +6,6 @@ use mathlib.Core.Bool.{true, false}
 use mathlib.Core.Option.{none, some}
 use mathlib.Core.List.{List, [], _∷_, _++_}
 use lib.IntN.{ℤ, pos}
-use Rattle.fields.specs.declared.Refusal.the-variants.{EndlessWalk}
 use Rattle.fields.specs.Field.{be32}
 use Rattle.types.specs.declared.Entry.{Entry}
 use Rattle.units.specs.Fixed.{fixedOf, factorOf}
@@ -20,9 +19,7 @@ use Rattle.verdict.specs.Verdict.{firesOf}
 use Rattle.table.specs.Table.{Accepted}
 use Rattle.table.specs.Means.{meaningOf}
 use Rattle.line_rule.specs.Line.{Line, walkMachine, columnOf, unitsOf}
-use Rattle.line_call.specs.declared.LineAnswer.{LineAnswer}
-use Rattle.line_call.specs.declared.LineAnswer.the-variants.{Justified, Refused}
-use Rattle.line_call.specs.Justified.{Lent, lengthsOf, equalLengths, goodAdvances, allKnown, justified}
+use Rattle.line_call.specs.Justified.{Lent, LineReply, justifies, refuses, lengthsOf, equalLengths, goodAdvances, allKnown, justified}
 
 -- ---- a case and what is expected of it
 
@@ -58,7 +55,7 @@ pub data Shape : Type 0 where
 -- the shape of a line; what its call answers
 pub record LineCase : Type 0 where
   pub shape : Shape
-  pub answer : LineAnswer
+  pub answer : LineReply
 
 pub data Case : Type 0 where
   factor : FactorCase → Case
@@ -95,8 +92,8 @@ cases =
     ∷ ligature (record { lower = 0; upper = 32768; size = twelve; growth = pos 393216; fires = No })
     ∷ ligature (record { lower = 0; upper = 32768; size = twelve; growth = pos 393217; fires = Plain })
     -- the remainder is 4, no entry is taken, no verdict fires
-    ∷ line (record { shape = empty (pos 4); answer = Justified (pos 4) 0 0 })
-    ∷ line (record { shape = stuck; answer = Refused EndlessWalk })
+    ∷ line (record { shape = empty (pos 4); answer = justifies (pos 4) 0 0 })
+    ∷ line (record { shape = stuck; answer = refuses 14 0 })
     ∷ []
 
 -- ---- what it is for a case to hold

@@ -199,7 +199,10 @@ pub fn ask_count(bytes: &[u8]) -> CountAnswer
     ensures { λ r. ⌜ SheetReply (now (bytes .entry)) glyphCount (saysCount r) ⌝ }
 {
     if !sheet_check::is_sheet(bytes) {
-        return CountAnswer::Refused(Refusal::NotSheet);
+        return CountAnswer::Refused {
+            refusal: Refusal::NotSheet,
+            at: 0,
+        };
     }
     glyph_count(bytes)
 }
@@ -209,7 +212,10 @@ pub fn ask_sizes(bytes: &[u8], direction: Direction) -> SizesAnswer
     ensures { λ r. ⌜ SheetReply (now (bytes .entry)) (along direction sizes) (saysSizes r) ⌝ }
 {
     if !sheet_check::is_sheet(bytes) {
-        return SizesAnswer::Refused(Refusal::NotSheet);
+        return SizesAnswer::Refused {
+            refusal: Refusal::NotSheet,
+            at: 0,
+        };
     }
     sizes_of(bytes, direction)
 }
@@ -219,7 +225,10 @@ pub fn ask_class(bytes: &[u8], direction: Direction, glyph: u16) -> ClassAnswer
     ensures { λ r. ⌜ SheetReply (now (bytes .entry)) (along direction (class glyph)) (saysClass r) ⌝ }
 {
     if !sheet_check::is_sheet(bytes) {
-        return ClassAnswer::Refused(Refusal::NotSheet);
+        return ClassAnswer::Refused {
+            refusal: Refusal::NotSheet,
+            at: 0,
+        };
     }
     class_of(bytes, direction, glyph)
 }
@@ -229,7 +238,10 @@ pub fn ask_cell(bytes: &[u8], direction: Direction, row: u16, class: u16) -> Cel
     ensures { λ r. ⌜ SheetReply (now (bytes .entry)) (along direction (cell row class)) (saysCell r) ⌝ }
 {
     if !sheet_check::is_sheet(bytes) {
-        return CellAnswer::Refused(Refusal::NotSheet);
+        return CellAnswer::Refused {
+            refusal: Refusal::NotSheet,
+            at: 0,
+        };
     }
     cell_of(bytes, direction, row, class)
 }
@@ -239,7 +251,10 @@ pub fn ask_record(bytes: &[u8], direction: Direction, glyph: u16, class: u8) -> 
     ensures { λ r. ⌜ SheetReply (now (bytes .entry)) (along direction (width glyph class)) (saysRecord r) ⌝ }
 {
     if !sheet_check::is_sheet(bytes) {
-        return RecordAnswer::Refused(Refusal::NotSheet);
+        return RecordAnswer::Refused {
+            refusal: Refusal::NotSheet,
+            at: 0,
+        };
     }
     record_of(bytes, direction, glyph, class)
 }
@@ -249,7 +264,10 @@ pub fn ask_action(bytes: &[u8], direction: Direction, glyph: u16, number: u16) -
     ensures { λ r. ⌜ ActionReply (now (bytes .entry)) direction glyph number r ⌝ }
 {
     if !sheet_check::is_sheet(bytes) {
-        return answers::no_action(Sought::Refused(Refusal::NotSheet));
+        return answers::no_action(Sought::Refused {
+            refusal: Refusal::NotSheet,
+            at: 0,
+        });
     }
     action_of(bytes, direction, glyph, number)
 }

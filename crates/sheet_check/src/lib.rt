@@ -10,6 +10,7 @@ ghost use Rattle.meaning.specs.Sheet.{writeSide, IsSheet};
 ghost use Rattle.encoding.specs.Tests.{Says};
 ghost use Rattle.sheet_sections.specs.Section.{Parses};
 ghost use Rattle.sheet_check.specs.Whole.{valuesBytes, OkValues, sidesBytes, OkSides};
+ghost use Rattle.answers.specs.Says.{saysChecked};
 ghost use Rattle.sheet_check.specs.Check.{SheetChecked};
 
 // Sections 5 to 8: the clusters and the action lists of `glyphs` glyphs.
@@ -79,11 +80,14 @@ pub fn is_sheet(bytes: &[u8]) -> bool
 
 // Bytes are accepted as a sheet, or refused with 17.
 pub fn check_sheet(bytes: &[u8]) -> Checked
-    ensures { λ r. ⌜ SheetChecked (now (bytes .entry)) r ⌝ }
+    ensures { λ r. ⌜ SheetChecked (now (bytes .entry)) (saysChecked r) ⌝ }
 {
     if is_sheet(bytes) {
         Checked::Accepted
     } else {
-        Checked::Refused(Refusal::NotSheet)
+        Checked::Refused {
+            refusal: Refusal::NotSheet,
+            at: 0,
+        }
     }
 }

@@ -13,9 +13,7 @@ use Rattle.meaning.specs.Ask.{Question, glyphCount, along, sizes, class, cell, 
 use Rattle.meaning.specs.Same.{Asked}
 use Rattle.meaning.proofs.SheetLaws.{is-sheet, one-meaning}
 use Rattle.meaning.proofs.AskLaws.{bytes-answers, same-bytes}
-use Rattle.answers.specs.declared.Checked.{Checked}
-use Rattle.answers.specs.declared.Checked.the-variants.{Accepted as Taken, Refused}
-use Rattle.answers.specs.Says.{given, unlessBad}
+use Rattle.answers.specs.Says.{Judgement, accepted, barred, given, unlessBad}
 use Rattle.table.specs.Table.{tableFault, Accepted}
 use Rattle.table.specs.Means.{meaningOf}
 use Rattle.table_laws.proofs.Valid.{valid-meaning}
@@ -36,9 +34,9 @@ answers s o h (along d (cell r c)) a = h .cell d r c (omega (arith, a .0)) (omeg
 answers s o h (along d (width g c)) a = h .width d g c (omega (arith, a .0)) (omega (arith, a .1))
 answers s o h (along d (action g k)) a = h .action d g k (omega (arith, a .0)) (omega (arith, a .1)) .answer
 
-accepted-checks : (s : List ℕ) → IsSheet s → (c : Checked) → SheetChecked s c → c ≡ Taken
-accepted-checks s i Taken h = refl
-accepted-checks s i (Refused r) h = absurd (h .1 i)
+accepted-checks : (s : List ℕ) → IsSheet s → (c : Judgement) → SheetChecked s c → c ≡ accepted
+accepted-checks s i accepted h = refl
+accepted-checks s i (barred number at) h = absurd (h .2 i)
 
 -- a sheet that was written for a table is written for the table's meaning
 meant : (t s : List ℕ) (n : ℕ) → Accepted t n → SheetBy t n s → write (meaningOf t n) ≡ s

@@ -24,20 +24,20 @@ one-size a b e = cc
 
 -- whether a refusal is said
 barred : Said → ℕ
-barred (refused n) = 1
+barred (refused n at) = 1
 barred (bytes k) = 0
 
-no-size : (a b : ℕ) → bytes a ≡ refused b → ⊥
+no-size : (a : ℕ) {b at : ℕ} → bytes a ≡ refused b at → ⊥
 unfolding barred
-no-size a b e = let q : _≡_ {A = ℕ} 0 1 = ap barred e in omega arith
+no-size a e = let q : _≡_ {A = ℕ} 0 1 = ap barred e in omega arith
 
 said-length : (l : LengthAnswer) (k : ℕ) → saysLength l ≡ bytes k → l ≡ length-answer.Length k
 said-length (length-answer.Length n) k e = ap length-answer.Length (one-size n k e)
-said-length (length-answer.Refused r) k e = absurd (no-size k _ (sym e))
+said-length (length-answer.Refused r at) k e = absurd (no-size k (sym e))
 
 said-written : (w : WriteAnswer) (k : ℕ) → saysWritten w ≡ bytes k → w ≡ write-answer.Written k
 said-written (write-answer.Written n) k e = ap write-answer.Written (one-size n k e)
-said-written (write-answer.Refused r) k e = absurd (no-size k _ (sym e))
+said-written (write-answer.Refused r at) k e = absurd (no-size k (sym e))
 
 -- ---- bytes stored in a room
 
@@ -49,10 +49,10 @@ stored-bytes sheet room after k = go (leb (length sheet) (length room))
   where
     go : (b : Bool)
         → _≡_ {A = Outcome} (record { said = bytes k; room = after })
-        (cond b (record { said = bytes (length sheet); room = sheet ++ drop (length sheet) room }) (record { said = refused 16; room = room }))
+        (cond b (record { said = bytes (length sheet); room = sheet ++ drop (length sheet) room }) (record { said = refused 16 0; room = room }))
         → (k ≡ length sheet) × (after ≡ sheet ++ drop (length sheet) room)
     go true e = (one-size k (length sheet) (ap (λ (o : Outcome). o .said) e), ap (λ (o : Outcome). o .room) e)
-    go false e = absurd (no-size k 16 (ap (λ (o : Outcome). o .said) e))
+    go false e = absurd (no-size k (ap (λ (o : Outcome). o .said) e))
 
 -- the first bytes of a room that begins with the sheet, as many as the sheet has
 first-bytes : (size : ℕ) (after s sheet rest : List ℕ) → First size after s → size ≡ length sheet → after ≡ sheet ++ rest → s ≡ sheet

@@ -10,9 +10,7 @@ use Rattle.meaning.specs.Limits.{Valid}
 use Rattle.meaning.specs.Sheet.{write}
 use Rattle.meaning.specs.Ask.{Question, ask}
 use Rattle.meaning.specs.Same.{Asked, Same}
-use Rattle.answers.specs.declared.Checked.{Checked}
-use Rattle.answers.specs.declared.Checked.the-variants.{Accepted as Taken}
-use Rattle.answers.specs.Says.{given, unlessBad}
+use Rattle.answers.specs.Says.{Judgement, accepted, given, unlessBad}
 use Rattle.table.specs.Table.{tableFault, Accepted}
 use Rattle.table.specs.Means.{meaningOf}
 use Rattle.sheet_check.specs.Check.{SheetChecked}
@@ -25,7 +23,7 @@ use Rattle.sheet_laws.specs.Writing.{Measured, Wrote, SheetBy}
 
 -- s is a sheet: some outcome of the check accepts it
 abbrev pub Sheet : List ℕ → Type 0
-Sheet s = SheetChecked s Taken
+Sheet s = SheetChecked s accepted
 
 pub record Demand3 : Type 0 where
   -- each accepted table has a sheet: lent room enough, the writer writes one
@@ -41,7 +39,7 @@ pub record Demand3 : Type 0 where
   pub same-tables : (t u s s′ : List ℕ) (n : ℕ) → Bytes t → Bytes u → Accepted t n → Accepted u n → SheetBy t n s → SheetBy u n s′
       → (s ≡ s′ → (q : Question) → ask (meaningOf t n) q ≡ ask (meaningOf u n) q) × (Same (meaningOf t n) (meaningOf u n) → s ≡ s′)
   -- a table's sheet is accepted, whatever outcome the check has
-  pub table-accepted : (t s : List ℕ) (n : ℕ) → Bytes t → Accepted t n → SheetBy t n s → (c : Checked) → SheetChecked s c → c ≡ Taken
+  pub table-accepted : (t s : List ℕ) (n : ℕ) → Bytes t → Accepted t n → SheetBy t n s → (c : Judgement) → SheetChecked s c → c ≡ accepted
   -- it reads back to the table's meaning: whichever part is asked for, the reader's answer is the table's
   pub table-answers : (t s : List ℕ) (n : ℕ) → Bytes t → Accepted t n → SheetBy t n s → (o : Outcomes) → Parts s o
       → (q : Question) → Asked q → replyTo o q ≡ unlessBad (tableFault t n) (ask (meaningOf t n) q)

@@ -25,15 +25,15 @@ use Rattle.sheet_text.specs.Text.{sheetRoom, textRoom, textBy, tableText
 
 abbrev textSaid : Said → List ℕ → List ℕ
 textSaid (bytes n) room = printedSheet (take n room)
-textSaid (refused number) room = printedRefusal number
+textSaid (refused number at) room = printedRefusal number
 
 abbrev Fits : Said → Type 0
 Fits (bytes n) = n ≤ sheetRoom
-Fits (refused number) = Unit
+Fits (refused number at) = Unit
 
 module _ (sheet room : List ℕ) (h : length room ≡ sheetRoom) where
   abbrev outcome : Bool → Outcome
-  outcome b = cond b (record { said = bytes (length sheet); room = sheet ++ drop (length sheet) room }) (record { said = refused 16; room = room })
+  outcome b = cond b (record { said = bytes (length sheet); room = sheet ++ drop (length sheet) room }) (record { said = refused 16 0; room = room })
 
   outcome-text : (b : Bool) → textSaid (outcome b .said) (outcome b .room) ≡ cond b (printedSheet sheet) (printedRefusal 16)
   outcome-text true = ap printedSheet (take-append-seam sheet (drop (length sheet) room))
@@ -71,8 +71,8 @@ module _ (t : List ℕ) (n : ℕ) (room : List ℕ) (h : length room ≡ sheetRo
   pub wrote-fits : (k : ℕ) → answer ≡ Written k → k ≤ sheetRoom
   wrote-fits k q = subst (λ (a : WriteAnswer). Fits (saysWritten a)) q said-fits
 
-  pub refused-text : (r : Refusal) → answer ≡ Refused r → printedRefusal (numberOf r) ≡ tableText t n
-  refused-text r q = ap (λ (a : WriteAnswer). textSaid (saysWritten a) after) (sym q) ∙ said-text
+  pub refused-text : (r : Refusal) (at : ℕ) → answer ≡ Refused r at → printedRefusal (numberOf r) ≡ tableText t n
+  refused-text r at q = ap (λ (a : WriteAnswer). textSaid (saysWritten a) after) (sym q) ∙ said-text
 
 -- the room for the text of a part of the sheet's room
 pub text-room : (n : ℕ) (room : List ℕ) → n ≤ sheetRoom → length (printedSheet (take n room)) ≤ textRoom

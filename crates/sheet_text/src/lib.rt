@@ -21,7 +21,7 @@ fn print_table(table: &[u8], count: u32, room: &mut [u8], out: &mut [u8]) -> usi
             let end = length as usize;
             print_sheet(&room[..end], out)
         }
-        WriteAnswer::Refused(refusal) => print_refusal(refusal, out),
+        WriteAnswer::Refused { refusal, at: _ } => print_refusal(refusal, out),
     }
 }
 

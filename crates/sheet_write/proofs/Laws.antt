@@ -83,14 +83,14 @@ stored-fits sheet room after n e h s =
     let l : length sheet ≤ length room = omega arith in
     ap₂ (λ (k : ℕ) (r : List ℕ). record { said = bytes k; room = r }) e (s ∙ ap (λ (k : ℕ). sheet ++ drop k room) e) ∙ simp (le-leb (length sheet) (length room) l)
 
-pub stored-short : (sheet room : List ℕ) (n : ℕ) → n ≡ length sheet → length room < n → record { said = refused 16; room = room } ≡ stored sheet room
+pub stored-short : (sheet room : List ℕ) (n : ℕ) → n ≡ length sheet → length room < n → record { said = refused 16 0; room = room } ≡ stored sheet room
 unfolding stored
 stored-short sheet room n e h = let l : length room < length sheet = omega arith in simp (lt-leb (length sheet) (length room) l)
 
 -- ---- by the table's fault, as it was found
 
 module _ (t : List ℕ) (n : ℕ) where
-  pub length-bad : (r : Refusal) (at : ℕ) → tableFault t n ≡ Bad r at → refused (numberOf r) ≡ sheetLength t n
+  pub length-bad : (r : Refusal) (at : ℕ) → tableFault t n ≡ Bad r at → refused (numberOf r) at ≡ sheetLength t n
   unfolding sheetLength
   length-bad r at e = ap (λ (f : Fault). lengthBy f (sheetOf t n)) (sym e)
 
@@ -98,7 +98,7 @@ module _ (t : List ℕ) (n : ℕ) where
   unfolding sheetLength
   length-clear k e l = ap bytes l ∙ ap (λ (f : Fault). lengthBy f (sheetOf t n)) (sym e)
 
-  pub written-bad : (room : List ℕ) (r : Refusal) (at : ℕ) → tableFault t n ≡ Bad r at → record { said = refused (numberOf r); room = room } ≡ written t n room
+  pub written-bad : (room : List ℕ) (r : Refusal) (at : ℕ) → tableFault t n ≡ Bad r at → record { said = refused (numberOf r) at; room = room } ≡ written t n room
   unfolding written writtenBy
   written-bad room r at e = ap (λ (f : Fault). writtenBy f (sheetOf t n) room) (sym e)
 

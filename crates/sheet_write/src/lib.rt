@@ -15,13 +15,13 @@ use types::Direction;
 // How long the sheet is, in bytes.
 pub enum LengthAnswer {
     Length(u32),
-    Refused(Refusal),
+    Refused { refusal: Refusal, at: usize },
 }
 
 // How many bytes were written.
 pub enum WriteAnswer {
     Written(u32),
-    Refused(Refusal),
+    Refused { refusal: Refusal, at: usize },
 }
 
 // Stores the bytes that stand from `from` to `end` once more, after them; what would stand past the room is dropped.
@@ -97,7 +97,10 @@ fn write_by(table: &[u8], glyphs: usize, draft: &mut [u8], room: &mut [u8]) -> W
 {
     let size = put_sheet(table, glyphs, draft);
     if room.len() < size {
-        return WriteAnswer::Refused(Refusal::ShortRoom);
+        return WriteAnswer::Refused {
+            refusal: Refusal::ShortRoom,
+            at: 0,
+        };
     }
     put_again(table, glyphs, draft, size, room);
     WriteAnswer::Written(size as u32)
@@ -161,8 +164,8 @@ pub fn write_sheet(table: &[u8], count: u32, room: &mut [u8]) -> WriteAnswer
     ensures { λ r. ⌜ record { said = saysWritten r; room = now (room .exit) } ≡ written (now (table .entry)) count (now (room .entry)) ⌝ }
 {
     let fault = table::table_fault(table, count);
-    if let Fault::Bad { refusal, at: _ } = fault {
-        return WriteAnswer::Refused(refusal);
+    if let Fault::Bad { refusal, at } = fault {
+        return WriteAnswer::Refused { refusal, at };
     }
     write_accepted(table, count as usize, room)
 }
@@ -172,9 +175,9 @@ pub fn sheet_length(table: &[u8], count: u32) -> LengthAnswer
     ensures { λ r. ⌜ saysLength r ≡ sheetLength (now (table .entry)) count ⌝ }
 {
     let fault = table::table_fault(table, count);
-    if let Fault::Bad { refusal, at: _ } = fault {
-        return LengthAnswer::Refused(refusal);
+    if let Fault::Bad { refusal, at } = fault {
+        return LengthAnswer::Refused { refusal, at };
     }
-    let length = length_accepted(table, count as usize);
-    LengthAnswer::Length(length as u32)
+    let length = length_accepted(table, count as usize) as u32;
+    LengthAnswer::Length(length)
 }

@@ -3,7 +3,7 @@
 ghost use mathlib.Core.Path.{_≡_};
 ghost use Prim.Native.Nat.{ℕ, _+_, _≤_, _<_, _^_};
 ghost use lib.ListN.{length};
-ghost use Rattle.answers.specs.Says.{checkedBy};
+ghost use Rattle.answers.specs.Says.{judgedBy, saysChecked};
 ghost use Rattle.fields.specs.Faults.{_then_};
 ghost use Rattle.types.specs.declared.Direction.the-variants.{Horizontal, Vertical};
 ghost use Rattle.lookup_targets.specs.Values.{sourceFault, Near, Judged};
@@ -190,12 +190,12 @@ pub fn table_fault(table: &[u8], count: u32) -> Fault
     fault_by(table, count, &mut judged)
 }
 
-// Whether a table is accepted with a glyph count, or the refusal of its first fault.
+// Whether a table is accepted with a glyph count, or the refusal and the offset of its first fault.
 pub fn check_table(table: &[u8], count: u32) -> Checked
-    ensures { λ r. ⌜ r ≡ checkedBy (tableFault (now (table .entry)) count) ⌝ }
+    ensures { λ r. ⌜ saysChecked r ≡ judgedBy (tableFault (now (table .entry)) count) ⌝ }
 {
     match table_fault(table, count) {
         Fault::Clear => Checked::Accepted,
-        Fault::Bad { refusal, at: _ } => Checked::Refused(refusal),
+        Fault::Bad { refusal, at } => Checked::Refused { refusal, at },
     }
 }

@@ -53,4 +53,4 @@ listedIn (pair p) = []
 
 abbrev pub listed : Reply → List ℕ
 listed (given a) = listedIn a
-listed (refused r) = []
+listed (refused r at) = []

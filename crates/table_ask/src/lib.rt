@@ -190,7 +190,7 @@ pub fn ask_count(table: &[u8], count: u32) -> CountAnswer
 {
     match table::table_fault(table, count) {
         Fault::Clear => CountAnswer::Count(count),
-        Fault::Bad { refusal, at: _ } => CountAnswer::Refused(refusal),
+        Fault::Bad { refusal, at } => CountAnswer::Refused { refusal, at },
     }
 }
 
@@ -200,7 +200,7 @@ pub fn ask_sizes(table: &[u8], count: u32, direction: Direction) -> SizesAnswer
 {
     match table::table_fault(table, count) {
         Fault::Clear => sizes_of(table, count, direction),
-        Fault::Bad { refusal, at: _ } => SizesAnswer::Refused(refusal),
+        Fault::Bad { refusal, at } => SizesAnswer::Refused { refusal, at },
     }
 }
 
@@ -210,7 +210,7 @@ pub fn ask_class(table: &[u8], count: u32, direction: Direction, glyph: u16) -> 
 {
     match table::table_fault(table, count) {
         Fault::Clear => class_of(table, count, direction, glyph),
-        Fault::Bad { refusal, at: _ } => ClassAnswer::Refused(refusal),
+        Fault::Bad { refusal, at } => ClassAnswer::Refused { refusal, at },
     }
 }
 
@@ -220,7 +220,7 @@ pub fn ask_cell(table: &[u8], count: u32, direction: Direction, row: u16, class:
 {
     match table::table_fault(table, count) {
         Fault::Clear => cell_of(table, count, direction, row, class),
-        Fault::Bad { refusal, at: _ } => CellAnswer::Refused(refusal),
+        Fault::Bad { refusal, at } => CellAnswer::Refused { refusal, at },
     }
 }
 
@@ -236,7 +236,7 @@ pub fn ask_record(
 {
     match table::table_fault(table, count) {
         Fault::Clear => record_of(table, count, direction, glyph, class),
-        Fault::Bad { refusal, at: _ } => RecordAnswer::Refused(refusal),
+        Fault::Bad { refusal, at } => RecordAnswer::Refused { refusal, at },
     }
 }
 
@@ -252,7 +252,7 @@ pub fn ask_action(
 {
     match table::table_fault(table, count) {
         Fault::Clear => action_of(table, count, direction, glyph, number),
-        Fault::Bad { refusal, at: _ } => answers::no_action(Sought::Refused(refusal)),
+        Fault::Bad { refusal, at } => answers::no_action(Sought::Refused { refusal, at }),
     }
 }
 

@@ -9,6 +9,7 @@ use borrow.Author.Tests.{ltb-true, ltb-false}
 use Rattle.fields.specs.declared.Fault.{Fault}
 use Rattle.fields.specs.declared.Fault.the-variants.{Clear, Bad}
 use Rattle.fields.specs.declared.Refusal.{Refusal}
+use Rattle.fields.specs.Refusals.{numberOf}
 use Rattle.fields.specs.Field.{u16At, Bytes}
 use Rattle.types.specs.declared.Direction.{Direction}
 use Rattle.lookup.specs.declared.Found.{Found}
@@ -20,11 +21,12 @@ use Rattle.lookup_find.specs.declared.Head.{Head}
 use Rattle.lookup_find.proofs.Laws.{looks-bound, open-most, head-units}
 use Rattle.lookup_targets.specs.declared.Kind.{Kind}
 use Rattle.table.specs.Table.{tableFault}
+use Rattle.table_laws.specs.Offsets.{Offset, Placed}
+use Rattle.table_laws.proofs.Placed.{placed-bad, placed-table}
 use Rattle.table_ask.specs.declared.Lookup.{Lookup}
 use Rattle.table_ask.specs.declared.Lookup.the-variants.{Absent, There}
 use Rattle.table_ask.specs.Places.{lookupIn, Readable}
-use Rattle.table_find.specs.declared.UnitsAnswer.the-variants.{Units, Refused}
-use Rattle.table_find.specs.Values.{unitsSaid, unitsAsked, withLooks, foundIn, unlessRefused, valueAsked, unitsIn, leastFrom, leastOver, looksSaid}
+use Rattle.table_find.specs.Values.{barred, unitsOf, unitsBarred, unitsSaid, unitsAsked, withLooks, foundIn, unlessRefused, valueAsked, unitsIn, leastFrom, leastOver, looksSaid}
 
 -- ---- the least power of 2 above a number
 
@@ -93,12 +95,12 @@ units-few t (There at base head) b = omega (arith, open-most t (u16At t at) (at 
 -- the units, asked for
 module _ (t : List ℕ) (n : ℕ) (d : Direction) (kind : Kind) where
   pub units-clear : {l : Lookup} (k b : ℕ) → tableFault t n ≡ Clear → l ≡ lookupIn t d kind → k ≡ unitsIn t l → b ≡ leastOver k
-      → Units k b ≡ unitsAsked t n d kind
+      → unitsOf k b ≡ unitsAsked t n d kind
   unfolding unitsAsked
   units-clear k b e q w v =
-      ap (Units k) v ∙ ap (λ (j : ℕ). Units j (leastOver j)) (w ∙ ap (unitsIn t) q) ∙ sym (ap (λ (f : Fault). unitsSaid f (unitsIn t (lookupIn t d kind))) e)
+      ap (unitsOf k) v ∙ ap (λ (j : ℕ). unitsOf j (leastOver j)) (w ∙ ap (unitsIn t) q) ∙ sym (ap (λ (f : Fault). unitsSaid f (unitsIn t (lookupIn t d kind))) e)
 
-  pub units-bad : {r : Refusal} {at : ℕ} → tableFault t n ≡ Bad r at → Refused r ≡ unitsAsked t n d kind
+  pub units-bad : {r : Refusal} {at : ℕ} → tableFault t n ≡ Bad r at → unitsBarred (numberOf r) at ≡ unitsAsked t n d kind
   unfolding unitsAsked
   units-bad e = sym (ap (λ (f : Fault). unitsSaid f (unitsIn t (lookupIn t d kind))) e)
 
@@ -159,3 +161,30 @@ module _ (t : List ℕ) (n : ℕ) where
     pub asked-8 : {at base : ℕ} {head : Head} (g : ℕ) → lookupIn t d kind ≡ There at base head → u16At t at ≡ 8 → looksSaid (valueAsked t n d kind g) ≡ 0
     unfolding hasUnits
     asked-8 g e h = asked-unitless g e (simp h)
+
+-- ---- a refusal's offset is 0 unless its number is 4 to 8 (document 02, 4/14)
+
+module _ (t : List ℕ) (n : ℕ) (d : Direction) (kind : Kind) (number at : ℕ) where
+  with-no-bar : (k : ℕ) (f : Found) → withLooks k f ≡ barred number at → ⊥
+  with-no-bar k (found.Value v) e = let z : _≡_ {A = ℕ} 0 1 = cc in omega arith
+  with-no-bar k found.Nothing e = let z : _≡_ {A = ℕ} 0 1 = cc in omega arith
+
+  found-no-bar : (l : Lookup) (g : ℕ) → foundIn t n l g ≡ barred number at → ⊥
+  found-no-bar Absent g e = let z : _≡_ {A = ℕ} 0 1 = cc in omega arith
+  found-no-bar (There p base head) g e = with-no-bar (looksOf t p g) (valueOf t n p g) e
+
+  pub placed-value : (g : ℕ) → valueAsked t n d kind g ≡ barred number at → Offset number at
+  unfolding valueAsked
+  placed-value g e = go (tableFault t n) (placed-table t n) e
+    where
+      go : (f : Fault) → Placed f → unlessRefused f (foundIn t n (lookupIn t d kind) g) ≡ barred number at → Offset number at
+      go Clear p e = absurd (found-no-bar (lookupIn t d kind) g e)
+      go (Bad r q) p e = let k : numberOf r ≡ number = cc in let j : q ≡ at = cc in rw (k, j) at (placed-bad p refl)
+
+  pub placed-units : unitsAsked t n d kind ≡ unitsBarred number at → Offset number at
+  unfolding unitsAsked
+  placed-units e = go (tableFault t n) (placed-table t n) e
+    where
+      go : (f : Fault) → Placed f → unitsSaid f (unitsIn t (lookupIn t d kind)) ≡ unitsBarred number at → Offset number at
+      go Clear p e = let z : _≡_ {A = ℕ} 0 1 = cc in absurd (omega arith)
+      go (Bad r q) p e = let k : numberOf r ≡ number = cc in let j : q ≡ at = cc in rw (k, j) at (placed-bad p refl)

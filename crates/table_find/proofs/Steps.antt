@@ -5,6 +5,7 @@ use mathlib.Core.List.{List}
 use Rattle.fields.specs.declared.Fault.{Fault}
 use Rattle.fields.specs.declared.Fault.the-variants.{Clear, Bad}
 use Rattle.fields.specs.declared.Refusal.{Refusal}
+use Rattle.fields.specs.Refusals.{numberOf}
 use Rattle.types.specs.declared.Direction.{Direction}
 use Rattle.lookup.specs.declared.Found.{Found}
 use Rattle.lookup.specs.Find.{valueOf}
@@ -15,9 +16,7 @@ use Rattle.table.specs.Table.{tableFault}
 use Rattle.table_ask.specs.declared.Lookup.{Lookup}
 use Rattle.table_ask.specs.declared.Lookup.the-variants.{There}
 use Rattle.table_ask.specs.Places.{lookupIn}
-use Rattle.table_find.specs.declared.ValueAnswer.{ValueAnswer}
-use Rattle.table_find.specs.declared.ValueAnswer.the-variants.{Refused}
-use Rattle.table_find.specs.Values.{withLooks, foundIn, unlessRefused, valueAsked}
+use Rattle.table_find.specs.Values.{FindReply, barred, withLooks, foundIn, unlessRefused, valueAsked}
 
 -- a lookup that is there, as the code has taken it apart
 pub value-there : (t : List ℕ) (n : ℕ) {l : Lookup} {at base : ℕ} {head : Head} → l ≡ There at base head
@@ -27,11 +26,11 @@ value-there t n e g looks a b c = ap₂ withLooks c (sym a ∙ b) ∙ sym (ap (�
 -- ---- the value of a glyph, asked for
 
 module _ (t : List ℕ) (n : ℕ) (d : Direction) (kind : Kind) (g : ℕ) where
-  pub asked-clear : {l : Lookup} {r : ValueAnswer} → tableFault t n ≡ Clear → l ≡ lookupIn t d kind → r ≡ foundIn t n l g → r ≡ valueAsked t n d kind g
+  pub asked-clear : {l : Lookup} {r : FindReply} → tableFault t n ≡ Clear → l ≡ lookupIn t d kind → r ≡ foundIn t n l g → r ≡ valueAsked t n d kind g
   unfolding valueAsked
   asked-clear e q w =
       w ∙ ap (λ (k : Lookup). foundIn t n k g) q ∙ sym (ap (λ (f : Fault). unlessRefused f (foundIn t n (lookupIn t d kind) g)) e)
 
-  pub asked-bad : {r : Refusal} {at : ℕ} → tableFault t n ≡ Bad r at → Refused r ≡ valueAsked t n d kind g
+  pub asked-bad : {r : Refusal} {at : ℕ} → tableFault t n ≡ Bad r at → barred (numberOf r) at ≡ valueAsked t n d kind g
   unfolding valueAsked
   asked-bad e = sym (ap (λ (f : Fault). unlessRefused f (foundIn t n (lookupIn t d kind) g)) e)

@@ -4,7 +4,7 @@ ghost use mathlib.Core.Path.{_≡_};
 ghost use mathlib.Core.List.{List};
 ghost use Prim.Native.Nat.{ℕ, _<_, _^_};
 ghost use Rattle.table_ask.specs.Places.{Readable, Sound};
-ghost use Rattle.table_find.specs.Values.{foundIn, valueAsked, unitsIn, leastOver, unitsAsked};
+ghost use Rattle.table_find.specs.Values.{saysValue, saysUnits, foundIn, valueAsked, unitsIn, leastOver, unitsAsked};
 ghost use Rattle.table_find.specs.ValuesInC.{kindIn, valueIn, unitsOut};
 use fields::Fault;
 use fields::Refusal;
@@ -17,13 +17,13 @@ use types::Direction;
 pub enum ValueAnswer {
     Value { value: u16, looks: u32 },
     Nothing { looks: u32 },
-    Refused(Refusal),
+    Refused { refusal: Refusal, at: usize },
 }
 
 // How many units a lookup has for a find, and `most`: no find there takes more looks.
 pub enum UnitsAnswer {
     Units { units: u32, most: u32 },
-    Refused(Refusal),
+    Refused { refusal: Refusal, at: usize },
 }
 
 // Both as structs of C layout; crate `just_c` has the calls.
@@ -31,6 +31,7 @@ pub enum UnitsAnswer {
 #[repr(C)]
 pub struct JustValue {
     pub refusal: u32,
+    pub offset: u64,
     pub found: bool,
     pub value: u16,
     pub looks: u32,
@@ -39,6 +40,7 @@ pub struct JustValue {
 #[repr(C)]
 pub struct JustUnits {
     pub refusal: u32,
+    pub offset: u64,
     pub units: u32,
     pub most: u32,
 }
@@ -46,7 +48,7 @@ pub struct JustUnits {
 // What a find gives in a lookup.
 fn value_by(table: &[u8], count: u32, lookup: Lookup, glyph: u16) -> ValueAnswer
     requires { ⌜ Readable (now table) lookup × Sound (now table) count lookup ⌝ }
-    ensures { λ r. ⌜ r ≡ foundIn (now (table .entry)) count lookup glyph ⌝ }
+    ensures { λ r. ⌜ saysValue r ≡ foundIn (now (table .entry)) count lookup glyph ⌝ }
 {
     let Lookup::There { at, base: _, head } = lookup else {
         return ValueAnswer::Nothing { looks: 0 };
@@ -68,7 +70,7 @@ pub fn ask_value(
     kind: Kind,
     glyph: u16,
 ) -> ValueAnswer
-    ensures { λ r. ⌜ r ≡ valueAsked (now (table .entry)) count direction kind glyph ⌝ }
+    ensures { λ r. ⌜ saysValue r ≡ valueAsked (now (table .entry)) count direction kind glyph ⌝ }
 {
     match table::table_fault(table, count) {
         Fault::Clear => value_by(
@@ -77,7 +79,7 @@ pub fn ask_value(
             table_ask::lookup_in(table, direction, kind),
             glyph,
         ),
-        Fault::Bad { refusal, at: _ } => ValueAnswer::Refused(refusal),
+        Fault::Bad { refusal, at } => ValueAnswer::Refused { refusal, at },
     }
 }
 
@@ -111,15 +113,16 @@ fn least_over(n: usize) -> u32
 
 // How many units a direction's lookup of a kind has for a find, of an accepted table, and the bound on its looks.
 pub fn ask_units(table: &[u8], count: u32, direction: Direction, kind: Kind) -> UnitsAnswer
-    ensures { λ r. ⌜ r ≡ unitsAsked (now (table .entry)) count direction kind ⌝ }
+    ensures { λ r. ⌜ saysUnits r ≡ unitsAsked (now (table .entry)) count direction kind ⌝ }
 {
-    if let Fault::Bad { refusal, at: _ } = table::table_fault(table, count) {
-        return UnitsAnswer::Refused(refusal);
+    if let Fault::Bad { refusal, at } = table::table_fault(table, count) {
+        return UnitsAnswer::Refused { refusal, at };
     }
-    let units = units_in(table_ask::lookup_in(table, direction, kind));
+    let open = units_in(table_ask::lookup_in(table, direction, kind));
+    let units = open as u32;
     UnitsAnswer::Units {
-        units: units as u32,
-        most: least_over(units),
+        units,
+        most: least_over(open),
     }
 }
 
@@ -134,23 +137,26 @@ pub fn kind_in(number: u32) -> Kind
 }
 
 pub fn value_out(answer: ValueAnswer) -> JustValue
-    ensures { λ r. ⌜ r ≡ valueIn answer ⌝ }
+    ensures { λ r. ⌜ r ≡ valueIn (saysValue answer) ⌝ }
 {
     match answer {
         ValueAnswer::Value { value, looks } => JustValue {
             refusal: 0,
+            offset: 0,
             found: true,
             value,
             looks,
         },
         ValueAnswer::Nothing { looks } => JustValue {
             refusal: 0,
+            offset: 0,
             found: false,
             value: 0,
             looks,
         },
-        ValueAnswer::Refused(refusal) => JustValue {
+        ValueAnswer::Refused { refusal, at } => JustValue {
             refusal: fields::number_of(refusal),
+            offset: at as u64,
             found: false,
             value: 0,
             looks: 0,
@@ -159,16 +165,18 @@ pub fn value_out(answer: ValueAnswer) -> JustValue
 }
 
 pub fn units_out(answer: UnitsAnswer) -> JustUnits
-    ensures { λ r. ⌜ r ≡ unitsOut answer ⌝ }
+    ensures { λ r. ⌜ r ≡ unitsOut (saysUnits answer) ⌝ }
 {
     match answer {
         UnitsAnswer::Units { units, most } => JustUnits {
             refusal: 0,
+            offset: 0,
             units,
             most,
         },
-        UnitsAnswer::Refused(refusal) => JustUnits {
+        UnitsAnswer::Refused { refusal, at } => JustUnits {
             refusal: fields::number_of(refusal),
+            offset: at as u64,
             units: 0,
             most: 0,
         },

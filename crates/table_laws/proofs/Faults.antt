@@ -1,7 +1,7 @@
 -- The first fault of a table in plain words (document 01, "Numbers of refusal"): it is refused exactly when one of the listed faults holds, with the number of the
 -- first; the header's refusals in terms of length, glyph count, version and format; horizontal before vertical.
 use Prim.Native.Nat.{ℕ, zero, suc, _+_, _≤_, _<_}
-use mathlib.Core.Path.{_≡_, refl, sym, ap, _∙_, subst}
+use mathlib.Core.Path.{_≡_, refl, sym, ap, ap₂, _∙_, subst}
 use mathlib.Core.Bool.{Bool, true, false}
 use mathlib.Core.Logic.{_⊎_, inl, inr, _↔_}
 use mathlib.Core.List.{List, [], _∷_}
@@ -21,8 +21,8 @@ use Rattle.fields.specs.Walk.{walk, each}
 use Rattle.lookup.specs.Lookup.{lookupFault}
 use Rattle.lookup_targets.specs.declared.Kind.{Kind}
 use Rattle.lookup_targets.specs.Values.{glyphFault, valuesFault}
-use Rattle.answers.specs.declared.Checked.the-variants as checked
-use Rattle.answers.specs.Says.{checkedBy}
+use Rattle.fields.specs.Refusals.{numberOf, one-number}
+use Rattle.answers.specs.Says.{accepted, barred, judgedBy}
 use Rattle.table.specs.Table.{present, headerFault, offsetsFault, directionFault, tableFault, Accepted}
 use Rattle.table_laws.specs.Order.{First, Free, FirstGlyph, tableParts, directionParts, GoodHeader, BadHeader, length-fails, count-fails, version-fails}
 
@@ -164,24 +164,24 @@ values-first t n kind at base r p = (there, back)
 -- ---- what the call that checks a table answers
 
 -- that the table is accepted, exactly when it is
-pub check-accepts : (t : List ℕ) (n : ℕ) → (checkedBy (tableFault t n) ≡ checked.Accepted) ↔ Accepted t n
+pub check-accepts : (t : List ℕ) (n : ℕ) → (judgedBy (tableFault t n) ≡ accepted) ↔ Accepted t n
 unfolding Accepted
-check-accepts t n = (λ e. go (tableFault t n) e, λ e. ap checkedBy e)
+check-accepts t n = (λ e. go (tableFault t n) e, λ e. ap judgedBy e)
   where
-    go : (f : Fault) → checkedBy f ≡ checked.Accepted → f ≡ Clear
+    go : (f : Fault) → judgedBy f ≡ accepted → f ≡ Clear
     go Clear e = refl
     go (Bad r at) e = let z : _≡_ {A = ℕ} 0 1 = cc in absurd (omega arith)
 
--- the refusal r, exactly when r is that of the first part with a fault
-pub check-refuses : (t : List ℕ) (n : ℕ) (r : Refusal) → (checkedBy (tableFault t n) ≡ checked.Refused r) ↔ ((at : ℕ) × First (tableParts t n) r at)
-check-refuses t n r = (
-  λ e. let h = go (tableFault t n) e in (h .0, first-fault t n r (h .0) .0 (h .1)),
-  λ h. ap checkedBy (first-fault t n r (h .0) .1 (h .1)),
+-- a refusal's number and an offset, exactly when they are those of the first part with a fault
+pub check-refuses : (t : List ℕ) (n : ℕ) (r : Refusal) (at : ℕ) → (judgedBy (tableFault t n) ≡ barred (numberOf r) at) ↔ First (tableParts t n) r at
+check-refuses t n r at = (
+  λ e. first-fault t n r at .0 (go (tableFault t n) e),
+  λ h. ap judgedBy (first-fault t n r at .1 h),
 )
   where
-    go : (f : Fault) → checkedBy f ≡ checked.Refused r → (at : ℕ) × (f ≡ Bad r at)
+    go : (f : Fault) → judgedBy f ≡ barred (numberOf r) at → f ≡ Bad r at
     go Clear e = let z : _≡_ {A = ℕ} 0 1 = cc in absurd (omega arith)
-    go (Bad s at) e = (at, cc)
+    go (Bad s p) e = let z : p ≡ at = cc in ap₂ Bad (one-number s r (cc)) z
 
 -- ---- the header
 

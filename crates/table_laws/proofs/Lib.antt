@@ -2,6 +2,8 @@ pub mod Few
 pub mod Machines
 pub mod Faults
 pub mod Only
+pub mod Placed
+pub mod Offsets
 pub mod Valid
 pub mod Absent
 pub mod Past

@@ -1,3 +1,4 @@
 pub mod Order
+pub mod Offsets
 pub mod Absent
 pub mod Samples

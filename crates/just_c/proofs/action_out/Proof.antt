@@ -27,7 +27,7 @@ returns-2 : tie.Need-returns-2
 returns-2 c = ap (λ (s : Sought). actionOut s (c .before .before .before .args .answer .action)) (sym (c .enum-told2 .given .1))
 
 returns-3 : tie.Need-returns-3
-returns-3 c = ap (λ (n : ℕ). record { refusal = n; found = false; action = c .before .before .before .before .before .args .answer .action }) (c .number-of .ensures) ∙ ap (λ (s : Sought). actionOut s (c .before .before .before .before .before .args .answer .action)) (sym (c .before .before .sought .given .1))
+returns-3 c = ap (λ (n : ℕ). record { refusal = n; offset = c .before .before .sought .given .0 .1 .0; found = false; action = c .before .before .before .before .before .args .answer .action }) (c .number-of .ensures) ∙ ap (λ (s : Sought). actionOut s (c .before .before .before .before .before .args .answer .action)) (sym (c .before .before .sought .given .1))
 
 pub action-out-spec : {M : Type 1} → statement M
 action-out-spec =

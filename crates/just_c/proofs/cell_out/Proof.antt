@@ -27,7 +27,7 @@ returns-2 : tie.Need-returns-2
 returns-2 c = ap (λ (a : CellAnswer). cellIn (saysCell a)) (sym (c .enum-told .given .1))
 
 returns-3 : tie.Need-returns-3
-returns-3 c = ap (λ (n : ℕ). cellIn (refused n)) (c .number-of .ensures) ∙ ap (λ (a : CellAnswer). cellIn (saysCell a)) (sym (c .before .before .answer2 .given .1))
+returns-3 c = ap (λ (n : ℕ). cellIn (refused n (c .before .before .answer2 .given .0 .1 .0))) (c .number-of .ensures) ∙ ap (λ (a : CellAnswer). cellIn (saysCell a)) (sym (c .before .before .answer2 .given .1))
 
 pub cell-out-spec : {M : Type 1} → statement M
 cell-out-spec =

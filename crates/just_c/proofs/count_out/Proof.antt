@@ -21,7 +21,7 @@ returns : tie.Need-returns
 returns c = ap (λ (a : CountAnswer). countIn (saysCount a)) (sym (c .before .answer .given .1))
 
 returns-2 : tie.Need-returns-2
-returns-2 c = ap (λ (n : ℕ). countIn (refused n)) (c .number-of .ensures) ∙ ap (λ (a : CountAnswer). countIn (saysCount a)) (sym (c .before .before .answer2 .given .1))
+returns-2 c = ap (λ (n : ℕ). countIn (refused n (c .before .before .answer2 .given .0 .1 .0))) (c .number-of .ensures) ∙ ap (λ (a : CountAnswer). countIn (saysCount a)) (sym (c .before .before .answer2 .given .1))
 
 pub count-out-spec : {M : Type 1} → statement M
 count-out-spec =

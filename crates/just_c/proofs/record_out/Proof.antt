@@ -32,10 +32,10 @@ returns : tie.Need-returns
 returns c = ap (λ (a : RecordAnswer). recordIn (saysRecord a)) (sym (c .before .answer .given .1))
 
 returns-2 : tie.Need-returns-2
-returns-2 c = ap (λ (p : Pair). record { refusal = 0; found = false; pair = p }) (c .no-pair .ensures) ∙ ap (λ (a : RecordAnswer). recordIn (saysRecord a)) (sym (c .before .enum-told .given .1))
+returns-2 c = ap (λ (p : Pair). record { refusal = 0; offset = 0; found = false; pair = p }) (c .no-pair .ensures) ∙ ap (λ (a : RecordAnswer). recordIn (saysRecord a)) (sym (c .before .enum-told .given .1))
 
 returns-3 : tie.Need-returns-3
-returns-3 c = ap₂ (λ (n : ℕ) (p : Pair). record { refusal = n; found = false; pair = p }) (c .before .number-of .ensures) (c .no-pair2 .ensures) ∙ ap (λ (a : RecordAnswer). recordIn (saysRecord a)) (sym (c .before .before .before .answer2 .given .1))
+returns-3 c = ap₂ (λ (n : ℕ) (p : Pair). record { refusal = n; offset = c .before .before .before .answer2 .given .0 .1 .0; found = false; pair = p }) (c .before .number-of .ensures) (c .no-pair2 .ensures) ∙ ap (λ (a : RecordAnswer). recordIn (saysRecord a)) (sym (c .before .before .before .answer2 .given .1))
 
 pub record-out-spec : {M : Type 1} → statement M
 record-out-spec =

@@ -47,7 +47,7 @@ use Rattle.line_rule.specs.declared.LineShape.{LineShape}
 use Rattle.line_rule.proofs.LineShape as L
 use Rattle.line_rule.proofs.LineShape.Laws as L′
 use Rattle.line_call.specs.declared.LineAnswer.{LineAnswer}
-use Rattle.line_call.specs.Justified.{justified}
+use Rattle.line_call.specs.Justified.{saysLine, justified}
 use Rattle.line_call.specs.Settle.{lineBy, lentBy}
 use Rattle.line_call.proofs.LineAnswer as N
 use Rattle.line_call.proofs.LineAnswer.Laws as N′
@@ -92,8 +92,8 @@ module _ {M : Type 1} (𝓤 : URA M) (H : Heap 𝓤) (A : Atoms 𝓤) (mem : Mem
   shape-of : (nd : ℕ) (st en : Bool) (sz : ℕ) (tg : ℤ) (r : LineShape) → ent 𝓤 (ensured 𝓤 H A shape.ended (shape.clauses 𝓤 H A mem run) tt (nd, (st, (en, (sz, (tg, tt))))) tt r) (fact 𝓤 (r ≡ shapeIn nd st en sz tg))
   shape-of nd st en sz tg r = exE 𝓤 _ (λ ws. snd∗ 𝓤 (sem 𝓤 H A (lasts shape.ended tt (nd, (st, (en, (sz, (tg, tt))))) ws)) (fact 𝓤 (r ≡ shapeIn nd st en sz tg)))
 
-  out-of : (r₀ : LineAnswer) (r : JustLine) → ent 𝓤 (ensured 𝓤 H A out.ended (out.clauses 𝓤 H A mem run) tt (r₀, tt) tt r) (fact 𝓤 (r ≡ lineIn r₀))
-  out-of r₀ r = exE 𝓤 _ (λ ws. snd∗ 𝓤 (sem 𝓤 H A (lasts out.ended tt (r₀, tt) ws)) (fact 𝓤 (r ≡ lineIn r₀)))
+  out-of : (r₀ : LineAnswer) (r : JustLine) → ent 𝓤 (ensured 𝓤 H A out.ended (out.clauses 𝓤 H A mem run) tt (r₀, tt) tt r) (fact 𝓤 (r ≡ lineIn (saysLine r₀)))
+  out-of r₀ r = exE 𝓤 _ (λ ws. snd∗ 𝓤 (sem 𝓤 H A (lasts out.ended tt (r₀, tt) ws)) (fact 𝓤 (r ≡ lineIn (saysLine r₀))))
 
 -- κ is the lifetime of all but the list, κ′ the list's
 module _ {M : Type 1} (𝓤 : URA M) (H : Heap 𝓤) (A : Atoms 𝓤) (W : Given 𝓤 H A) (mem : Memory → SProp 𝓤) (run : Routine → Fun 𝓤) (κ κ′ : Lft) (q q′ : Share) (p : RefT (List ℕ)) (cn nd : ℕ) (st en : Bool) (sz : ℕ) (g : RefT (List ℕ)) (a : RefT (List ℤ)) (tg : ℤ) (c : RefT (List ℕ)) (d f : RefT (List ℤ)) (x : RefT (List Verdict)) where
@@ -137,7 +137,7 @@ module _ {M : Type 1} (𝓤 : URA M) (H : Heap 𝓤) (A : Atoms 𝓤) (W : Given
   Slices = fsep (ShrSlice (named 0) κ u8 .own p (sp ∷ [])) (fsep (ShrSlice (named 0) κ u16 .own g (sg ∷ [])) (fsep (ShrSlice (named 0) κ i32 .own a (sa ∷ [])) (fsep (MutSlice (named 0) κ u8 .own c (sc ∷ [])) (fsep (MutSlice (named 0) κ i32 .own d (sd ∷ [])) (fsep (MutSlice (named 0) κ i32 .own f (sf ∷ [])) (MutSlice (named 1) κ′ T.the-row .own x (s ∷ [])))))))
 
   module _ (p-room : Room u8 (length (p .now))) (cn-fits : cn < 2 ^ 32) (nd-fits : nd < 2 ^ 32) (sz-fits : sz < 2 ^ 32) (g-room : Room u16 (length (g .now))) (a-room : Room i32 (length (a .now))) (tg-fits : mag tg < 2 ^ hbits w32) (c-room : Room u8 (length (c .now))) (d-room : Room i32 (length (d .now))) (f-room : Room i32 (length (f .now))) (room : Room T.the-row (length (x .now))) where
-    exits : (sh : LineShape) (r₀ : LineAnswer) (r : JustLine) (u : Val) (cs : List ℕ) (bs fs : List ℤ) (zs : List Verdict) → sh ≡ shapeIn nd st en sz tg → Said sh r₀ cs bs fs zs → r ≡ lineIn r₀
+    exits : (sh : LineShape) (r₀ : LineAnswer) (r : JustLine) (u : Val) (cs : List ℕ) (bs fs : List ℤ) (zs : List Verdict) → sh ≡ shapeIn nd st en sz tg → Said sh r₀ cs bs fs zs → r ≡ lineIn (saysLine r₀)
         → length cs ≡ length (c .now) → length bs ≡ length (d .now) → length fs ≡ length (f .now) → length zs ≡ length (x .now)
         → ent 𝓤 (⋆ 𝓤 H A (‵ (J.the-row .own r (u ∷ [])) ∷ (‵ (flft κ q) ⊛ ‵ (flft κ′ q′) ⊛ ‵ ftrue) ∷ ‵ (finally T.the-row (x .name) zs) ∷ ‵ (finally i32 (f .name) fs) ∷ ‵ (finally i32 (d .name) bs) ∷ ‵ (finally u8 (c .name) cs) ∷ ‵ (ShrSlice (named 0) κ i32 .own a (sa ∷ [])) ∷ ‵ (ShrSlice (named 0) κ u16 .own g (sg ∷ [])) ∷ ‵ (ShrSlice (named 0) κ u8 .own p (sp ∷ [])) ∷ [])) (Post u)
     exits sh r₀ r u cs bs fs zs es e eo lc ld lf lz =
@@ -204,7 +204,7 @@ module _ {M : Type 1} (𝓤 : URA M) (H : Heap 𝓤) (A : Atoms 𝓤) (W : Given
           use1 W (raw (Out 𝓤 H A mem run .pre (to-out r₀ w))) (goes-out r₀ w) $
           calls-at ! fm (Out 𝓤 H A mem run) known-out (to-out r₀ w) (and-then ! (load ! (from ! (stop !)) (look ! 25 refl)) (no-more !)) (λ u.
           use1 W (later (some (λ (r : JustLine). (‵ ftrue ⊛ ‵ (J.the-row .own r (u ∷ []))) ⊛ raw (ensured 𝓤 H A out.ended (out.clauses 𝓤 H A mem run) tt (r₀, tt) tt r)))) (id⊢ 𝓤 _) $ await ! tt $ pick ! (λ r.
-          split ! $ move ! (1 ∷ []) $ use1 W (raw (fact 𝓤 (r ≡ lineIn r₀))) (out-of 𝓤 H A mem run r₀ r) $ heard ! (r ≡ lineIn r₀) (λ eo. split ! $ drop ! $
+          split ! $ move ! (1 ∷ []) $ use1 W (raw (fact 𝓤 (r ≡ lineIn (saysLine r₀)))) (out-of 𝓤 H A mem run r₀ r) $ heard ! (r ≡ lineIn (saysLine r₀)) (λ eo. split ! $ drop ! $
           peeks ! J.the-row (Is J.the-row) (shows 𝓤 H A J.the-row) r (u ∷ []) (λ is′. land ! (from ! (stop !)) (init ! 55 refl (LL.lawful J.the-type J′.the-laws 𝓤 H A W .typed r _ is′ .0)) $
           returns ! (look ! 55 refl) $ forget ! 9 refl $ forget ! 11 refl $ forget ! 13 refl $ forget ! 15 refl $ forget ! 17 refl $ forget ! 19 refl $ forget ! 21 refl $ forget ! 23 refl $ forget ! 25 refl $ forget ! 27 refl $ forget ! 29 refl $ forget ! 31 refl $ forget ! 33 refl $ forget ! 35 refl $ forget ! 37 refl $ forget ! 39 refl $ forget ! 41 refl $ forget ! 43 refl $ forget ! 45 refl $ forget ! 47 refl $ forget ! 49 refl $ forget ! 51 refl $ forget ! 53 refl $ forget ! 55 refl $
           move ! (55 ∷ 56 ∷ []) $ free1 ! $ move ! (53 ∷ 54 ∷ []) $ free1 ! $ move ! (51 ∷ 52 ∷ []) $ free1 ! $ move ! (49 ∷ 50 ∷ []) $ free1 ! $ move ! (47 ∷ 48 ∷ []) $ free1 ! $ move ! (45 ∷ 46 ∷ []) $ free1 ! $ move ! (43 ∷ 44 ∷ []) $ free1 ! $ move ! (41 ∷ 42 ∷ []) $ free1 ! $ move ! (39 ∷ 40 ∷ []) $ free1 ! $ move ! (37 ∷ 38 ∷ []) $ free1 ! $ move ! (35 ∷ 36 ∷ []) $ free1 ! $ move ! (33 ∷ 34 ∷ []) $ free1 ! $ move ! (31 ∷ 32 ∷ []) $ free1 ! $ move ! (29 ∷ 30 ∷ []) $ free1 ! $ move ! (27 ∷ 28 ∷ []) $ free1 ! $ move ! (25 ∷ 26 ∷ []) $ free1 ! $ move ! (23 ∷ 24 ∷ []) $ free1 ! $ move ! (21 ∷ 22 ∷ []) $ free1 ! $ move ! (19 ∷ 20 ∷ []) $ free1 ! $ move ! (17 ∷ 18 ∷ []) $ free1 ! $ move ! (15 ∷ 16 ∷ []) $ free1 ! $ move ! (13 ∷ 14 ∷ []) $ free1 ! $ move ! (11 ∷ 12 ∷ []) $ free1 ! $ move ! (9 ∷ 10 ∷ []) $ free1 ! $ free0 ! $

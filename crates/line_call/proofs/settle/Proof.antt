@@ -71,7 +71,7 @@ same-length-3 c = search needs
 returns-2 : tie.Need-returns-2
 returns-2 c =
     let a = c .before .before .before .before .before .before .before .before .before .before .before .before .before .before .before .before .before .before .before .before .args in
-    whole-clear (a .table .now) (a .count) (lineBy (a .shape) (a .glyphs .now) (a .advances .now)) (a .classes .now) (a .before .now) (a .after .now) (c .before .before .before .before .before .before .before .before .before .before .before .before .before .before .before .before .input-fault .ensures) (c .before .before .before .before .before .before .before .before .before .before .before .before .before .before .enum-told .given .1) (c .before .before .before .before .before .before .before .settle-in .ensures)
+    whole-clear (a .table .now) (a .count) (lineBy (a .shape) (a .glyphs .now) (a .advances .now)) (a .classes .now) (a .before .now) (a .after .now) (c .before .before .before .before .before .before .before .settle-in .result) (c .before .before .before .before .before .before .before .before .before .before .before .before .before .before .before .before .input-fault .ensures) (c .before .before .before .before .before .before .before .before .before .before .before .before .before .before .enum-told .given .1) (c .before .before .before .before .before .before .before .settle-in .ensures)
 
 pub settle-spec : {M : Type 1} → statement M
 settle-spec =

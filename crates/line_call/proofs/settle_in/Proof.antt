@@ -38,7 +38,7 @@ returns : tie.Need-returns
 returns c =
     let a = c .before .before .before .before .before .before .before .before .before .before .before .before .before .before .before .args in
     let s = sideOf (a .shape .direction) (meaningOf (a .table .now) (a .count)) in
-    settled-bad s (a .count) (lineBy (a .shape) (a .glyphs .now) (a .advances .now)) (a .room) (a .classes .now) (a .before .now) (a .after .now) (c .before .worked .given .0 .0) (c .before .worked .given .1) (c .before .before .before .before .before .before .before .work-out .ensures .says)
+    settled-bad s (a .count) (lineBy (a .shape) (a .glyphs .now) (a .advances .now)) (a .room) (a .classes .now) (a .before .now) (a .after .now) (c .before .worked .given .0 .0) (c .before .worked .given .0 .1 .0) (c .before .worked .given .1) (c .before .before .before .before .before .before .before .work-out .ensures .says)
 
 same-length-4 : tie.Need-same-length-4
 same-length-4 c = search needs

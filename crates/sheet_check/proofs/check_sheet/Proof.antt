@@ -13,7 +13,7 @@ returns : tie.Need-returns
 returns c = says-yes (IsSheet (c .before .before .before .args .bytes .now)) (c .if1 .taken) (c .before .is-sheet .ensures)
 
 returns-2 : tie.Need-returns-2
-returns-2 c = (refl, says-no (IsSheet (c .before .before .before .args .bytes .now)) (c .if1 .left) (c .before .is-sheet .ensures))
+returns-2 c = (refl, refl, says-no (IsSheet (c .before .before .before .args .bytes .now)) (c .if1 .left) (c .before .is-sheet .ensures))
 
 pub check-sheet-spec : {M : Type 1} → statement M
 check-sheet-spec = tie.close (tie.spec is-sheet-requires returns returns-2)

@@ -72,7 +72,7 @@ returns-2 c =
     let w = c .before .before .before .before .before .before .before .before .before .write-sheet in
     let p = c .before .before .print-refusal in
     subst (λ (text : List ℕ). Printed text (a .out .now) (p .last .1 .0) (p .result))
-    (refused-text (a .table .now) (a .count) (a .room .now) (c .before .before .before .before .before .before .before .before .before .before .before .before .before .before .pre .0) (w .result) (w .last .1 .1 .0) (w .ensures) _ (c .before .before .before .before .before .refusal .given .1))
+    (refused-text (a .table .now) (a .count) (a .room .now) (c .before .before .before .before .before .before .before .before .before .before .before .before .before .before .pre .0) (w .result) (w .last .1 .1 .0) (w .ensures) _ _ (c .before .before .before .before .before .refusal .given .1))
     (p .ensures)
 
 pub print-table-spec : {M : Type 1} → statement M

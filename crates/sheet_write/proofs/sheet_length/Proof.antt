@@ -22,8 +22,8 @@ enum-told c = search needs
 length-accepted-requires : tie.Need-length-accepted-requires
 length-accepted-requires c κs = sym (c .before .before .table-fault .ensures) ∙ c .enum-told .given .1
 
-cast-t7 : tie.Need-cast-t7
-cast-t7 c = search needs
+cast-length : tie.Need-cast-length
+cast-length c = search needs
 
 returns-2 : tie.Need-returns-2
 returns-2 c =
@@ -39,5 +39,5 @@ sheet-length-spec =
     returns
     enum-told
     length-accepted-requires
-    cast-t7
+    cast-length
     returns-2)

@@ -1,5 +1,5 @@
 -- `table::check_table` meets its contract.
-use Rattle.answers.specs.Says.{checkedBy}
+use Rattle.answers.specs.Says.{judgedBy}
 use mathlib.Core.Path.{_≡_, refl, sym, ap, _∙_}
 use borrow.Author.Needs.{needs}
 use Rattle.table.proofs.check_table.Statement.{statement}
@@ -15,10 +15,10 @@ enum-known-refusal : tie.Need-enum-known-refusal
 enum-known-refusal c = search needs
 
 returns : tie.Need-returns
-returns c = sym (ap checkedBy (sym (c .before .before .table-fault .ensures) ∙ c .enum-told .given .1))
+returns c = sym (ap judgedBy (sym (c .before .before .table-fault .ensures) ∙ c .enum-told .given .1))
 
 returns-2 : tie.Need-returns-2
-returns-2 c = sym (ap checkedBy (sym (c .before .before .before .table-fault .ensures) ∙ c .before .refusal .given .1))
+returns-2 c = sym (ap judgedBy (sym (c .before .before .before .table-fault .ensures) ∙ c .before .refusal .given .1))
 
 pub check-table-spec : {M : Type 1} → statement M
 check-table-spec =

@@ -24,8 +24,8 @@ lookup-in-requires c κs = search needs
 units-in-requires : tie.Need-units-in-requires
 units-in-requires c κs = search needs
 
-cast-t9 : tie.Need-cast-t9
-cast-t9 c =
+cast-units : tie.Need-cast-units
+cast-units c =
     let a = c .before .before .before .before .before .before .args in
     omega (arith, c .units-in .ensures (a .table .now) (c .before .lookup-in .ensures .1), units-few (a .table .now) (c .before .lookup-in .result) (λ i. c .before .before .before .before .before .shared-slice-known .given i .fits))
 
@@ -49,6 +49,6 @@ ask-units-spec =
     enum-told
     lookup-in-requires
     units-in-requires
-    cast-t9
+    cast-units
     least-over-requires
     returns-2)

@@ -1,4 +1,6 @@
 -- `table_find::value_out` meets its contract.
+use Rattle.table_find.specs.Values.{saysValue}
+use Rattle.table_find.specs.declared.ValueAnswer.{ValueAnswer}
 use Rattle.table_find.specs.ValuesInC.{valueIn}
 use Rattle.table_find.specs.declared.JustValue.{JustValue}
 use mathlib.Core.Path.{sym, ap, _∙_}
@@ -20,17 +22,17 @@ enum-known-answer-3 c = search needs
 number-of-requires : tie.Need-number-of-requires
 number-of-requires c κs = search needs
 
-abbrev refused : ℕ → JustValue
-refused n = record { refusal = n; found = false; value = 0; looks = 0 }
+abbrev refused : ℕ → ℕ → JustValue
+refused at n = record { refusal = n; offset = at; found = false; value = 0; looks = 0 }
 
 returns : tie.Need-returns
-returns c = ap valueIn (sym (c .before .answer .given .1))
+returns c = ap (λ (x : ValueAnswer). valueIn (saysValue x)) (sym (c .before .answer .given .1))
 
 returns-2 : tie.Need-returns-2
-returns-2 c = ap valueIn (sym (c .before .answer2 .given .1))
+returns-2 c = ap (λ (x : ValueAnswer). valueIn (saysValue x)) (sym (c .before .answer2 .given .1))
 
 returns-3 : tie.Need-returns-3
-returns-3 c = ap refused (c .number-of .ensures) ∙ ap valueIn (sym (c .before .before .answer3 .given .1))
+returns-3 c = ap (refused _) (c .number-of .ensures) ∙ ap (λ (x : ValueAnswer). valueIn (saysValue x)) (sym (c .before .before .answer3 .given .1))
 
 pub value-out-spec : {M : Type 1} → statement M
 value-out-spec =
