@@ -12,11 +12,19 @@
 #define GLYPHS 280
 #define PLACES 40
 
-_Static_assert(sizeof(struct just_verdict) == 6, "as the library has it");
-_Static_assert(sizeof(struct just_record_answer) == 32, "as the library has it");
-_Static_assert(sizeof(struct just_action_answer) == 92, "as the library has it");
-_Static_assert(sizeof(struct just_value_answer) == 12, "as the library has it");
-_Static_assert(sizeof(struct just_units_answer) == 12, "as the library has it");
+#define HAS_SIZE(name, size) _Static_assert(sizeof(struct name) == size, "as the library has it")
+HAS_SIZE(just_verdict, 6);
+HAS_SIZE(just_checked, 16);
+HAS_SIZE(just_count_answer, 24);
+HAS_SIZE(just_sizes_answer, 24);
+HAS_SIZE(just_class_answer, 24);
+HAS_SIZE(just_cell_answer, 24);
+HAS_SIZE(just_record_answer, 48);
+HAS_SIZE(just_action_answer, 104);
+HAS_SIZE(just_value_answer, 24);
+HAS_SIZE(just_units_answer, 24);
+HAS_SIZE(just_length_answer, 24);
+HAS_SIZE(just_line_answer, 32);
 
 /* Bytes that end where their last page ends; the page after it may not be touched. */
 static void *lend(size_t length) {

@@ -49,12 +49,14 @@ static void print_line(struct just_line_answer answer) {
 }
 
 int main(void) {
-    printf("refusal %u, cut short %u\n", just_check_table(table, sizeof table, 2), just_check_table(table, 9, 2));
+    struct just_checked cut = just_check_table(table, 40, 2);
+    printf("refusal %u, cut short %u at byte %llu\n", just_check_table(table, sizeof table, 2).refusal, cut.refusal,
+           (unsigned long long)cut.offset);
     struct just_length_answer length = just_table_sheet_length(table, sizeof table, 2);
     uint8_t sheet[256];
     struct just_length_answer written = just_table_write_sheet(table, sizeof table, 2, sheet, sizeof sheet);
     printf("a sheet of %u bytes, %u written, refusal %u\n", length.length, written.length,
-           just_check_sheet(sheet, written.length));
+           just_check_sheet(sheet, written.length).refusal);
     print_line(justify(GLYPHS));
     printf("with room for one verdict: refusal %u\n", justify(1).refusal);
     return 0;

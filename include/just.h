@@ -6,10 +6,13 @@
  * aligned for its type. A buffer that a call writes may not overlap any other buffer of that call; buffers that are
  * only read may.
  *
- * What is answered. A refusal is the number of a just_refusal, 0 where there is none. What stands beside a refusal,
- * or beside `found` false, is zeros, but for the looks of a just_value_answer. A refusal leaves every lent buffer as
- * it was. What is stored in a lent buffer has no padding, so that every byte of it is told; padding between the members
- * of a struct that a call answers may hold anything.
+ * What is answered. Every answer that can be a refusal begins with `refusal`, the number of a just_refusal, 0 where there
+ * is none, and `offset`. For refusals 4 to 8 the offset is that of the first byte of the field that was being read or
+ * judged, from the table's start; for 4 it may lie past the table's end, and past 32 bits. Beside every other refusal,
+ * and where there is none, it is 0. What else stands beside a refusal is zeros, and so is what stands beside `found`
+ * false, but for the looks of a just_value_answer. A refusal leaves every lent buffer as it was. What is stored in a lent
+ * buffer has no padding, so that every byte of it is told; padding between the members of a struct that a call answers may
+ * hold anything.
  *
  * Any bytes and any numbers may be handed in. A bool is false or true. A direction is 0 for horizontal and any other
  * number for vertical, a lookup 0 for the width lookup and any other number for the action lookup. `glyph_count`
@@ -27,7 +30,7 @@
 #include <stdint.h>
 
 /* Rises when a call or a struct changes, or a refusal is added. */
-#define JUST_VERSION 2
+#define JUST_VERSION 3
 
 #ifdef __cplusplus
 extern "C" {
@@ -93,13 +96,20 @@ struct just_action {
     uint8_t bytes[76];
 };
 
+struct just_checked {
+    uint32_t refusal;
+    uint64_t offset;
+};
+
 struct just_count_answer {
     uint32_t refusal;
+    uint64_t offset;
     uint32_t count;
 };
 
 struct just_sizes_answer {
     uint32_t refusal;
+    uint64_t offset;
     bool found;
     uint16_t rows;
     uint16_t classes;
@@ -107,24 +117,28 @@ struct just_sizes_answer {
 
 struct just_class_answer {
     uint32_t refusal;
+    uint64_t offset;
     bool found;
     uint8_t just_class;
 };
 
 struct just_cell_answer {
     uint32_t refusal;
+    uint64_t offset;
     bool found;
     struct just_entry entry;
 };
 
 struct just_record_answer {
     uint32_t refusal;
+    uint64_t offset;
     bool found;
     struct just_pair pair;
 };
 
 struct just_action_answer {
     uint32_t refusal;
+    uint64_t offset;
     bool found;
     struct just_action action;
 };
@@ -133,6 +147,7 @@ struct just_action_answer {
  * `found` is false, too. */
 struct just_value_answer {
     uint32_t refusal;
+    uint64_t offset;
     bool found;
     uint16_t value;
     uint32_t looks;
@@ -142,6 +157,7 @@ struct just_value_answer {
  * of them, the least b for which 2 to the power b exceeds the units. */
 struct just_units_answer {
     uint32_t refusal;
+    uint64_t offset;
     uint32_t units;
     uint32_t most;
 };
@@ -149,6 +165,7 @@ struct just_units_answer {
 /* How many bytes a sheet has. */
 struct just_length_answer {
     uint32_t refusal;
+    uint64_t offset;
     uint32_t length;
 };
 
@@ -164,6 +181,7 @@ struct just_verdict {
  * and how many verdicts were stored. */
 struct just_line_answer {
     uint32_t refusal;
+    uint64_t offset;
     int32_t remainder;
     uint32_t entries;
     uint32_t verdicts;
@@ -175,8 +193,8 @@ struct just_stretch {
     size_t length;
 };
 
-/* Whether a table is accepted: 0, or the number of its first fault. */
-uint32_t just_check_table(const uint8_t *table, size_t length, uint32_t glyph_count);
+/* Whether a table is accepted: refusal 0, or the number and the offset of its first fault. */
+struct just_checked just_check_table(const uint8_t *table, size_t length, uint32_t glyph_count);
 
 /* The parts of a table's meaning, one at a time; the table is judged first each time. */
 struct just_count_answer just_table_count(const uint8_t *table, size_t length, uint32_t glyph_count);
@@ -231,8 +249,8 @@ struct just_line_answer just_justify(const uint8_t *table, size_t length, uint32
                                      size_t before_length, int32_t *after, size_t after_length,
                                      struct just_verdict *verdicts, size_t verdicts_length);
 
-/* Whether bytes are a sheet: 0, or 17. */
-uint32_t just_check_sheet(const uint8_t *sheet, size_t length);
+/* Whether bytes are a sheet: refusal 0, or 17. */
+struct just_checked just_check_sheet(const uint8_t *sheet, size_t length);
 
 /* The parts of a sheet's meaning, one at a time; the bytes are judged first each time. */
 struct just_count_answer just_sheet_count(const uint8_t *sheet, size_t length);

@@ -1,27 +1,30 @@
 //! AAT 'just' tables, lines and sheets: a safe layer over the proved library.
 //!
 //! All work is done by the proved code. This crate passes slices on, through `just-raw`, and turns numbers into types; it
-//! judges nothing itself.
+//! judges nothing itself, but for finding words for a refusal.
 //!
 //! - [`Table`] is a table that was accepted with a glyph count; it justifies lines and writes its sheet.
 //! - [`Sheet`] is bytes that were accepted as a sheet, the plain record of what a table means.
 //! - Both answer the questions of [`Meaning`].
-//! - Whatever is refused is refused with a [`Refusal`], which has document 01's number; a refusal changes no lent buffer.
+//! - Whatever is refused is refused with a [`Refusal`], which has document 01's number and, for faults in a table, the
+//!   byte; [`Field::of`] says which field stands there. A refusal changes no lent buffer.
 //!
 //! One unit is 1/65,536 point; limits are in ems, 65,536 to the em.
 //!
 //! ```
-//! use just::{Refusal, Table};
+//! use just::{Reason, Refusal, Table};
 //!
 //! let bytes = [0, 1, 0, 0, 0, 0, 0, 0, 0, 0];
 //! let table = Table::new(&bytes, 1)?;
 //! assert_eq!(table.write_sheet()?.len(), 68);
-//! assert_eq!(Table::new(&bytes[..9], 1).unwrap_err(), Refusal::TableLength);
+//! assert_eq!(Table::new(&bytes[..9], 1).unwrap_err().reason, Reason::TableLength);
 //! # Ok::<(), Refusal>(())
 //! ```
 
 #![forbid(unsafe_code)]
 
+mod field;
+mod layout;
 mod line;
 mod parts;
 mod refusal;
@@ -29,9 +32,10 @@ mod sections;
 mod sheet;
 mod table;
 
+pub use field::{Field, Place};
 pub use line::{Answer, Justified, Lent, Line, Verdict, VerdictRecord, DELETED};
 pub use parts::{Act, Action, Direction, Entry, Limits, Meaning, Pair, Rule, Sizes};
-pub use refusal::Refusal;
+pub use refusal::{Reason, Refusal};
 pub use sections::{Machine, Run, Side};
 pub use sheet::Sheet;
 pub use table::{Found, Lookup, Table, Units};

@@ -1,7 +1,7 @@
 //! Lines.
 
 use crate::parts::Direction;
-use crate::refusal::Refusal;
+use crate::refusal::{Reason, Refusal};
 use crate::table::Table;
 use just_raw as raw;
 
@@ -103,7 +103,7 @@ impl Table<'_> {
     /// Justifies a line.
     ///
     /// ```
-    /// use just::{Direction, Line, Refusal, Table};
+    /// use just::{Direction, Line, Reason, Refusal, Table};
     ///
     /// // Glyph 0 grows by up to half an em after it.
     /// let bytes = [
@@ -122,14 +122,14 @@ impl Table<'_> {
     /// };
     /// let justified = table.justify(&line)?;
     /// assert_eq!(justified.after, [2, 0, 3]);
-    /// assert_eq!(table.justify(&Line { size: 0, ..line }), Err(Refusal::PointSize));
+    /// assert_eq!(table.justify(&Line { size: 0, ..line }), Err(Refusal { reason: Reason::PointSize, offset: 0 }));
     /// # Ok::<(), Refusal>(())
     /// ```
     pub fn justify(&self, line: &Line) -> Result<Justified, Refusal> {
         let count = line.glyphs.len();
         match self.justify_with(line, count) {
             // A refused call changes nothing, so it can be made again with all the room that a line can need.
-            Err(Refusal::ShortRoom) => self.justify_with(line, MOST_ACTIONS * count),
+            Err(Refusal { reason: Reason::ShortRoom, .. }) => self.justify_with(line, MOST_ACTIONS * count),
             answered => answered,
         }
     }

@@ -1,4 +1,4 @@
-//! Refusals by document 01's numbers.
+//! Refusals: document 01's numbers, and for a table's faults the byte.
 
 use just_raw as raw;
 use std::error::Error;
@@ -6,7 +6,7 @@ use std::fmt;
 
 /// Why a call was refused.
 #[derive(Clone, Copy, Debug, PartialEq, Eq, Hash, PartialOrd, Ord)]
-pub enum Refusal {
+pub enum Reason {
     TableLength,
     GlyphCount,
     Version,
@@ -28,43 +28,43 @@ pub enum Refusal {
     Unknown(u32),
 }
 
-/// Each refusal with what it means, in the order of document 01's numbers, from 1.
-const MEANINGS: [(Refusal, &str); 17] = [
-    (Refusal::TableLength, "the table's length is outside 10 to 32,768 bytes"),
-    (Refusal::GlyphCount, "the glyph count is outside 1 to 65,535"),
-    (Refusal::Version, "the table's version or format is not known"),
-    (Refusal::Outside, "a field to be read is not wholly in the table"),
-    (Refusal::BadLookup, "a lookup breaks its rule"),
-    (Refusal::BadCluster, "a width cluster breaks its rule"),
-    (Refusal::BadMachine, "a class machine breaks its rule"),
-    (Refusal::BadActions, "an action list breaks its rule"),
-    (Refusal::UnequalLengths, "glyphs, advances, classes or movements are lent in differing lengths"),
-    (Refusal::LongLine, "the line has more than 1,024 glyphs"),
-    (Refusal::PointSize, "the point size is outside 1 to 67,108,864 units"),
-    (Refusal::Advances, "an advance, their sum or the target is outside 0 to 1,073,741,823 units"),
-    (Refusal::UnknownGlyph, "a glyph is at or past the glyph count and is not the deleted one"),
-    (Refusal::EndlessWalk, "the class walk never ends"),
-    (Refusal::StageTotal, "a stage's total of factors is above 8,589,934,592 units"),
-    (Refusal::ShortRoom, "the verdicts or the sheet are longer than the lent room"),
-    (Refusal::NotSheet, "the bytes are not a sheet"),
+/// Each reason with what it means, in the order of document 01's numbers, from 1.
+const MEANINGS: [(Reason, &str); 17] = [
+    (Reason::TableLength, "the table's length is outside 10 to 32,768 bytes"),
+    (Reason::GlyphCount, "the glyph count is outside 1 to 65,535"),
+    (Reason::Version, "the table's version or format is not known"),
+    (Reason::Outside, "a field to be read is not wholly in the table"),
+    (Reason::BadLookup, "a lookup breaks its rule"),
+    (Reason::BadCluster, "a width cluster breaks its rule"),
+    (Reason::BadMachine, "a class machine breaks its rule"),
+    (Reason::BadActions, "an action list breaks its rule"),
+    (Reason::UnequalLengths, "glyphs, advances, classes or movements are lent in differing lengths"),
+    (Reason::LongLine, "the line has more than 1,024 glyphs"),
+    (Reason::PointSize, "the point size is outside 1 to 67,108,864 units"),
+    (Reason::Advances, "an advance, their sum or the target is outside 0 to 1,073,741,823 units"),
+    (Reason::UnknownGlyph, "a glyph is at or past the glyph count and is not the deleted one"),
+    (Reason::EndlessWalk, "the class walk never ends"),
+    (Reason::StageTotal, "a stage's total of factors is above 8,589,934,592 units"),
+    (Reason::ShortRoom, "the verdicts or the sheet are longer than the lent room"),
+    (Reason::NotSheet, "the bytes are not a sheet"),
 ];
 
-impl Refusal {
+impl Reason {
     /// Document 01's number.
     ///
     /// ```
-    /// assert_eq!(just::Refusal::EndlessWalk.number(), 14);
+    /// assert_eq!(just::Reason::EndlessWalk.number(), 14);
     /// ```
     pub fn number(self) -> u32 {
         match (self, self.place()) {
-            (Refusal::Unknown(number), _) => number,
+            (Reason::Unknown(number), _) => number,
             (_, place) => place as u32 + 1,
         }
     }
 
     /// Its place among the known ones; past them for one that is not known.
     fn place(self) -> usize {
-        MEANINGS.iter().position(|(refusal, _)| *refusal == self).unwrap_or(MEANINGS.len())
+        MEANINGS.iter().position(|(reason, _)| *reason == self).unwrap_or(MEANINGS.len())
     }
 
     /// What it means, in words.
@@ -72,23 +72,63 @@ impl Refusal {
         MEANINGS.get(self.place()).map_or("a refusal that is not known here", |(_, meaning)| meaning)
     }
 
-    /// What a call's number says: 0 is no refusal.
-    pub(crate) fn of(number: u32) -> Result<(), Refusal> {
-        match number.checked_sub(1) {
-            None => Ok(()),
-            Some(place) => Err(MEANINGS.get(place as usize).map_or(Refusal::Unknown(number), |(refusal, _)| *refusal)),
-        }
+    /// The reason of a number; 0 is none.
+    fn of(number: u32) -> Option<Reason> {
+        let place = number.checked_sub(1)?;
+        Some(MEANINGS.get(place as usize).map_or(Reason::Unknown(number), |(reason, _)| *reason))
+    }
+
+    /// Whether it is a fault of a field of a table, which stands at some byte: 4 to 8.
+    pub(crate) fn has_offset(self) -> bool {
+        (4..=8).contains(&self.number())
+    }
+}
+
+/// A refusal: why, and for the faults of a table's fields (4 to 8) at which byte.
+///
+/// ```
+/// use just::{Reason, Refusal, Table};
+///
+/// // The horizontal direction begins at byte 10, where the table ends.
+/// let refusal = Table::new(&[0, 1, 0, 0, 0, 0, 0, 10, 0, 0], 1).unwrap_err();
+/// assert_eq!(refusal, Refusal { reason: Reason::Outside, offset: 10 });
+/// assert_eq!(refusal.to_string(), "refused 4 at byte 10: a field to be read is not wholly in the table");
+/// ```
+#[derive(Clone, Copy, Debug, PartialEq, Eq, Hash)]
+pub struct Refusal {
+    pub reason: Reason,
+    /// For 4 to 8 the offset, from the table's start, of the first byte of the field that was being read or judged; for 4 it
+    /// may lie past the table's end. For all others 0.
+    pub offset: u64,
+}
+
+impl Refusal {
+    /// Document 01's number.
+    pub fn number(self) -> u32 {
+        self.reason.number()
+    }
+
+    /// What it means, in words.
+    pub fn meaning(self) -> &'static str {
+        self.reason.meaning()
     }
 
     /// What an answer says, unless it is a refusal.
     pub(crate) fn or<T>(answer: raw::Answer<T>) -> Result<T, Refusal> {
-        Refusal::of(answer.refusal).map(|()| answer.said)
+        match Reason::of(answer.refusal) {
+            None => Ok(answer.said),
+            Some(reason) => Err(Refusal { reason, offset: answer.offset }),
+        }
     }
 }
 
 impl fmt::Display for Refusal {
     fn fmt(&self, out: &mut fmt::Formatter) -> fmt::Result {
-        write!(out, "refused {}: {}", self.number(), self.meaning())
+        write!(out, "refused {}", self.number())?;
+        if self.reason.has_offset() {
+            write!(out, " at byte {}", self.offset)?;
+        }
+        write!(out, ": {}", self.meaning())
     }
 }
 
@@ -98,21 +138,36 @@ impl Error for Refusal {}
 mod tests {
     use super::*;
 
+    fn answered(refusal: u32, offset: u64) -> Result<(), Refusal> {
+        Refusal::or(raw::Answer { refusal, offset, said: () })
+    }
+
     #[test]
-    fn each_number_has_its_refusal() {
-        assert_eq!(Refusal::of(0), Ok(()));
-        for (place, (refusal, meaning)) in MEANINGS.into_iter().enumerate() {
-            assert_eq!(refusal.number() as usize, place + 1);
-            assert_eq!(Refusal::of(refusal.number()), Err(refusal));
-            assert_eq!(refusal.to_string(), format!("refused {}: {meaning}", place + 1));
+    fn each_number_has_its_reason() {
+        assert_eq!(answered(0, 0), Ok(()));
+        for (place, (reason, meaning)) in MEANINGS.into_iter().enumerate() {
+            let number = place as u32 + 1;
+            let refusal = Refusal { reason, offset: 0 };
+            assert_eq!(refusal.number(), number);
+            assert_eq!(answered(number, 0), Err(refusal));
+            let at = if (4..=8).contains(&number) { " at byte 0" } else { "" };
+            assert_eq!(refusal.to_string(), format!("refused {number}{at}: {meaning}"));
         }
+    }
+
+    #[test]
+    fn the_byte_is_said() {
+        let refusal = answered(6, 412).unwrap_err();
+        assert_eq!(refusal, Refusal { reason: Reason::BadCluster, offset: 412 });
+        assert_eq!(refusal.to_string(), "refused 6 at byte 412: a width cluster breaks its rule");
     }
 
     #[test]
     fn a_number_that_is_not_known_is_no_panic() {
         for number in [18, u32::MAX] {
-            assert_eq!(Refusal::of(number), Err(Refusal::Unknown(number)));
-            assert_eq!(Refusal::Unknown(number).number(), number);
+            let refusal = answered(number, 0).unwrap_err();
+            assert_eq!(refusal, Refusal { reason: Reason::Unknown(number), offset: 0 });
+            assert_eq!(refusal.to_string(), format!("refused {number}: a refusal that is not known here"));
         }
     }
 }

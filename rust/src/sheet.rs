@@ -10,12 +10,12 @@ use just_raw::{self as raw, Asked};
 /// Two tables mean the same exactly when their sheets are equal byte for byte.
 ///
 /// ```
-/// use just::{Meaning, Refusal, Sheet, Table};
+/// use just::{Meaning, Reason, Refusal, Sheet, Table};
 ///
 /// let bytes = [0, 1, 0, 0, 0, 0, 0, 0, 0, 0];
 /// let written = Table::new(&bytes, 9)?.write_sheet()?;
 /// assert_eq!(Sheet::new(&written)?.glyph_count(), 9);
-/// assert_eq!(Sheet::new(&written[1..]).unwrap_err(), Refusal::NotSheet);
+/// assert_eq!(Sheet::new(&written[1..]).unwrap_err().reason, Reason::NotSheet);
 /// # Ok::<(), Refusal>(())
 /// ```
 #[derive(Clone, Copy, Debug)]

@@ -44,7 +44,7 @@ impl<'a> Table<'a> {
     /// Judges a table with a glyph count.
     pub fn new(bytes: &'a [u8], glyph_count: u32) -> Result<Table<'a>, Refusal> {
         let lent = raw::Table { bytes, glyph_count };
-        Refusal::of(lent.check())?;
+        Refusal::or(lent.check())?;
         Ok(Table { lent })
     }
 
@@ -86,17 +86,17 @@ impl<'a> Table<'a> {
     }
 
     /// Writes the table's sheet into the first bytes of the room and says how many they are; the rest stays as it was.
-    /// [`Refusal::ShortRoom`] where the sheet is longer, and then nothing is written.
+    /// [`Reason::ShortRoom`](crate::Reason::ShortRoom) where the sheet is longer, and then nothing is written.
     ///
     /// ```
-    /// use just::{Refusal, Table};
+    /// use just::{Reason, Refusal, Table};
     ///
     /// let bytes = [0, 1, 0, 0, 0, 0, 0, 0, 0, 0];
     /// let table = Table::new(&bytes, 1)?;
     /// let mut room = [7; 70];
     /// assert_eq!(table.write_sheet_into(&mut room), Ok(68));
     /// assert_eq!(room[68..], [7, 7]);
-    /// assert_eq!(table.write_sheet_into(&mut room[..67]), Err(Refusal::ShortRoom));
+    /// assert_eq!(table.write_sheet_into(&mut room[..67]).unwrap_err().reason, Reason::ShortRoom);
     /// # Ok::<(), Refusal>(())
     /// ```
     pub fn write_sheet_into(&self, room: &mut [u8]) -> Result<usize, Refusal> {

@@ -5,8 +5,8 @@ mod common;
 
 use common::{complex, simple, GLYPHS};
 use just::{
-    Act, Action, Direction, Entry, Found, Justified, Limits, Line, Lookup, Meaning, Pair, Refusal, Rule, Sheet, Sizes,
-    Table, Units, Verdict, DELETED,
+    Act, Action, Direction, Entry, Found, Justified, Limits, Line, Lookup, Meaning, Pair, Reason, Refusal, Rule, Sheet,
+    Sizes, Table, Units, Verdict, DELETED,
 };
 
 const WAY: Direction = Direction::Horizontal;
@@ -79,7 +79,8 @@ fn a_line_of_letters_takes_a_kashida() {
         verdicts: vec![Verdict { place: 0, action: 0, substitutes: false }],
     };
     assert_eq!(justified, first);
-    assert_eq!(table.justify(&Line { advances: &[0; 2], ..line }), Err(Refusal::UnequalLengths));
+    let unequal = Refusal { reason: Reason::UnequalLengths, offset: 0 };
+    assert_eq!(table.justify(&Line { advances: &[0; 2], ..line }), Err(unequal));
 }
 
 #[test]
@@ -125,8 +126,10 @@ fn a_find_goes_by_halves() {
 #[test]
 fn what_is_refused() {
     let bytes = simple();
-    assert_eq!(Table::new(&bytes[..9], GLYPHS).unwrap_err(), Refusal::TableLength);
-    assert_eq!(Table::new(&bytes, 0).unwrap_err(), Refusal::GlyphCount);
-    assert_eq!(Table::new(&bytes[..103], GLYPHS).unwrap_err(), Refusal::Outside);
-    assert_eq!(Sheet::new(&[]).unwrap_err(), Refusal::NotSheet);
+    let refused = |reason, offset| Refusal { reason, offset };
+    assert_eq!(Table::new(&bytes[..9], GLYPHS).unwrap_err(), refused(Reason::TableLength, 0));
+    assert_eq!(Table::new(&bytes, 0).unwrap_err(), refused(Reason::GlyphCount, 0));
+    // The last field, the shrink flags of the second cluster, begins at 102.
+    assert_eq!(Table::new(&bytes[..103], GLYPHS).unwrap_err(), refused(Reason::Outside, 102));
+    assert_eq!(Sheet::new(&[]).unwrap_err(), refused(Reason::NotSheet, 0));
 }

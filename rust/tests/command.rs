@@ -74,6 +74,18 @@ fn the_same_or_not() {
 }
 
 #[test]
+fn a_refused_table_is_told_to_the_byte() {
+    let mut bytes = common::complex();
+    // The first cluster, that of glyph 2, stands at 48: the before shrink limit of its pair at 60.
+    bytes[60] = 0x7F;
+    let table = file("refused-cluster", &bytes);
+    let said = "a width cluster breaks its rule (horizontal, glyph 2, pair 0: before shrink)";
+    for words in [&[&table[..], "280"][..], &["--text", &table, "280"], &["--same", &table, &table, "280"]] {
+        assert_eq!(complains(words), format!("just-sheet: {table}: refused 6 at byte 60: {said}\n"));
+    }
+}
+
+#[test]
 fn refusals_and_wrong_words() {
     let table = file("empty-refused", &EMPTY);
     let refused = complains(&[&table, "0"]);

@@ -1,5 +1,5 @@
-//! What the calls answer. The header's structs for answers all begin with a refusal, and those for parts go on with
-//! `found`; here both are said once, for whatever follows.
+//! What the calls answer. The header's structs for answers all begin with a refusal and its offset, and those for parts
+//! go on with `found`; here both are said once, for whatever follows.
 
 /// The two directions of a table. A call takes the number: 0 is horizontal, any other vertical.
 #[derive(Clone, Copy, Debug, PartialEq, Eq, Hash)]
@@ -18,13 +18,17 @@ pub enum Lookup {
     Action = 1,
 }
 
-/// The number of a refusal and zeros, or 0 and what is said.
+/// The number of a refusal, its offset and zeros, or 0, 0 and what is said. The offset is 0 for all refusals but 4 to 8.
 #[derive(Clone, Copy, Debug, PartialEq, Eq)]
 #[repr(C)]
 pub struct Answer<T> {
     pub refusal: u32,
+    pub offset: u64,
     pub said: T,
 }
+
+/// Whether a table or a sheet is accepted: nothing else is said.
+pub type Checked = Answer<()>;
 
 /// Whether there is such a part, and the part; zeros where there is none.
 #[derive(Clone, Copy, Debug, Default, PartialEq, Eq)]
@@ -120,14 +124,17 @@ pub struct Stretch {
     pub length: usize,
 }
 
-/// In the header `found` and sizes have no struct of their own; the layout is the same, for no part is aligned more strictly
-/// than a refusal.
+/// In the header `found` and sizes have no struct of their own; the layout is the same, for what is said begins where the
+/// offset ends, and no part is aligned more strictly. examples/boundary.c has the header's sizes.
 const _: () = {
-    assert!(size_of::<Part<Sizes>>() == 12);
-    assert!(size_of::<Part<u8>>() == 8);
-    assert!(size_of::<Part<Entry>>() == 12);
-    assert!(size_of::<Part<Pair>>() == 32);
-    assert!(size_of::<Part<Action>>() == 92);
-    assert!(size_of::<Answer<Value>>() == 12);
-    assert!(size_of::<Answer<Units>>() == 12);
+    assert!(size_of::<Checked>() == 16);
+    assert!(size_of::<Answer<u32>>() == 24);
+    assert!(size_of::<Part<Sizes>>() == 24);
+    assert!(size_of::<Part<u8>>() == 24);
+    assert!(size_of::<Part<Entry>>() == 24);
+    assert!(size_of::<Part<Pair>>() == 48);
+    assert!(size_of::<Part<Action>>() == 104);
+    assert!(size_of::<Answer<Value>>() == 24);
+    assert!(size_of::<Answer<Units>>() == 24);
+    assert!(size_of::<Answer<crate::Said>>() == 32);
 };

@@ -13,14 +13,14 @@ mod sheet;
 mod table;
 
 pub use answers::{
-    Action, Answer, Direction, Entry, Flags, Found, Limits, Lookup, Pair, Part, Sizes, Stretch, Units, Value,
+    Action, Answer, Checked, Direction, Entry, Flags, Found, Limits, Lookup, Pair, Part, Sizes, Stretch, Units, Value,
 };
 pub use line::{Lent, Line, Said, Verdict};
 pub use sheet::Sheet;
 pub use table::Table;
 
 /// The version of the C header that these functions follow.
-pub const VERSION: u32 = 2;
+pub const VERSION: u32 = 3;
 
 /// What is asked for the parts of its meaning: a table or a sheet. It is judged first each time.
 ///

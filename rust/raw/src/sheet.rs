@@ -1,9 +1,9 @@
 //! The calls that take a sheet.
 
-use crate::{Action, Answer, Asked, Entry, Pair, Part, Sizes};
+use crate::{Action, Answer, Asked, Checked, Entry, Pair, Part, Sizes};
 
 extern "C" {
-    fn just_check_sheet(sheet: *const u8, length: usize) -> u32;
+    fn just_check_sheet(sheet: *const u8, length: usize) -> Checked;
     fn just_sheet_count(sheet: *const u8, length: usize) -> Answer<u32>;
     fn just_sheet_sizes(sheet: *const u8, length: usize, direction: u32) -> Part<Sizes>;
     fn just_sheet_class(sheet: *const u8, length: usize, direction: u32, glyph: u16) -> Part<u8>;
@@ -20,8 +20,8 @@ pub struct Sheet<'a> {
 
 // SAFETY: in each call pointer and length are of one slice, which is only read.
 impl Sheet<'_> {
-    /// Whether the bytes are a sheet: 0, or 17.
-    pub fn check(self) -> u32 {
+    /// Whether the bytes are a sheet, or 17.
+    pub fn check(self) -> Checked {
         unsafe { just_check_sheet(self.bytes.as_ptr(), self.bytes.len()) }
     }
 }

@@ -1,10 +1,10 @@
 //! The calls that take a table, but for the one that justifies a line.
 
-use crate::{Action, Answer, Asked, Entry, Pair, Part, Sizes, Stretch, Units, Value};
+use crate::{Action, Answer, Asked, Checked, Entry, Pair, Part, Sizes, Stretch, Units, Value};
 
 // `n` is the glyph count, `way` the direction.
 extern "C" {
-    fn just_check_table(table: *const u8, length: usize, n: u32) -> u32;
+    fn just_check_table(table: *const u8, length: usize, n: u32) -> Checked;
     fn just_table_count(table: *const u8, length: usize, n: u32) -> Answer<u32>;
     fn just_table_sizes(table: *const u8, length: usize, n: u32, way: u32) -> Part<Sizes>;
     fn just_table_class(table: *const u8, length: usize, n: u32, way: u32, glyph: u16) -> Part<u8>;
@@ -33,8 +33,8 @@ pub struct Table<'a> {
 
 // SAFETY: in each call pointer and length are of one slice, which is only read; the writer's room is lent to be written.
 impl Table<'_> {
-    /// Whether the table is accepted: 0, or the number of its first fault.
-    pub fn check(self) -> u32 {
+    /// Whether the table is accepted, or the number and the offset of its first fault.
+    pub fn check(self) -> Checked {
         let (table, length, n) = self.lent();
         unsafe { just_check_table(table, length, n) }
     }

@@ -3,10 +3,11 @@
 //! mean the same need not have alike, and at most how many of them a find looks at.
 //! `just-sheet --same A B N [M]`: whether A, read with N glyphs, and B, read with M or N, mean the same.
 //!
-//! Exit status: 0, or 1 where two tables do not mean the same, or 2 where something is refused or cannot be read.
+//! Exit status: 0, or 1 where two tables do not mean the same, or 2 where something is refused or cannot be read. Of a table
+//! that is refused standard error says why, at which byte, and which field stands there; what has a number counts from 0.
 
 use just::{
-    Act, Action, Direction, Entry, Limits, Lookup, Machine, Pair, Refusal, Rule, Run, Sheet, Side, Table, Units,
+    Act, Action, Direction, Entry, Field, Limits, Lookup, Machine, Pair, Refusal, Rule, Run, Sheet, Side, Table, Units,
 };
 use std::fmt::Write as _;
 use std::io::Write as _;
@@ -50,7 +51,15 @@ fn asked<T>(file: &str, glyphs: &str, what: impl Fn(&Table) -> Result<T, Refusal
     let glyphs: u32 = glyphs.parse().map_err(|_| format!("{glyphs} is no glyph count"))?;
     let bytes = std::fs::read(file).map_err(|wrong| format!("{file}: {wrong}"))?;
     let said = Table::new(&bytes, glyphs).and_then(|table| what(&table));
-    said.map_err(|refusal| format!("{file}: {refusal}"))
+    said.map_err(|refusal| format!("{file}: {}", refused(&bytes, glyphs, refusal)))
+}
+
+/// What is said of a refused table: the refusal and, where it speaks of one, the field.
+fn refused(bytes: &[u8], glyphs: u32, refusal: Refusal) -> String {
+    match Field::of(bytes, glyphs, refusal) {
+        Some(field) => format!("{refusal} ({field})"),
+        None => refusal.to_string(),
+    }
 }
 
 /// The sheet of a table file.

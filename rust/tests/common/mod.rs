@@ -4,11 +4,11 @@
 /// The glyph count that Apple's examples are read with.
 pub const GLYPHS: u32 = 280;
 
-fn words(values: &[u16]) -> Vec<u8> {
+pub fn words(values: &[u16]) -> Vec<u8> {
     values.iter().flat_map(|value| value.to_be_bytes()).collect()
 }
 
-fn longs(values: &[u32]) -> Vec<u8> {
+pub fn longs(values: &[u32]) -> Vec<u8> {
     values.iter().flat_map(|value| value.to_be_bytes()).collect()
 }
 
