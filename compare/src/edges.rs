@@ -1,8 +1,9 @@
 //! A glyph's edges under a narrower and a wider target (document 02, request 1/14): none may lie further back under the wider.
 
 use crate::questions::Questions;
+use crate::refused::said;
 use crate::tally::Tally;
-use crate::{library, lines, Outcome};
+use crate::{lines, Outcome};
 use just_raw::{Lent, Line, Verdict};
 use reference::generate::LineCase;
 use reference::line::MOST_WIDTH;
@@ -36,7 +37,7 @@ fn edges(case: &LineCase, advances: &[i32], target: i64) -> Option<Edges> {
     let mut verdicts = vec![Verdict::default(); count * MOST_ACTIONS];
     let lent = Lent { classes: &mut classes, before: &mut before, after: &mut after, verdicts: &mut verdicts };
     let line = Line { target: target as i32, ..lines::line(case, advances) };
-    library::said(lines::table(case).justify(&line, lent)).ok()?;
+    said(lines::table(case).justify(&line, lent)).ok()?;
     let mut ahead = 0;
     let sides = before.iter().zip(&after).zip(advances);
     Some(

@@ -1,6 +1,7 @@
 //! Finds in a table's lookups (document 02, request 9/14): the value, how many units were looked at, and the most that can be.
 
 use crate::questions::Questions;
+use crate::refused::Refused;
 use crate::tally::Tally;
 use crate::{library, same, Outcome};
 use just_raw::Table;
@@ -37,13 +38,13 @@ fn least_over(count: usize) -> u32 {
 /// Compares the finds in both lookups of both directions.
 pub fn compare(table: Table, asked: &mut Questions, tally: &mut Tally) -> Outcome {
     let Table { bytes, glyph_count } = table;
-    let second = reference::read_table(bytes, glyph_count).map_err(|fault| fault.number);
+    let second = reference::read_table(bytes, glyph_count).map_err(Refused::fault);
     for (way, which) in Direction::BOTH.into_iter().flat_map(|way| [(way, Which::Width), (way, Which::Action)]) {
         let count = second.as_ref().map(|read| read.unit_count(way, which));
-        let units = count.map(|count| (count as u32, least_over(count))).map_err(|&number| number);
+        let units = count.map(|count| (count as u32, least_over(count))).map_err(|&refused| refused);
         same("units", library::units(table, way, which), units)?;
         for glyph in glyphs(second.as_ref().ok(), (way, which), glyph_count, asked) {
-            let found = second.as_ref().map(|read| read.find(way, which, glyph)).map_err(|&number| number);
+            let found = second.as_ref().map(|read| read.find(way, which, glyph)).map_err(|&refused| refused);
             same("value", library::found(table, way, which, glyph), found)?;
             if let (Ok(found), Ok((units, most))) = (found, units) {
                 note(glyph, glyph_count, (which, units, most), found, tally);

@@ -19,6 +19,7 @@ pub mod marks;
 pub mod parts;
 pub mod peers;
 pub mod questions;
+pub mod refused;
 pub mod samples;
 pub mod sheets;
 pub mod tables;

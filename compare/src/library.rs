@@ -1,20 +1,12 @@
 //! What the proved library answers through its C boundary, in the second program's types. What stands beside a refusal, or
 //! where nothing is found, has to be zeros.
 
-use just_raw::{self as raw, Answer, Asked, Found};
+use crate::refused::{said, Refused};
+use just_raw::{self as raw, Asked, Found};
 use reference::{Action, Cell, Direction, Sizes, Stretch, Which, WidthRecord};
 
-/// A part, nothing, or the number of a refusal.
-pub type Part<T> = Result<Option<T>, u32>;
-
-/// What an answer says, or the number of its refusal.
-pub fn said<T: Default + PartialEq>(answer: Answer<T>) -> Result<T, u32> {
-    if answer.refusal == 0 {
-        return Ok(answer.said);
-    }
-    assert!(answer.said == T::default(), "no zeros beside a refusal");
-    Err(answer.refusal)
-}
+/// A part, nothing, or a refusal.
+pub type Part<T> = Result<Option<T>, Refused>;
 
 /// The part that an answer holds, as the second program has it.
 fn part<T: Default + PartialEq, U>(answer: raw::Part<T>, turn: impl Fn(T) -> U) -> Part<U> {
@@ -74,14 +66,14 @@ fn lookup(which: Which) -> u32 {
 }
 
 /// A find: the value, if any, and the looks.
-pub fn found(table: raw::Table, way: Direction, which: Which, glyph: u16) -> Result<reference::Found, u32> {
+pub fn found(table: raw::Table, way: Direction, which: Which, glyph: u16) -> Result<reference::Found, Refused> {
     let raw::Value { found, value, looks } = said(table.value(number(way), lookup(which), glyph))?;
     assert!(found || value == 0, "a value that is not there is not 0");
     Ok(reference::Found { value: found.then_some(value), looks })
 }
 
 /// A lookup's units, and the bound on a find's looks.
-pub fn units(table: raw::Table, way: Direction, which: Which) -> Result<(u32, u32), u32> {
+pub fn units(table: raw::Table, way: Direction, which: Which) -> Result<(u32, u32), Refused> {
     said(table.units(number(way), lookup(which))).map(|raw::Units { units, most }| (units, most))
 }
 

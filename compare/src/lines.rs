@@ -3,10 +3,11 @@
 use crate::caps;
 use crate::guarded::Guarded;
 use crate::questions::Questions;
+use crate::refused::{self, Refused};
 use crate::{library, same, Outcome};
 use just_raw::{Lent, Line, Said, Table, Verdict};
 use reference::generate::{self, LineCase};
-use reference::{Direction, Justified};
+use reference::{Direction, Fault, Justified};
 
 /// The line of a case: one in 40 has a stage's total at its cap. Sizes are those that 32 bits hold.
 pub fn draw(seed: u64, index: u64) -> LineCase {
@@ -109,7 +110,7 @@ fn said(answer: &Justified) -> Said {
 }
 
 /// Compares the call on one line with what the second program answers.
-pub fn compare(case: &LineCase, second: &Result<Justified, u32>, asked: &mut Questions) -> Outcome {
+pub fn compare(case: &LineCase, second: &Result<Justified, Fault>, asked: &mut Questions) -> Outcome {
     let mut lent = Buffers::new(case, asked);
     let wanted = match second {
         Ok(answer) => lent.clone().filled(answer),
@@ -118,6 +119,6 @@ pub fn compare(case: &LineCase, second: &Result<Justified, u32>, asked: &mut Que
     let advances = advances(case);
     let line = Line { direction: direction(case, asked), ..line(case, &advances) };
     let answer = table(case).justify(&line, lent.lend());
-    same("justify", library::said(answer), second.as_ref().map(said).map_err(|&number| number))?;
+    same("justify", refused::said(answer), second.as_ref().map(said).map_err(|&fault| Refused::fault(fault)))?;
     lent.compare(&wanted)
 }

@@ -6,7 +6,7 @@ use reference::generate::LineCase;
 use reference::line::{classes_of, rooms_of, MOST_TOTAL, MOST_WIDTH};
 use reference::meaning::DELETED;
 use reference::share::STAGES;
-use reference::{justify, read_table, totals, Justified};
+use reference::{justify, read_table, totals, Fault, Justified};
 
 /// How many lines a run has at least before marks are asked of it.
 pub const LONG_RUN: u64 = 20_000;
@@ -73,14 +73,14 @@ pub fn wanted() -> Vec<(String, u64)> {
 }
 
 /// Notes what a line shows.
-pub fn note(case: &LineCase, second: &Result<Justified, u32>, tally: &mut Tally) {
+pub fn note(case: &LineCase, second: &Result<Justified, Fault>, tally: &mut Tally) {
     match second {
         Ok(answer) => {
             tally.note("accepted".into());
             let shown = SHOWN.iter().filter(|(_, shows)| shows(case, answer));
             shown.for_each(|(shown, _)| tally.note(shown.to_string()));
         }
-        Err(number) => tally.note(format!("refusal {number}")),
+        Err(fault) => tally.note(format!("refusal {}", fault.number)),
     }
     if SIZES.contains(&case.size) {
         tally.note(format!("size {}", case.size));
@@ -88,7 +88,7 @@ pub fn note(case: &LineCase, second: &Result<Justified, u32>, tally: &mut Tally)
     if PLACES.contains(&case.glyphs.len()) {
         tally.note(format!("{} glyphs", case.glyphs.len()));
     }
-    match second {
+    match second.as_ref().map_err(|fault| fault.number) {
         Err(9) => note_lengths(case, tally),
         Ok(_) | Err(15 | 16) => {
             note_room(case, tally);

@@ -1,14 +1,15 @@
 //! The parts of a meaning, asked of a table or a sheet of the library and of the second program.
 
 use crate::questions::{self, Questions};
+use crate::refused::{said, Refused};
 use crate::{library, same, Outcome};
 use just_raw::Asked;
 use reference::{Direction, Parts};
 
-/// Compares answers at random and at the edges; `read` is what the second program has, or the refusal's number.
-pub fn compare<T: Parts>(what: &str, of: impl Asked, read: Result<&T, u32>, asked: &mut Questions) -> Outcome {
+/// Compares answers at random and at the edges; `read` is what the second program has, or its refusal.
+pub fn compare<T: Parts>(what: &str, of: impl Asked, read: Result<&T, Refused>, asked: &mut Questions) -> Outcome {
     let says = |part: &str| format!("{part} of a {what}");
-    same(&says("count"), library::said(of.count()), read.map(|read| read.glyph_count()))?;
+    same(&says("count"), said(of.count()), read.map(|read| read.glyph_count()))?;
     let glyphs = read.map_or(12, |read| read.glyph_count());
     for way in Direction::BOTH {
         let sizes = read.map(|read| read.sizes(way));

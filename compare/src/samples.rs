@@ -140,7 +140,7 @@ pub fn compare(sample: &Sample, asked: &mut Questions) -> Outcome {
     let second = sample.case.justify();
     let answered = match &second {
         Ok(answer) => Says::Moves(answer.before.clone(), answer.after.clone(), answer.remainder, answer.verdicts.len()),
-        Err(number) => Says::Refused(*number),
+        Err(fault) => Says::Refused(fault.number),
     };
     if answered != sample.says {
         return Err(format!("{}: the page says {:?}, the second program {answered:?}", sample.name, sample.says));

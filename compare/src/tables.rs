@@ -1,6 +1,8 @@
-//! Tables: the first fault's number, the parts of the meaning, the component lists, and the table's sheet.
+//! Tables: the first fault's number and offset, the field that the Rust layer names there, the parts of the meaning, the
+//! component lists, and the table's sheet.
 
 use crate::questions::{self, Questions};
+use crate::refused::{said, Refused};
 use crate::{library, parts, same, written, Outcome};
 use just_raw::{Sheet, Table};
 use reference::{generate, Direction};
@@ -14,8 +16,9 @@ pub fn draw(seed: u64, index: u64) -> (Vec<u8>, u32) {
 pub fn compare(table: Table, asked: &mut Questions) -> Outcome {
     let Table { bytes, glyph_count } = table;
     let second = reference::read_table(bytes, glyph_count);
-    let read = second.as_ref().map_err(|fault| fault.number);
-    same("check_table", table.check(), read.err().unwrap_or(0))?;
+    let read = second.as_ref().map_err(|&fault| Refused::fault(fault));
+    same("check_table", said(table.check()), read.map(|_| ()))?;
+    compare_field(table, read.err())?;
     parts::compare("table", table, read, asked)?;
     for way in Direction::BOTH {
         for _ in 0..questions::EACH {
@@ -27,7 +30,19 @@ pub fn compare(table: Table, asked: &mut Questions) -> Outcome {
     }
     match read {
         Ok(read) => compare_sheet(table, read, asked),
-        Err(number) => written::compare(table, Err(number), asked),
+        Err(refused) => written::compare(table, Err(refused), asked),
+    }
+}
+
+/// The Rust layer names a field for refusals 4 to 8, and for no others.
+fn compare_field(table: Table, refused: Option<Refused>) -> Outcome {
+    let refusal = just::Table::new(table.bytes, table.glyph_count).err();
+    let field = refusal.and_then(|refusal| just::Field::of(table.bytes, table.glyph_count, refusal));
+    let wanted = refused.is_some_and(|refused| (4..=8).contains(&refused.number));
+    match field {
+        None if wanted => Err(format!("no field is named for {refused:?}")),
+        Some(field) if !wanted => Err(format!("{field} is named for {refused:?}")),
+        _ => Ok(()),
     }
 }
 
@@ -37,7 +52,7 @@ fn compare_sheet(table: Table, read: &reference::Table, asked: &mut Questions) -
     let sheet = reference::write_sheet(table.bytes, table.glyph_count).expect("an accepted table");
     written::compare(table, Ok(&sheet), asked)?;
     let sheet = Sheet { bytes: &sheet };
-    same("check_sheet of a table's sheet", sheet.check(), 0)?;
+    same("check_sheet of a table's sheet", said(sheet.check()), Ok(()))?;
     if sheet.bytes.len() > 4_000 {
         return Ok(());
     }

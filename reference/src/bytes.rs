@@ -1,11 +1,13 @@
-//! Big-endian fields of a table, and the fault that ends a reading.
+//! Big-endian fields of a table, and the fault that ends a call.
 //!
 //! Document 01, "Numbers of refusal": a field must lie wholly inside before
 //! anything is said about its value. Positions are 64-bit sums, so no offset
 //! ever wraps.
 
-/// The first fault of a table: its number (1 to 8) and the position of the
-/// field that was being found or judged.
+/// A refusal: its number and an offset (document 02, request 4/14). For 4 to 8
+/// the offset is that of the first byte of the field that was being found or
+/// judged, from the table's start; it may lie past the end. For all others it
+/// is 0.
 #[derive(Clone, Copy, Debug, PartialEq, Eq)]
 pub struct Fault {
     pub number: u32,
@@ -13,8 +15,14 @@ pub struct Fault {
 }
 
 impl Fault {
+    /// A refusal at a field, 4 to 8.
     pub fn new(number: u32, at: u64) -> Fault {
         Fault { number, at }
+    }
+
+    /// A refusal at no field, all but 4 to 8.
+    pub fn plain(number: u32) -> Fault {
+        Fault { number, at: 0 }
     }
 }
 
@@ -26,6 +34,8 @@ pub const LOOKUP: u32 = 5;
 pub const CLUSTER: u32 = 6;
 pub const MACHINE: u32 = 7;
 pub const ACTIONS: u32 = 8;
+pub const ROOM: u32 = 16;
+pub const SHEET: u32 = 17;
 
 /// Passes over a field that keeps its rule; otherwise gives the fault.
 pub fn judge(kept: bool, number: u32, at: u64) -> Result<(), Fault> {
@@ -34,6 +44,11 @@ pub fn judge(kept: bool, number: u32, at: u64) -> Result<(), Fault> {
     } else {
         Err(Fault::new(number, at))
     }
+}
+
+/// The same for what is no field of a table.
+pub fn refuse(faulty: bool, number: u32) -> Result<(), Fault> {
+    judge(!faulty, number, 0)
 }
 
 /// The bytes of a table.

@@ -2,6 +2,7 @@
 //! remainder, count of entries and verdicts.
 
 use crate::actions;
+use crate::bytes::{refuse, Fault, ROOM};
 use crate::machine::DELETED_CLASS;
 use crate::meaning::{Direction, Parts, WidthRecord, DELETED, PRIORITY, UNLIMITED};
 use crate::share::{factor, share, totals, Room, Shares};
@@ -55,8 +56,8 @@ pub fn justify(
     before_len: usize,
     after_len: usize,
     room: usize,
-) -> Result<Justified, u32> {
-    let table = read_table(input.table, input.n).map_err(|fault| fault.number)?;
+) -> Result<Justified, Fault> {
+    let table = read_table(input.table, input.n)?;
     justify_with(&table, &input.line, classes_len, before_len, after_len, room)
 }
 
@@ -68,30 +69,22 @@ pub fn justify_with(
     before_len: usize,
     after_len: usize,
     room: usize,
-) -> Result<Justified, u32> {
+) -> Result<Justified, Fault> {
     let lent = [line.advances.len(), classes_len, before_len, after_len];
     refuse(lent.iter().any(|&length| length != line.glyphs.len()), 9)?;
     let gap = check_line(table.glyph_count(), line)?;
-    let (classes, entries) = classes_of(table, line).ok_or(14u32)?;
+    let (classes, entries) = classes_of(table, line).ok_or(Fault::plain(14))?;
     let rooms = rooms_of(table, line, &classes, gap >= 0);
     refuse(totals(&rooms).iter().any(|&total| total > MOST_TOTAL), 15)?;
     let shares = share(&rooms, gap.unsigned_abs());
     let (before, after, remainder) = signed(shares, gap < 0);
     let verdicts = verdicts_of(table, line, &classes, &before, &after);
-    refuse(verdicts.len() > room, 16)?;
+    refuse(verdicts.len() > room, ROOM)?;
     Ok(Justified { classes, before, after, remainder, entries, verdicts })
 }
 
-fn refuse(faulty: bool, number: u32) -> Result<(), u32> {
-    if faulty {
-        Err(number)
-    } else {
-        Ok(())
-    }
-}
-
 /// Refusals 10 to 13; gives the gap.
-fn check_line(n: u32, line: &Line) -> Result<i64, u32> {
+fn check_line(n: u32, line: &Line) -> Result<i64, Fault> {
     refuse(line.glyphs.len() > MOST_PLACES, 10)?;
     refuse(!(1..=MOST_SIZE).contains(&line.size), 11)?;
     let width = 0..=MOST_WIDTH;

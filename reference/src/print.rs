@@ -1,5 +1,6 @@
 //! The printing program (document 01, the sample that sets it out).
 
+use crate::bytes::{refuse, Fault, LENGTH};
 use crate::sheet_write::write_sheet_within;
 
 /// The most bytes of input, N's two among them.
@@ -7,18 +8,16 @@ pub const MOST_INPUT: usize = 65_536;
 /// The room for the sheet.
 pub const ROOM: usize = 65_536;
 
-/// What the program prints for its whole input.
+/// What the program prints for its whole input; of a refusal the number alone.
 pub fn print(input: &[u8]) -> String {
     match sheet_for(input) {
         Ok(sheet) => hex_lines(&sheet),
-        Err(number) => format!("refused {number}\n"),
+        Err(fault) => format!("refused {}\n", fault.number),
     }
 }
 
-fn sheet_for(input: &[u8]) -> Result<Vec<u8>, u32> {
-    if input.len() < 2 || input.len() > MOST_INPUT {
-        return Err(1);
-    }
+fn sheet_for(input: &[u8]) -> Result<Vec<u8>, Fault> {
+    refuse(input.len() < 2 || input.len() > MOST_INPUT, LENGTH)?;
     let n = u16::from_be_bytes([input[0], input[1]]);
     write_sheet_within(&input[2..], n as u32, ROOM)
 }

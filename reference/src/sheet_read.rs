@@ -8,7 +8,7 @@
 use std::collections::HashSet;
 
 use crate::actions::{fixed_data, DECOMPOSE, LAST_CLASS, LAST_KIND, MOST_ACTIONS, MOST_COMPONENTS};
-use crate::bytes::{get_u16, get_u32};
+use crate::bytes::{get_u16, get_u32, Fault, SHEET};
 use crate::cluster::{record_of, LAST_PRIORITY, MOST_PAIRS, PAIR};
 use crate::machine::{Machine, LEAST_CLASSES, LEAST_ROWS, MOST_CLASSES, MOST_ROWS, OTHER_CLASS};
 use crate::meaning::{Action, Cell, Direction, Parts, Sizes, WidthRecord, DELETED, LIMIT, UNLIMITED};
@@ -36,6 +36,11 @@ struct Side<'a> {
 /// Whether the bytes are a sheet.
 pub fn check_sheet(bytes: &[u8]) -> bool {
     read_sheet(bytes).is_some()
+}
+
+/// The meaning of a sheet, or refusal 17.
+pub fn open_sheet(bytes: &[u8]) -> Result<Meaning<'_>, Fault> {
+    read_sheet(bytes).ok_or(Fault::plain(SHEET))
 }
 
 /// The meaning of a sheet; `None` for bytes that are not a sheet.

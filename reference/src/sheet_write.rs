@@ -10,7 +10,7 @@ use std::collections::HashMap;
 use std::hash::{Hash, Hasher};
 
 use crate::actions;
-use crate::bytes::{put_u16, put_u32, Fault};
+use crate::bytes::{put_u16, put_u32, refuse, Fault, ROOM};
 use crate::cluster;
 use crate::machine::{GlyphClasses, OTHER_CLASS};
 use crate::meaning::{Cell, Direction, Parts};
@@ -22,11 +22,9 @@ pub fn write_sheet(table: &[u8], n: u32) -> Result<Vec<u8>, Fault> {
 }
 
 /// The same with a lent room of `room` bytes: 16 where the sheet is longer.
-pub fn write_sheet_within(table: &[u8], n: u32, room: usize) -> Result<Vec<u8>, u32> {
-    let sheet = write_sheet(table, n).map_err(|fault| fault.number)?;
-    if sheet.len() > room {
-        return Err(16);
-    }
+pub fn write_sheet_within(table: &[u8], n: u32, room: usize) -> Result<Vec<u8>, Fault> {
+    let sheet = write_sheet(table, n)?;
+    refuse(sheet.len() > room, ROOM)?;
     Ok(sheet)
 }
 

@@ -3,7 +3,7 @@
 //! refusals).
 
 use crate::actions;
-use crate::bytes::{self, judge, Bytes, Fault};
+use crate::bytes::{self, refuse, Bytes, Fault};
 use crate::cluster;
 use crate::lookup::{Found, Lookup, Run};
 use crate::machine::{self, GlyphClasses, Machine};
@@ -59,10 +59,9 @@ pub fn check_table(table: &[u8], n: u32) -> Result<(), Fault> {
 /// Reads the table with N.
 pub fn read_table(table: &[u8], n: u32) -> Result<Table<'_>, Fault> {
     let bytes = Bytes(table);
-    judge((LEAST_LENGTH..=MOST_LENGTH).contains(&table.len()), bytes::LENGTH, 0)?;
-    judge((1..=MOST_GLYPHS).contains(&n), bytes::GLYPH_COUNT, 0)?;
-    judge(bytes.u32(0)? == VERSION, bytes::HEADER, 0)?;
-    judge(bytes.u16(4)? == 0, bytes::HEADER, 4)?;
+    refuse(!(LEAST_LENGTH..=MOST_LENGTH).contains(&table.len()), bytes::LENGTH)?;
+    refuse(!(1..=MOST_GLYPHS).contains(&n), bytes::GLYPH_COUNT)?;
+    refuse(bytes.u32(0)? != VERSION || bytes.u16(4)? != 0, bytes::HEADER)?;
     let horizontal = read_direction(bytes, bytes.u16(6)?, n)?;
     let vertical = read_direction(bytes, bytes.u16(8)?, n)?;
     Ok(Table { bytes, n, sides: [horizontal, vertical] })

@@ -40,18 +40,19 @@ fn lengths_and_header() {
     let table = empty_table();
     accepted(&table, 1);
     accepted(&table, 65_535);
-    assert_eq!(fault(&table[..9], 1).0, 1);
-    assert_eq!(fault(&[], 0).0, 1);
+    // Refusals 1 to 3 have no offset.
+    assert_eq!(fault(&table[..9], 1), (1, 0));
+    assert_eq!(fault(&[], 0), (1, 0));
     let mut long = table.clone();
     long.resize(32_768, 0xAA);
     accepted(&long, 1);
     long.push(0);
-    assert_eq!(fault(&long, 0).0, 1);
-    assert_eq!(fault(&table, 0).0, 2);
-    assert_eq!(fault(&table, 65_536).0, 2);
-    assert_eq!(fault(&[0; 10], 65_536).0, 2);
+    assert_eq!(fault(&long, 0), (1, 0));
+    assert_eq!(fault(&table, 0), (2, 0));
+    assert_eq!(fault(&table, 65_536), (2, 0));
+    assert_eq!(fault(&[0; 10], 65_536), (2, 0));
     assert_eq!(fault(&[0; 10], 1), (3, 0));
-    assert_eq!(fault(&Fields::new().l(0x0001_0000).ws(&[1, 0, 0]).done(), 1), (3, 4));
+    assert_eq!(fault(&Fields::new().l(0x0001_0000).ws(&[1, 0, 0]).done(), 1), (3, 0));
 }
 
 #[test]
@@ -296,4 +297,71 @@ fn the_machine_comes_before_the_lookup() {
     assert_eq!(fault(&table, 1), (5, 16));
     let table = head(10, 1).ws(&[0, 0, 0xFFFF]).ws(&[8, 0, 0]).done();
     assert_eq!(fault(&table, 1), (4, 0xFFFF));
+}
+
+// Document 02, request 4/14.
+
+#[test]
+fn every_call_gives_the_same_offset() {
+    // A grow limit past 16 em, in the field at 32.
+    let table = with_cluster(&Fields::new().l(1).l(0).ls(&[0x0010_0001, 0, 0, 0]).ws(&[0, 0]).done());
+    let expected = Fault { number: 6, at: 32 };
+    assert_eq!(check_table(&table, 1), Err(expected));
+    assert_eq!(read_table(&table, 1).map(|_| ()), Err(expected));
+    assert_eq!(write_sheet(&table, 1), Err(expected));
+    assert_eq!(write_sheet_within(&table, 1, 0), Err(expected));
+    assert_eq!(sheet_length(&table, 1), Err(expected));
+    assert_eq!(find(&table, 1, Horizontal, Which::Width, 0), Err(expected));
+    // The table comes before the line, whatever is lent.
+    let input = LineInput { table: &table, n: 1, line: line(&[5], &[], -1, 0) };
+    assert_eq!(justify(&input, 7, 8, 9, 0), Err(expected));
+}
+
+#[test]
+fn other_refusals_have_offset_0() {
+    let table = with_list(&Fields::new().l(1).ws(&[0, 0]).l(24).ls(&[1, 2]).ws(&[3, 1, 0]).done());
+    let zero = |number| Some(Fault { number, at: 0 });
+    assert_eq!(write_sheet_within(&table, 1, 67).err(), zero(16));
+    assert_eq!(open_sheet(&[0; 68]).err(), zero(17));
+    assert!(open_sheet(&write_sheet(&table, 1).unwrap()).is_ok());
+    let of = |line: Line, lent: usize, room| justify(&LineInput { table: &table, n: 1, line }, lent, 1, 1, room).err();
+    assert_eq!(of(line(&[0], &[0], 0, 1), 2, 1), zero(9));
+    assert_eq!(of(line(&[0], &[0], 0, 0), 1, 1), zero(11));
+    assert_eq!(of(line(&[0], &[-1], 0, 1), 1, 1), zero(12));
+    assert_eq!(of(line(&[1], &[0], 0, 1), 1, 1), zero(13));
+    assert_eq!(of(line(&[0], &[0], 0, 65_536), 1, 0), zero(16));
+    assert_eq!(of(line(&[0], &[0], 0, 65_536), 1, 1), None);
+}
+
+#[test]
+fn offsets_count_from_the_tables_start_in_both_directions() {
+    // Horizontal at 10 is sound; vertical at 22 has its own lookup at 28.
+    let two = |vertical: &[u16]| head(10, 22).ws(&[0, 0, 0, 8, 0, 0]).ws(vertical).done();
+    assert_eq!(fault(&two(&[0, 0, 0, 9]), 1), (5, 28));
+    assert_eq!(fault(&two(&[0, 0, 0, 2, 5]), 1), (5, 30));
+    // A unit whose first, at 42, is past its last, at 40.
+    assert_eq!(fault(&two(&[0, 0, 0, 2, 6, 1, 0, 0, 0, 1, 2, 0]), 1), (5, 42));
+    assert_eq!(fault(&two(&[0, 0, 0, 2, 6, 1, 0, 0, 0, 1]), 1), (4, 42));
+    // A cluster at 0x9000 + 0x9000: past the end and past 16 bits.
+    assert_eq!(fault(&two(&[0, 0x9000, 0, 8, 0, 1, 0x9000]), 1), (4, 0x1_2000));
+    // A lookup of the action part that is none is 5, not 8.
+    assert_eq!(fault(&two(&[0, 0, 40, 8, 0, 0, 0, 0, 0, 7]), 1), (5, 40));
+    assert_eq!(fault(&two(&[0, 0, 42, 8, 0, 0, 0, 0, 0, 7]), 1), (4, 42));
+    assert_eq!(fault(&two(&[0, 0, 34, 8, 0, 0, 7]), 1), (5, 34));
+}
+
+#[test]
+fn a_missing_byte_is_told_by_its_fields_first() {
+    // The 32-bit count at 24 with 0 to 3 bytes of it there.
+    for there in 0..4 {
+        assert_eq!(fault(&with_cluster(&vec![0; there]), 1), (4, 24));
+    }
+    // The limit at 32 with 1 to 3 bytes of it there.
+    for there in 1..4 {
+        let cluster = Fields::new().l(1).l(0).bs(&vec![0; there]).done();
+        assert_eq!(fault(&with_cluster(&cluster), 1), (4, 32));
+    }
+    // An action that starts past 2^32: the list is at 30, the action at 34.
+    let list = Fields::new().l(2).ws(&[0, 3]).l(0xFFFF_FFFC).done();
+    assert_eq!(fault(&with_list(&list), 1), (4, 0x1_0000_001E));
 }

@@ -5,6 +5,7 @@ use std::collections::BTreeMap;
 
 use reference::bytes::get_u16;
 use reference::generate;
+use reference::generate::rng::Rng;
 use reference::line::{classes_of, rooms_of};
 use reference::*;
 
@@ -167,6 +168,38 @@ fn tables_meet_every_refusal() {
 }
 
 #[test]
+fn faults_fall_on_every_kind_of_field() {
+    let mut met: BTreeMap<(u32, String), usize> = BTreeMap::new();
+    let mut note = |number: u32, kind: String| *met.entry((number, kind)).or_default() += 1;
+    for index in 0..DRAWS {
+        let (table, n) = generate::tables::faulty(&mut Rng::new(SEED, index, 6));
+        assert_eq!((table.bytes.clone(), n), generate::faulty_table(SEED, index));
+        let fault = check_table(&table.bytes, n).unwrap_err();
+        if fault.number == 4 {
+            let length = table.len() as u64;
+            let past = [fault.at < length, fault.at == length, fault.at > 65_536, fault.at > 1 << 32];
+            let names = ["begins inside", "at the end", "past 16 bits", "past 32 bits"];
+            names.iter().zip(past).filter(|(_, met)| *met).for_each(|(name, _)| note(4, name.to_string()));
+        } else if let Some(mark) = table.marks.iter().find(|mark| mark.at as u64 == fault.at) {
+            note(fault.number, format!("{:?}", mark.kind));
+        }
+    }
+    println!("{met:?}");
+    let wanted: [(u32, &[&str]); 5] = [
+        (4, &["begins inside", "at the end", "past 16 bits", "past 32 bits"]),
+        (5, &["LookupFormat", "UnitSize", "UnitBound"]),
+        (6, &["ClusterCount", "PairClass", "Grow", "Shrink", "Flags"]),
+        (7, &["ClassCount", "ClassByte", "EntryRow"]),
+        (8, &["ActionCount", "ActionClass", "ActionKind", "InnerLength", "ComponentCount", "Glyph", "AddedGlyph"]),
+    ];
+    for (number, kinds) in wanted {
+        for kind in kinds {
+            assert!(met.get(&(number, kind.to_string())).is_some_and(|&count| count >= 10), "{number} {kind}");
+        }
+    }
+}
+
+#[test]
 fn lines_meet_every_refusal() {
     let mut counts = [0usize; 17];
     let mut kinds = Kinds::new();
@@ -178,9 +211,9 @@ fn lines_meet_every_refusal() {
                 counts[0] += 1;
                 note_kinds(&case, &answer, &mut kinds);
             }
-            Err(number) => {
-                counts[number as usize] += 1;
-                if number == 15 {
+            Err(fault) => {
+                counts[fault.number as usize] += 1;
+                if fault.number == 15 {
                     stages_past_the_cap(&case).iter().for_each(|&stage| past[stage] += 1);
                 }
             }
@@ -286,7 +319,7 @@ fn lines_meet_the_greatest_numbers() {
     let mut notes = [0; GREATEST.len()];
     for index in 0..DRAWS {
         let case = generate::line(SEED, index);
-        if matches!(case.justify(), Ok(_) | Err(15)) {
+        if matches!(case.justify(), Ok(_) | Err(Fault { number: 15, at: 0 })) {
             note_greatest(&case, &mut notes);
         }
     }

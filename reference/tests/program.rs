@@ -37,6 +37,9 @@ fn refusals() {
     assert_eq!(print(&with_count(1, &[0; 9])), "refused 1\n");
     let outside = Fields::new().l(0x0001_0000).ws(&[0, 10, 0]).done();
     assert_eq!(print(&with_count(1, &outside)), "refused 4\n");
+    // The offset of request 4/14 is not printed.
+    let format = Fields::new().l(0x0001_0000).ws(&[0, 10, 0]).ws(&[0, 0, 0, 9]).done();
+    assert_eq!(print(&with_count(1, &format)), "refused 5\n");
 }
 
 #[test]

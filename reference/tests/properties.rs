@@ -119,12 +119,55 @@ fn faults_are_where_they_say() {
         if let Err(fault) = check_table(&table, n) {
             let length = table.len() as u64;
             match fault.number {
-                1..=3 => assert!(fault.at <= 4),
+                1..=3 => assert_eq!(fault.at, 0),
                 4 => assert!(fault.at + 4 > length),
                 5..=8 => assert!(fault.at < length),
                 number => panic!("{number}"),
             }
         }
+    }
+}
+
+#[test]
+fn refusal_4_names_the_field_that_is_missing() {
+    // With the table filled up to the field, but not into it, nothing changes;
+    // with all of the field there, something does.
+    let mut filled = 0;
+    for index in 0..3_000 {
+        let (table, n) = generate::faulty_table(SEED, index);
+        let fault = check_table(&table, n).unwrap_err();
+        if fault.number != 4 || fault.at + 4 > 32_768 {
+            continue;
+        }
+        let long = |length: usize| {
+            let mut long = table.clone();
+            long.resize(length.max(table.len()), 0);
+            check_table(&long, n)
+        };
+        assert_eq!(long(fault.at as usize), Err(fault), "draw {index}");
+        assert_ne!(long(fault.at as usize + 4), Err(fault), "draw {index}");
+        filled += 1;
+    }
+    assert!(filled > 300, "{filled}");
+}
+
+#[test]
+fn refusals_5_to_8_name_a_field_that_is_judged() {
+    // Bytes that end ahead of the field are refused 4 there, or at another
+    // field that is read earlier and lies past the cut.
+    for index in 0..3_000 {
+        let (table, n) = generate::faulty_table(SEED, index);
+        let fault = check_table(&table, n).unwrap_err();
+        if fault.number == 4 || fault.at < 10 {
+            continue;
+        }
+        let cut = check_table(&table[..fault.at as usize], n).unwrap_err();
+        assert!(cut.number == 4 && cut.at + 4 > fault.at, "draw {index}: {cut:?}");
+        // Bytes past the field that is judged, and past all read before it,
+        // cannot matter: a whole tail of zeros changes nothing.
+        let mut long = table.clone();
+        long.resize(32_768, 0);
+        assert_eq!(check_table(&long, n), Err(fault), "draw {index}");
     }
 }
 
@@ -412,9 +455,9 @@ fn lines_are_refused_for_their_first_fault() {
         note(case.glyphs.iter().any(|&glyph| glyph != 0xFFFF && glyph as u32 >= case.n), 13);
         let table = read_table(&case.table, case.n);
         let expected = match (&table, faults.first()) {
-            (Err(fault), _) => Some(fault.number),
-            (_, Some(&number)) => Some(number),
-            (Ok(table), None) => late_fault(table, &case, sum),
+            (Err(fault), _) => Some(*fault),
+            (_, Some(&number)) => Some(Fault::plain(number)),
+            (Ok(table), None) => late_fault(table, &case, sum).map(Fault::plain),
         };
         assert_eq!(case.justify().err(), expected, "draw {index}");
     }

@@ -217,9 +217,9 @@ fn line_refusals_in_order() {
     assert_eq!(check(line(&[1], &[-1], 0, 1)), Err(12));
     let input = LineInput { table: &table, n: 1, line: line(&[1], &[0], 0, 0) };
     for (classes, before, after) in [(0, 1, 1), (1, 2, 1), (1, 1, 0), (2, 2, 2)] {
-        assert_eq!(justify(&input, classes, before, after, 0), Err(9));
+        assert_eq!(justify(&input, classes, before, after, 0), Err(Fault::plain(9)));
     }
-    assert_eq!(justify(&input, 1, 1, 1, 0), Err(11));
+    assert_eq!(justify(&input, 1, 1, 1, 0), Err(Fault::plain(11)));
     assert_eq!(run(&table[..9], 0, line(&[1], &[], 0, 0), 0), Err(1));
     assert_eq!(run(&table, 0, line(&[1], &[], 0, 0), 0), Err(2));
 }

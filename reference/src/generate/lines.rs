@@ -5,6 +5,7 @@ use super::parts::{Style, ALL_PRIORITIES};
 use super::rng::Rng;
 use super::tables;
 use crate::actions;
+use crate::bytes::Fault;
 use crate::line::{classes_of, justify, rooms_of, Justified, Line, LineInput, MOST_SIZE, MOST_WIDTH};
 use crate::meaning::{Direction, DELETED};
 use crate::share::totals;
@@ -46,7 +47,7 @@ impl LineCase {
     }
 
     /// The answer to the call.
-    pub fn justify(&self) -> Result<Justified, u32> {
+    pub fn justify(&self) -> Result<Justified, Fault> {
         justify(&self.input(), self.classes_len, self.before_len, self.after_len, self.room)
     }
 }
@@ -122,7 +123,7 @@ fn count_fired(case: &LineCase) -> usize {
     unbounded(case).map_or(0, |answer| answer.verdicts.len())
 }
 
-fn unbounded(case: &LineCase) -> Result<Justified, u32> {
+fn unbounded(case: &LineCase) -> Result<Justified, Fault> {
     justify(&case.input(), case.classes_len, case.before_len, case.after_len, usize::MAX)
 }
 

@@ -33,6 +33,12 @@ pub fn long_table(seed: u64, index: u64) -> (Vec<u8>, u32) {
     (tables::sound(&mut rng, n, Style::LONG).bytes, n)
 }
 
+/// A table that refusal 4, 5, 6, 7 or 8 bars, and its glyph count.
+pub fn faulty_table(seed: u64, index: u64) -> (Vec<u8>, u32) {
+    let (table, n) = tables::faulty(&mut Rng::new(seed, index, 6));
+    (table.bytes, n)
+}
+
 /// A table with a line on it; about half of them are accepted.
 pub fn line(seed: u64, index: u64) -> LineCase {
     lines::draw(&mut Rng::new(seed, index, 3))

@@ -4,7 +4,7 @@ use super::draft::{Draft, Kind, Mark};
 use super::parts::{self, LookupDraft, Style};
 use super::rng::Rng;
 use crate::meaning::LIMIT;
-use crate::table::{MOST_GLYPHS, MOST_LENGTH};
+use crate::table::{check_table, MOST_GLYPHS, MOST_LENGTH};
 
 /// A glyph count: mostly small, sometimes as great as it can be.
 pub fn glyph_count(rng: &mut Rng) -> u32 {
@@ -337,6 +337,25 @@ fn noise(rng: &mut Rng) -> Draft {
         table.bytes.push(byte);
     }
     table
+}
+
+/// A table that refusal 4, 5, 6, 7 or 8 bars, with a note of its fields, and
+/// its glyph count. Where it is spoiled in several places, the first in the
+/// order of reading is the one to be named (document 02, request 4/14).
+pub fn faulty(rng: &mut Rng) -> (Draft, u32) {
+    loop {
+        let n = glyph_count(rng);
+        let mut table = sound(rng, n, Style::SMALL);
+        for _ in 0..rng.between(1, 3) {
+            spoil_field(rng, &mut table, n);
+        }
+        if rng.chance(25) {
+            truncate(rng, &mut table);
+        }
+        if check_table(&table.bytes, n).is_err_and(|fault| (4..=8).contains(&fault.number)) {
+            return (table, n);
+        }
+    }
 }
 
 /// A table and its glyph count.

@@ -1,7 +1,7 @@
 //! Lines and their answers, for tests.
 #![allow(dead_code)]
 
-use reference::{Line, LineInput};
+use reference::{Fault, Justified, Line, LineInput};
 
 pub use reference::examples::Fields;
 
@@ -39,10 +39,17 @@ pub fn line<'a>(glyphs: &'a [u16], advances: &'a [i64], target: i64, size: i64) 
     Line { direction: reference::Direction::Horizontal, starts: true, ends: true, size, glyphs, advances, target }
 }
 
-/// Justifies with lent buffers of the right lengths.
-pub fn run(table: &[u8], n: u32, line: Line, room: usize) -> Result<reference::Justified, u32> {
+/// The number of a refusal that has no offset.
+pub fn number(fault: Fault) -> u32 {
+    assert_eq!(fault.at, 0, "{fault:?}");
+    fault.number
+}
+
+/// Justifies with lent buffers of the right lengths; a line's refusal has no
+/// offset.
+pub fn run(table: &[u8], n: u32, line: Line, room: usize) -> Result<Justified, u32> {
     let count = line.glyphs.len();
-    reference::justify(&LineInput { table, n, line }, count, count, count, room)
+    reference::justify(&LineInput { table, n, line }, count, count, count, room).map_err(number)
 }
 
 pub const TWELVE_POINTS: i64 = 12 * 65_536;
