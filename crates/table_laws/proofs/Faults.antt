@@ -1,5 +1,5 @@
--- The first fault of a table in plain words (document 01, "Numbers of refusal"): it is refused exactly when one of the listed faults holds, with the number of the
--- first; the header's refusals in terms of length, glyph count, version and format; horizontal before vertical.
+-- The first fault of a table in plain words (document 01, "Numbers of refusal"): it is refused exactly when one of the listed faults holds, with the number and
+-- the offset of the first; the header's refusals in terms of length, glyph count, version and format; horizontal before vertical.
 use Prim.Native.Nat.{ℕ, zero, suc, _+_, _≤_, _<_}
 use mathlib.Core.Path.{_≡_, refl, sym, ap, ap₂, _∙_, subst}
 use mathlib.Core.Bool.{Bool, true, false}

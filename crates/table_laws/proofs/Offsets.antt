@@ -2,16 +2,18 @@
 use mathlib.Core.Path.{_≡_, refl}
 use Rattle.fields.specs.Field.{u16At, u32At}
 use Rattle.fields.specs.Faults.{_then_, rule, inside}
-use Rattle.fields.specs.Walk.{walk, each}
+use Rattle.fields.specs.Walk.{walk}
 use Rattle.answers.specs.Says.{barred, judgedBy}
-use Rattle.lookup.specs.Units.{arrayFault, below}
-use Rattle.lookup.specs.Lookup.{trimmedFault, formatFault, lookupFault}
+use Rattle.lookup.specs.Units.{unitSize, rangeFault, unitFault}
+use Rattle.lookup.specs.Lookup.{countedFault, trimmedFault, formatFault, lookupFault}
 use Rattle.lookup.specs.Find.{hasUnits, trimmedValue, valueFrom, valueOf}
-use Rattle.cluster.specs.Faults.{clusterFault}
-use Rattle.actions.specs.Faults.{listFault}
-use Rattle.machine.specs.Machine.{headFault, machineFault}
+use Rattle.units.specs.Fixed.{fixedSize}
+use Rattle.cluster.specs.Faults.{classAt, classFault, growFault, shrinkFault, pairFault, clusterFault}
+use Rattle.actions.specs.Faults.{lengthFault, countFault, type0Fault, dataFault, actionFault, listFault}
+use Rattle.machine.specs.Rows.{entryFault, cellFault, rowFault, faultFrom}
+use Rattle.machine.specs.Machine.{headFault, classTableFault, machineFault}
 use Rattle.lookup_targets.specs.Values.{glyphFault, valuesFault}
-use Rattle.table_laws.specs.Samples.{cutTable, oddFormat, emptyCluster, fewClasses, longList}
+use Rattle.table_laws.specs.Samples.{cutTable, oddFormat, emptyCluster, fewClasses, longList, lowUnit, farShrink, rowBetween, tightLigature, farAction, halfField}
 use Rattle.table.specs.Table.{present, headerFault, offsetsFault, machinePart, actionPart, directionFault, tableFault}
 
 pub cut-at-12 : judgedBy (tableFault cutTable 1) ≡ barred 4 12
@@ -33,3 +35,30 @@ classes-at-24 = refl
 pub count-at-30 : judgedBy (tableFault longList 1) ≡ barred 8 30
 unfolding longList tableFault headerFault directionFault present offsetsFault machinePart actionPart valuesFault glyphFault lookupFault formatFault trimmedFault listFault walk valueOf valueFrom trimmedValue hasUnits inside rule _then_ u16At u32At
 count-at-30 = refl
+
+-- fields that are not the first of their part
+
+pub first-at-36 : judgedBy (tableFault lowUnit 1) ≡ barred 5 36
+unfolding lowUnit tableFault headerFault directionFault present offsetsFault machinePart valuesFault glyphFault lookupFault formatFault countedFault unitFault rangeFault unitSize walk inside rule _then_ u16At u32At
+first-at-36 = refl
+
+pub shrink-at-44 : judgedBy (tableFault farShrink 1) ≡ barred 6 44
+unfolding farShrink tableFault headerFault directionFault present offsetsFault machinePart valuesFault glyphFault lookupFault formatFault trimmedFault clusterFault pairFault classFault classAt growFault shrinkFault fixedSize walk valueOf valueFrom trimmedValue hasUnits inside rule _then_ u16At u32At
+shrink-at-44 = refl
+
+pub row-at-42 : judgedBy (tableFault rowBetween 1) ≡ barred 7 42
+unfolding rowBetween tableFault headerFault directionFault present offsetsFault machinePart machineFault headFault classTableFault faultFrom rowFault cellFault entryFault walk inside rule _then_ u16At u32At
+row-at-42 = refl
+
+pub size-at-52 : judgedBy (tableFault tightLigature 1) ≡ barred 8 52
+unfolding tightLigature tableFault headerFault directionFault present offsetsFault machinePart actionPart valuesFault glyphFault lookupFault formatFault trimmedFault listFault actionFault lengthFault dataFault type0Fault countFault walk valueOf valueFrom trimmedValue hasUnits inside rule _then_ u16At u32At
+size-at-52 = refl
+
+-- a field past 32 bits, and one that begins inside
+pub next-past-32-bits : judgedBy (tableFault farAction 1) ≡ barred 4 4294967326
+unfolding farAction tableFault headerFault directionFault present offsetsFault machinePart actionPart valuesFault glyphFault lookupFault formatFault trimmedFault listFault actionFault lengthFault dataFault walk valueOf valueFrom trimmedValue hasUnits inside rule _then_ u16At u32At
+next-past-32-bits = refl
+
+pub half-at-12 : judgedBy (tableFault halfField 1) ≡ barred 4 12
+unfolding halfField tableFault headerFault directionFault present offsetsFault machinePart inside rule _then_ u16At u32At
+half-at-12 = refl
