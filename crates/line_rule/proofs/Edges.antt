@@ -154,10 +154,10 @@ walk-aimed (some m) l u = refl
 module _ (s : Side) (l : Line) where
   -- the parts of the glyphs, by whether the line shrinks
   abbrev parts : Bool → List Glyph
-  parts b = partsOf s b (l .size) (l .glyphs) (classesOf (walkOf (s .machine) l))
+  parts b = partsOf s b (l .sizes) (l .glyphs) (classesOf (walkOf (s .machine) l))
 
   parts-aimed : (u : ℤ) → partsFor s (aimed l u) ≡ parts (shrinks (aimed l u))
-  parts-aimed u = ap (λ c. partsOf s (shrinks (aimed l u)) (l .size) (l .glyphs) (classesOf c)) (walk-aimed (s .machine) l u)
+  parts-aimed u = ap (λ c. partsOf s (shrinks (aimed l u)) (l .sizes) (l .glyphs) (classesOf c)) (walk-aimed (s .machine) l u)
 
   abbrev left : ℤ → ℕ → ℤ
   left u i = leftEdge (l .advances) (beforeOf s (aimed l u)) (afterOf s (aimed l u)) i

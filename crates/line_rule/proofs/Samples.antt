@@ -2,16 +2,17 @@
 use Prim.Native.Nat.{ℕ}
 use mathlib.Core.Path.{_≡_, refl}
 use mathlib.Core.Bool.{true, false}
-use mathlib.Core.Option.{some}
+use mathlib.Core.Option.{none, some}
 use mathlib.Core.List.{List, [], _∷_, map}
 use lib.IntN.{ℤ, pos, negℤ}
+use Rattle.fields.specs.Field.{u16At, u32At}
 use Rattle.types.specs.declared.Direction.the-variants.{Horizontal}
 use Rattle.types.specs.declared.Pair.{Pair}
 use Rattle.types.specs.declared.Verdict.{Verdict}
-use Rattle.meaning.specs.Meaning.{Machine, Action}
+use Rattle.meaning.specs.Meaning.{Machine, Action, Side}
 use Rattle.share.specs.Line.{Glyph}
-use Rattle.verdict.specs.Verdict.{adds, stretches, typeFires, firesOf}
-use Rattle.line_rule.specs.Line.{Line, gapOf, shrinks, gapSize, columnOf, stageOf, partOf, firings}
+use Rattle.verdict.specs.Verdict.{breaks, adds, substitutes, stretches, typeFires, firesOf}
+use Rattle.line_rule.specs.Line.{Line, gapOf, shrinks, gapSize, columnOf, stageOf, partOf, partsOf, firings, verdictsFrom}
 use Rattle.line_rule.specs.Edges.{leftEdge, rightEdge}
 
 -- two glyphs of 10 units each, with a target
@@ -21,7 +22,7 @@ line target =
       direction = Horizontal;
       starts = true;
       ends = true;
-      size = 65536;
+      sizes = 65536 ∷ 65536 ∷ [];
       glyphs = 3 ∷ 4 ∷ [];
       advances = pos 10 ∷ pos 10 ∷ [];
       target = target;
@@ -69,6 +70,31 @@ verdict place number = record { place = place; action = number; substitutes = 0 
 pub numbers : firings 9 7 65536 (negℤ (pos 5)) 0 (action 8 3 ∷ action 7 1 ∷ action 7 3 ∷ action 7 4 ∷ []) ≡ verdict 9 2 ∷ verdict 9 3 ∷ []
 unfolding firings firesOf typeFires adds stretches
 numbers = refl
+
+-- one record and one list of actions for two glyphs, the second at twice the size of the first (document 02, request 5/14): its factors are twice the first's. Both
+-- grow by one and a half times the first's size: past a threshold and an upper limit of 1 em there, short of both at the second's size
+abbrev oneEm : List ℕ
+oneEm = 0 ∷ 1 ∷ 0 ∷ 0 ∷ []
+
+abbrev side : Side
+side =
+    record {
+      machine = none;
+      clusters = (pair ∷ []) ∷ [];
+      lists = (record { class = 0; ty = 2; content = oneEm } ∷ record { class = 0; ty = 0; content = 0 ∷ 0 ∷ 0 ∷ 0 ∷ oneEm } ∷ []) ∷ [];
+    }
+
+abbrev doubled : List ℕ
+doubled = 65536 ∷ 131072 ∷ []
+
+pub own-factors : partsOf side false doubled (0 ∷ 0 ∷ []) (0 ∷ 0 ∷ []) ≡ part 1 1 65536 98304 ∷ part 1 1 131072 196608 ∷ []
+unfolding partsOf
+own-factors = refl
+
+pub own-verdicts : verdictsFrom side 0 doubled (0 ∷ 0 ∷ []) (0 ∷ 0 ∷ []) (pos 65536 ∷ pos 65536 ∷ []) (pos 32768 ∷ pos 32768 ∷ [])
+    ≡ record { place = 0; action = 0; substitutes = 1 } ∷ verdict 0 1 ∷ verdict 1 0 ∷ []
+unfolding verdictsFrom firings firesOf typeFires breaks substitutes u32At u16At
+own-verdicts = refl
 
 -- three glyphs: the third one's edges count the advances and movements of the first two once each, its own before movement in both, its advance and after movement in the
 -- right edge alone

@@ -25,12 +25,12 @@ use Rattle.verdict.specs.declared.Fires.{Fires}
 use Rattle.verdict.specs.declared.Fires.the-variants.{No, Plain, Substitutes}
 use Rattle.verdict.specs.Verdict.{firesOf}
 
--- a line: its direction, whether it starts and ends the text, its point size, its glyphs with their advances, and its target, in units
+-- a line: its direction, whether it starts and ends the text, its glyphs with the point size (document 02, request 5/14) and the advance of each, and its target, in units
 pub record Line : Type 0 where
   pub direction : Direction
   pub starts : Bool
   pub ends : Bool
-  pub size : ℕ
+  pub sizes : List ℕ
   pub glyphs : List ℕ
   pub advances : List ℤ
   pub target : ℤ
@@ -110,16 +110,17 @@ partOf shrink size none = apart
 partOf true size (some p) = partBy size (p .flags .shrink) (p .before .shrink) (p .after .shrink)
 partOf false size (some p) = partBy size (p .flags .grow) (p .before .grow) (p .after .grow)
 
--- the parts of the line's glyphs, with their classes
-unfoldable pub partsOf : Side → Bool → ℕ → List ℕ → List ℕ → List Glyph
-partsOf s shrink size [] cs = []
-partsOf s shrink size (g ∷ gs) [] = []
-partsOf s shrink size (g ∷ gs) (c ∷ cs) = partOf shrink size (recordFor s g c) ∷ partsOf s shrink size gs cs
+-- the parts of the line's glyphs, each at its own size, with their classes
+unfoldable pub partsOf : Side → Bool → List ℕ → List ℕ → List ℕ → List Glyph
+partsOf s shrink [] gs cs = []
+partsOf s shrink (z ∷ zs) [] cs = []
+partsOf s shrink (z ∷ zs) (g ∷ gs) [] = []
+partsOf s shrink (z ∷ zs) (g ∷ gs) (c ∷ cs) = partOf shrink z (recordFor s g c) ∷ partsOf s shrink zs gs cs
 
 -- ---- the movements
 
 abbrev pub partsFor : Side → Line → List Glyph
-partsFor s l = partsOf s (shrinks l) (l .size) (l .glyphs) (classesOf (walkOf (s .machine) l))
+partsFor s l = partsOf s (shrinks l) (l .sizes) (l .glyphs) (classesOf (walkOf (s .machine) l))
 
 unfoldable pub beforeOf : Side → Line → List ℤ
 beforeOf s l = map (signedOf (shrinks l)) (beforeMoves (partsFor s l) (gapSize l))
@@ -144,14 +145,15 @@ firings place class size growth number [] = []
 firings place class size growth number (a ∷ rest) =
     recordIf (firesOf a class growth size) place number ++ firings place class size growth (suc number) rest
 
--- those of the glyphs from a place on, with their classes and their two movements
-unfoldable pub verdictsFrom : Side → ℕ → ℕ → List ℕ → List ℕ → List ℤ → List ℤ → List Verdict
-verdictsFrom s size place [] cs bs fs = []
-verdictsFrom s size place (g ∷ gs) [] bs fs = []
-verdictsFrom s size place (g ∷ gs) (c ∷ cs) [] fs = []
-verdictsFrom s size place (g ∷ gs) (c ∷ cs) (b ∷ bs) [] = []
-verdictsFrom s size place (g ∷ gs) (c ∷ cs) (b ∷ bs) (f ∷ fs) =
-    firings place c size (b +ℤ f) 0 (getD (s .lists) g []) ++ verdictsFrom s size (suc place) gs cs bs fs
+-- those of the glyphs from a place on, each at its own size, with their classes and their two movements
+unfoldable pub verdictsFrom : Side → ℕ → List ℕ → List ℕ → List ℕ → List ℤ → List ℤ → List Verdict
+verdictsFrom s place [] gs cs bs fs = []
+verdictsFrom s place (z ∷ zs) [] cs bs fs = []
+verdictsFrom s place (z ∷ zs) (g ∷ gs) [] bs fs = []
+verdictsFrom s place (z ∷ zs) (g ∷ gs) (c ∷ cs) [] fs = []
+verdictsFrom s place (z ∷ zs) (g ∷ gs) (c ∷ cs) (b ∷ bs) [] = []
+verdictsFrom s place (z ∷ zs) (g ∷ gs) (c ∷ cs) (b ∷ bs) (f ∷ fs) =
+    firings place c z (b +ℤ f) 0 (getD (s .lists) g []) ++ verdictsFrom s (suc place) zs gs cs bs fs
 
 unfoldable pub verdictsOf : Side → Line → List Verdict
-verdictsOf s l = verdictsFrom s (l .size) 0 (l .glyphs) (classesOf (walkOf (s .machine) l)) (beforeOf s l) (afterOf s l)
+verdictsOf s l = verdictsFrom s 0 (l .sizes) (l .glyphs) (classesOf (walkOf (s .machine) l)) (beforeOf s l) (afterOf s l)

@@ -2,12 +2,11 @@
 // and "Verdicts"). The definitions stand in specs/; here is only what a line's call is told in numbers.
 use types::Direction;
 
-// A line but for its glyphs and their advances: its direction, whether it starts and ends the text, its point size, and
-// its target, in units. It goes by value from the call to where each is used.
+// A line but for its glyphs, their point sizes and advances: its direction, whether it starts and ends the text, and its
+// target, in units. It goes by value from the call to where each is used.
 pub struct LineShape {
     pub direction: Direction,
     pub starts: bool,
     pub ends: bool,
-    pub size: u32,
     pub target: i32,
 }
