@@ -39,7 +39,7 @@ use Rattle.share.specs.Line.{Glyph, apart, Narrow}
 use Rattle.share.proofs.Lists.{div-mono}
 use Rattle.share.proofs.Fill.{fill-again, fill-end}
 use Rattle.line_rule.specs.Line.{recordFor, unitsOf, partBy, partOf, partsOf}
-use Rattle.line_moves.specs.Parts.{Small, IsSize, PartOf, PartsRoom, Laid}
+use Rattle.line_moves.specs.Parts.{SmallSizes, Small, IsSize, PartOf, PartsRoom, Laid}
 use Rattle.line_moves.specs.declared.Part.{Part}
 
 -- ---- factors
@@ -95,34 +95,38 @@ more-narrow : {x : ℕ} (xs : List ℕ) → x ≤ widest → Narrow xs → Narro
 more-narrow xs h r zero = h
 more-narrow xs h r (suc i) = r i
 
-pub parts-narrow : (s : Side) (shrink : Bool) (size : ℕ) → ((g c : ℕ) → Small (recordFor s g c)) → size ≤ 67108864 → (gs cs : List ℕ)
-    → Narrow (map (λ (g : Glyph). g .before) (partsOf s shrink size gs cs)) × Narrow (map (λ (g : Glyph). g .after) (partsOf s shrink size gs cs))
+pub parts-narrow : (s : Side) (shrink : Bool) → ((g c : ℕ) → Small (recordFor s g c)) → (zs : List ℕ) → SmallSizes zs → (gs cs : List ℕ)
+    → Narrow (map (λ (g : Glyph). g .before) (partsOf s shrink zs gs cs)) × Narrow (map (λ (g : Glyph). g .after) (partsOf s shrink zs gs cs))
 unfolding partsOf
-parts-narrow s shrink size w k [] cs = (λ i. omega arith, λ i. omega arith)
-parts-narrow s shrink size w k (g ∷ gs) [] = (λ i. omega arith, λ i. omega arith)
-parts-narrow s shrink size w k (g ∷ gs) (c ∷ cs) =
-    let one = part-narrow shrink size (recordFor s g c) (w g c) k in
-    let more = parts-narrow s shrink size w k gs cs in (
-      more-narrow (map (λ (g : Glyph). g .before) (partsOf s shrink size gs cs)) (one .0) (more .0),
-      more-narrow (map (λ (g : Glyph). g .after) (partsOf s shrink size gs cs)) (one .1) (more .1),
+parts-narrow s shrink w [] k gs cs = (λ i. omega arith, λ i. omega arith)
+parts-narrow s shrink w (z ∷ zs) k [] cs = (λ i. omega arith, λ i. omega arith)
+parts-narrow s shrink w (z ∷ zs) k (g ∷ gs) [] = (λ i. omega arith, λ i. omega arith)
+parts-narrow s shrink w (z ∷ zs) k (g ∷ gs) (c ∷ cs) =
+    let one = part-narrow shrink z (recordFor s g c) (w g c) (k 0) in
+    let more = parts-narrow s shrink w zs (λ place. k (suc place)) gs cs in (
+      more-narrow (map (λ (g : Glyph). g .before) (partsOf s shrink zs gs cs)) (one .0) (more .0),
+      more-narrow (map (λ (g : Glyph). g .after) (partsOf s shrink zs gs cs)) (one .1) (more .1),
     )
 
 -- ---- the parts in four lists
 
-module _ (s : Side) (shrink : Bool) (size : ℕ) where
-  pub parts-length : (gs cs : List ℕ) → length cs ≡ length gs → length (partsOf s shrink size gs cs) ≡ length gs
+module _ (s : Side) (shrink : Bool) where
+  pub parts-length : (zs gs cs : List ℕ) → length zs ≡ length gs → length cs ≡ length gs → length (partsOf s shrink zs gs cs) ≡ length gs
   unfolding partsOf
-  parts-length [] cs e = refl
-  parts-length (g ∷ gs) [] e = absurd (omega arith)
-  parts-length (g ∷ gs) (c ∷ cs) e = ap suc (parts-length gs cs (omega arith))
+  parts-length [] gs cs d e = d
+  parts-length (z ∷ zs) [] cs d e = refl
+  parts-length (z ∷ zs) (g ∷ gs) [] d e = absurd (omega arith)
+  parts-length (z ∷ zs) (g ∷ gs) (c ∷ cs) d e = ap suc (parts-length zs gs cs (omega arith) (omega arith))
 
-  pub parts-next : (gs cs : List ℕ) (i : ℕ) → length cs ≡ length gs → i < length gs
-      → drop i (partsOf s shrink size gs cs) ≡ partOf shrink size (recordFor s (getD gs i 0) (getD cs i 0)) ∷ drop (suc i) (partsOf s shrink size gs cs)
+  pub parts-next : (zs gs cs : List ℕ) (i : ℕ) → length zs ≡ length gs → length cs ≡ length gs → i < length gs
+      → drop i (partsOf s shrink zs gs cs)
+      ≡ partOf shrink (getD zs i 0) (recordFor s (getD gs i 0) (getD cs i 0)) ∷ drop (suc i) (partsOf s shrink zs gs cs)
   unfolding partsOf
-  parts-next [] cs i e h = absurd (omega arith)
-  parts-next (g ∷ gs) [] i e h = absurd (omega arith)
-  parts-next (g ∷ gs) (c ∷ cs) zero e h = refl
-  parts-next (g ∷ gs) (c ∷ cs) (suc i) e h = parts-next gs cs i (omega arith) (omega arith)
+  parts-next [] gs cs i d e h = absurd (omega arith)
+  parts-next (z ∷ zs) [] cs i d e h = absurd (omega arith)
+  parts-next (z ∷ zs) (g ∷ gs) [] i d e h = absurd (omega arith)
+  parts-next (z ∷ zs) (g ∷ gs) (c ∷ cs) zero d e h = refl
+  parts-next (z ∷ zs) (g ∷ gs) (c ∷ cs) (suc i) d e h = parts-next zs gs cs i (omega arith) (omega arith) (omega arith)
 
 -- ---- one glyph's part
 

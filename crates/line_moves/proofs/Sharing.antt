@@ -98,11 +98,11 @@ shared-over shrink gap ps bs fs e =
 -- ---- the gap's sign
 
 -- by the gap's sign and its size, as the code found them
-pub by-sign : (gap : ℤ) {b : Bool} {n : ℕ} (s : Side) (size : ℕ) (glyphs classes : List ℕ) {bs fs bs′ fs′ : List ℤ} {sh : Shared} → b ≡ ltZ gap (pos 0) → n ≡ natAbs gap
-    → SharedOut b n (partsOf s b size glyphs classes) bs fs sh bs′ fs′ → SharedGap gap s size glyphs classes bs fs sh bs′ fs′
-by-sign gap {b} {n} s size glyphs classes {bs} {fs} {bs′} {fs′} {sh} eb en w =
-    subst (λ (x : Bool). SharedOut x (natAbs gap) (partsOf s x size glyphs classes) bs fs sh bs′ fs′) eb
-    (subst (λ (x : ℕ). SharedOut b x (partsOf s b size glyphs classes) bs fs sh bs′ fs′) en w)
+pub by-sign : (gap : ℤ) {b : Bool} {n : ℕ} (s : Side) (sizes glyphs classes : List ℕ) {bs fs bs′ fs′ : List ℤ} {sh : Shared} → b ≡ ltZ gap (pos 0) → n ≡ natAbs gap
+    → SharedOut b n (partsOf s b sizes glyphs classes) bs fs sh bs′ fs′ → SharedGap gap s sizes glyphs classes bs fs sh bs′ fs′
+by-sign gap {b} {n} s sizes glyphs classes {bs} {fs} {bs′} {fs′} {sh} eb en w =
+    subst (λ (x : Bool). SharedOut x (natAbs gap) (partsOf s x sizes glyphs classes) bs fs sh bs′ fs′) eb
+    (subst (λ (x : ℕ). SharedOut b x (partsOf s b sizes glyphs classes) bs fs sh bs′ fs′) en w)
 
 -- a gap as it is read, and its size
 module _ (z : ℤ) (h : natAbs z ≤ 1073741823) (fits : SFits w64 z) where

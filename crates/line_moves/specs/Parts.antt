@@ -27,7 +27,11 @@ Known n gs = (place : ℕ) → place < length gs → (getD gs place 0 ≡ 0xFFFF
 -- a line of which only that is said which the class walk looks at: its glyphs, and whether it starts and ends the text
 abbrev pub bareLine : List ℕ → Bool → Bool → Line
 bareLine glyphs starts ends =
-    record { direction = Horizontal; starts = starts; ends = ends; size = 0; glyphs = glyphs; advances = []; target = pos 0 }
+    record { direction = Horizontal; starts = starts; ends = ends; sizes = []; glyphs = glyphs; advances = []; target = pos 0 }
+
+-- every size of a line's glyphs is at most 1,024 points
+abbrev pub SmallSizes : List ℕ → Type 0
+SmallSizes sizes = (place : ℕ) → getD sizes place 0 ≤ 67108864
 
 -- the limits of a width record, if there is one, are at most 16 em
 abbrev pub Small : Option Pair → Type 0
@@ -74,6 +78,6 @@ pub record SharedOut (shrink : Bool) (gap : ℕ) (gs : List Glyph) (bs fs : List
   pub before : bs′ ≡ cond (lineFits gs) (map (signedOf shrink) (beforeMoves gs gap)) bs
   pub after : fs′ ≡ cond (lineFits gs) (map (signedOf shrink) (afterMoves gs gap)) fs
 
--- a gap with its sign, shared over the sides of glyphs of these classes
-abbrev pub SharedGap : ℤ → Side → ℕ → List ℕ → List ℕ → List ℤ → List ℤ → Shared → List ℤ → List ℤ → Type 0
-SharedGap gap s size glyphs classes = SharedOut (ltZ gap (pos 0)) (natAbs gap) (partsOf s (ltZ gap (pos 0)) size glyphs classes)
+-- a gap with its sign, shared over the sides of glyphs of these sizes and classes
+abbrev pub SharedGap : ℤ → Side → List ℕ → List ℕ → List ℕ → List ℤ → List ℤ → Shared → List ℤ → List ℤ → Type 0
+SharedGap gap s sizes glyphs classes = SharedOut (ltZ gap (pos 0)) (natAbs gap) (partsOf s (ltZ gap (pos 0)) sizes glyphs classes)

@@ -16,7 +16,7 @@ ghost use Rattle.table.specs.Means.{meaningOf};
 ghost use Rattle.table_ask.specs.Places.{lookupIn, Readable};
 ghost use Rattle.class_walk.specs.Line.{handedOut};
 ghost use Rattle.line_rule.specs.Line.{walkOf, recordFor, unitsOf, stageOf, partBy, partOf, partsOf};
-ghost use Rattle.line_moves.specs.Parts.{Known, bareLine, Small, IsSize, PartOf, Laid, PartsRoom, SharedGap};
+ghost use Rattle.line_moves.specs.Parts.{Known, bareLine, SmallSizes, Small, IsSize, PartOf, Laid, PartsRoom, SharedGap};
 use actions::Spot;
 use class_walk::Walked;
 use cluster::Sought;
@@ -178,12 +178,13 @@ fn record_for(
     }
 }
 
-// The parts of a line's glyphs, each of the four in a slice of its own.
+// The parts of a line's glyphs, each at its own size, and each of the four in a slice of its own.
 fn lay_parts(
     table: &[u8],
     count: u32,
     shape: LineShape,
     shrink: bool,
+    sizes: &[u32],
     glyphs: &[u16],
     classes: &[u8],
     priorities: &mut [u8],
@@ -191,16 +192,16 @@ fn lay_parts(
     first: &mut [u64],
     second: &mut [u64],
 )
-    requires { ⌜ (tableFault (now table) count ≡ Clear) × (length (now classes) ≡ length (now glyphs)) ⌝ }
+    requires { ⌜ (tableFault (now table) count ≡ Clear) × (length (now classes) ≡ length (now glyphs)) × (length (now sizes) ≡ length (now glyphs)) ⌝ }
     requires { ⌜ PartsRoom (length (now glyphs)) (now priorities) (now extras) (now first) (now second) ⌝ }
-    ensures { λ r. ⌜ Laid (partsOf (sideOf (shape .direction) (meaningOf (now (table .entry)) count)) shrink (shape .size) (now (glyphs .entry)) (now (classes .entry))) (now (priorities .exit)) (now (extras .exit)) (now (first .exit)) (now (second .exit)) ⌝ }
+    ensures { λ r. ⌜ Laid (partsOf (sideOf (shape .direction) (meaningOf (now (table .entry)) count)) shrink (now (sizes .entry)) (now (glyphs .entry)) (now (classes .entry))) (now (priorities .exit)) (now (extras .exit)) (now (first .exit)) (now (second .exit)) ⌝ }
 {
     let direction = shape.direction;
     let clusters = table_ask::lookup_in(table, direction, Kind::Clusters);
     let mut i = 0;
     while i < glyphs.len() {
         let sought = record_for(table, count, direction, clusters, glyphs[i], classes[i]);
-        let part = part_of(shrink, shape.size, sought);
+        let part = part_of(shrink, sizes[i], sought);
         priorities[i] = part.priority;
         extras[i] = part.extra;
         first[i] = plain(part.before);
@@ -216,6 +217,7 @@ fn share_parts(
     count: u32,
     shape: LineShape,
     gap: Units,
+    sizes: &[u32],
     glyphs: &[u16],
     classes: &[u8],
     priorities: &mut [u8],
@@ -225,10 +227,10 @@ fn share_parts(
     before: &mut [i32],
     after: &mut [i32],
 ) -> Shared
-    requires { ⌜ (tableFault (now table) count ≡ Clear) × (length (now classes) ≡ length (now glyphs)) ⌝ }
+    requires { ⌜ (tableFault (now table) count ≡ Clear) × (length (now classes) ≡ length (now glyphs)) × (length (now sizes) ≡ length (now glyphs)) ⌝ }
     requires { ⌜ PartsRoom (length (now glyphs)) (now priorities) (now extras) (now first) (now second) ⌝ }
-    requires { ⌜ (length (now before) ≡ length (now glyphs)) × (length (now after) ≡ length (now glyphs)) × (length (now glyphs) ≤ 1024) × (natAbs (gap .0) ≤ 1073741823) × (shape .size ≤ 67108864) ⌝ }
-    ensures { λ r. ⌜ SharedGap (gap .0) (sideOf (shape .direction) (meaningOf (now (table .entry)) count)) (shape .size) (now (glyphs .entry)) (now (classes .entry)) (now (before .entry)) (now (after .entry)) r (now (before .exit)) (now (after .exit)) ⌝ }
+    requires { ⌜ (length (now before) ≡ length (now glyphs)) × (length (now after) ≡ length (now glyphs)) × (length (now glyphs) ≤ 1024) × (natAbs (gap .0) ≤ 1073741823) × SmallSizes (now sizes) ⌝ }
+    ensures { λ r. ⌜ SharedGap (gap .0) (sideOf (shape .direction) (meaningOf (now (table .entry)) count)) (now (sizes .entry)) (now (glyphs .entry)) (now (classes .entry)) (now (before .entry)) (now (after .entry)) r (now (before .exit)) (now (after .exit)) ⌝ }
 {
     let shrink = shrinks(gap);
     lay_parts(
@@ -236,6 +238,7 @@ fn share_parts(
         count,
         shape,
         shrink,
+        sizes,
         glyphs,
         classes,
         priorities,
@@ -256,8 +259,8 @@ fn share_parts(
             before,
             after,
         );
-        let remainder = share::signed(shrink, left);
-        return Shared::Left(Units(remainder as i64));
+        let remainder = share::signed(shrink, left) as i64;
+        return Shared::Left(Units(remainder));
     }
     Shared::Over
 }
@@ -269,14 +272,15 @@ pub fn share_glyphs(
     count: u32,
     shape: LineShape,
     gap: Units,
+    sizes: &[u32],
     glyphs: &[u16],
     classes: &[u8],
     before: &mut [i32],
     after: &mut [i32],
 ) -> Shared
-    requires { ⌜ (tableFault (now table) count ≡ Clear) × (length (now classes) ≡ length (now glyphs)) ⌝ }
-    requires { ⌜ (length (now before) ≡ length (now glyphs)) × (length (now after) ≡ length (now glyphs)) × (length (now glyphs) ≤ 1024) × (natAbs (gap .0) ≤ 1073741823) × (shape .size ≤ 67108864) ⌝ }
-    ensures { λ r. ⌜ SharedGap (gap .0) (sideOf (shape .direction) (meaningOf (now (table .entry)) count)) (shape .size) (now (glyphs .entry)) (now (classes .entry)) (now (before .entry)) (now (after .entry)) r (now (before .exit)) (now (after .exit)) ⌝ }
+    requires { ⌜ (tableFault (now table) count ≡ Clear) × (length (now classes) ≡ length (now glyphs)) × (length (now sizes) ≡ length (now glyphs)) ⌝ }
+    requires { ⌜ (length (now before) ≡ length (now glyphs)) × (length (now after) ≡ length (now glyphs)) × (length (now glyphs) ≤ 1024) × (natAbs (gap .0) ≤ 1073741823) × SmallSizes (now sizes) ⌝ }
+    ensures { λ r. ⌜ SharedGap (gap .0) (sideOf (shape .direction) (meaningOf (now (table .entry)) count)) (now (sizes .entry)) (now (glyphs .entry)) (now (classes .entry)) (now (before .entry)) (now (after .entry)) r (now (before .exit)) (now (after .exit)) ⌝ }
 {
     let n = glyphs.len();
     if n <= 128 {
@@ -289,6 +293,7 @@ pub fn share_glyphs(
             count,
             shape,
             gap,
+            sizes,
             glyphs,
             classes,
             &mut priorities[..n],
@@ -308,6 +313,7 @@ pub fn share_glyphs(
         count,
         shape,
         gap,
+        sizes,
         glyphs,
         classes,
         &mut priorities[..n],

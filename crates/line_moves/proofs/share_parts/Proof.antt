@@ -22,13 +22,13 @@ lay-parts-requires c κs = search needs
 
 line-totals-requires : tie.Need-line-totals-requires
 line-totals-requires c κs =
-    let a = c .before .before .before .before .before .before .before .before .before .before .before .before .before .before .before .before .before .before .before .before .before .before .before .before .args in
-    let p = c .before .before .before .before .before .before .before .before .before .before .before .before .before .before .before .before .before .before .before .before .before .before .before .before .pre in
+    let a = c .before .before .before .before .before .before .before .before .before .before .before .before .before .before .before .before .before .before .before .before .before .before .before .before .before .args in
+    let p = c .before .before .before .before .before .before .before .before .before .before .before .before .before .before .before .before .before .before .before .before .before .before .before .before .before .pre in
     let k = c .before .before .before .before .before .before .before .before .before .before .before .before .before .before .before .before .shrinks .result in
     let w = c .before .before .before .before .before .before .before .before .before .before .before .lay-parts .ensures in
     let s = sideOf (a .shape .direction) (meaningOf (a .table .now) (a .count)) in
-    let q = parts-length s k (a .shape .size) (a .glyphs .now) (a .classes .now) (p .0 .1) in
-    let nn = parts-narrow s k (a .shape .size) (record-limits (a .table .now) (a .count) (a .shape .direction) (λ i. c .before .before .before .before .before .before .before .before .before .before .before .before .before .before .before .before .before .before .before .before .before .before .before .shared-slice-known .given i .fits) (p .0 .0)) (p .1 .1 .4) (a .glyphs .now) (a .classes .now) in
+    let q = parts-length s k (a .sizes .now) (a .glyphs .now) (a .classes .now) (p .0 .2) (p .0 .1) in
+    let nn = parts-narrow s k (record-limits (a .table .now) (a .count) (a .shape .direction) (λ i. c .before .before .before .before .before .before .before .before .before .before .before .before .before .before .before .before .before .before .before .before .before .before .before .before .shared-slice-known .given i .fits) (p .0 .0)) (a .sizes .now) (p .1 .1 .4) (a .glyphs .now) (a .classes .now) in
     let m = laid-priorities w in
     (laid-parts w nn, omega (arith, p .1 .1 .2))
 
@@ -36,30 +36,30 @@ totals-fit-requires : tie.Need-totals-fit-requires
 totals-fit-requires c κs = search needs
 
 size-of-requires : tie.Need-size-of-requires
-size-of-requires c κs = c .before .before .before .before .before .before .before .before .before .before .before .before .before .before .before .before .before .before .before .before .before .before .before .before .before .before .before .pre .1 .1 .3
+size-of-requires c κs = c .before .before .before .before .before .before .before .before .before .before .before .before .before .before .before .before .before .before .before .before .before .before .before .before .before .before .before .before .pre .1 .1 .3
 
 share-line-requires : tie.Need-share-line-requires
 share-line-requires c κs =
-    let a = c .before .before .before .before .before .before .before .before .before .before .before .before .before .before .before .before .before .before .before .before .before .before .before .before .before .before .before .before .before .before .before .before .before .before .args in
-    let p = c .before .before .before .before .before .before .before .before .before .before .before .before .before .before .before .before .before .before .before .before .before .before .before .before .before .before .before .before .before .before .before .before .before .before .pre in
+    let a = c .before .before .before .before .before .before .before .before .before .before .before .before .before .before .before .before .before .before .before .before .before .before .before .before .before .before .before .before .before .before .before .before .before .before .before .args in
+    let p = c .before .before .before .before .before .before .before .before .before .before .before .before .before .before .before .before .before .before .before .before .before .before .before .before .before .before .before .before .before .before .before .before .before .before .before .pre in
     let k = c .before .before .before .before .before .before .before .before .before .before .before .before .before .before .before .before .before .before .before .before .before .before .before .before .before .before .shrinks .result in
     let w = c .before .before .before .before .before .before .before .before .before .before .before .before .before .before .before .before .before .before .before .before .before .lay-parts .ensures in
     let s = sideOf (a .shape .direction) (meaningOf (a .table .now) (a .count)) in
-    let q = parts-length s k (a .shape .size) (a .glyphs .now) (a .classes .now) (p .0 .1) in
-    let nn = parts-narrow s k (a .shape .size) (record-limits (a .table .now) (a .count) (a .shape .direction) (λ i. c .before .before .before .before .before .before .before .before .before .before .before .before .before .before .before .before .before .before .before .before .before .before .before .before .before .before .before .before .before .before .before .before .before .shared-slice-known .given i .fits) (p .0 .0)) (p .1 .1 .4) (a .glyphs .now) (a .classes .now) in
+    let q = parts-length s k (a .sizes .now) (a .glyphs .now) (a .classes .now) (p .0 .2) (p .0 .1) in
+    let nn = parts-narrow s k (record-limits (a .table .now) (a .count) (a .shape .direction) (λ i. c .before .before .before .before .before .before .before .before .before .before .before .before .before .before .before .before .before .before .before .before .before .before .before .before .before .before .before .before .before .before .before .before .before .before .shared-slice-known .given i .fits) (p .0 .0)) (a .sizes .now) (p .1 .1 .4) (a .glyphs .now) (a .classes .now) in
     let m = laid-priorities w in
     let l = laid-lent w (omega (arith, p .1 .1 .2)) nn in
     (l, ((omega (arith, p .1 .1 .0), omega (arith, p .1 .1 .1)), (omega (arith, c .before .before .before .before .before .before .size-of .ensures, p .1 .1 .3), c .before .before .before .before .before .before .before .before .before .line-totals .ensures, sym (c .before .before .before .before .before .before .before .before .totals-fit .ensures ∙ totals-line (c .before .before .before .before .before .before .before .before .before .line-totals .ensures) l) ∙ c .before .before .before .before .before .before .before .if1 .taken)))
 
 signed-requires : tie.Need-signed-requires
 signed-requires c κs =
-    let a = c .before .before .before .before .before .before .before .before .before .before .before .before .before .before .before .before .before .before .before .before .before .before .before .before .before .before .before .before .before .before .before .before .before .before .before .before .before .args in
+    let a = c .before .before .before .before .before .before .before .before .before .before .before .before .before .before .before .before .before .before .before .before .before .before .before .before .before .before .before .before .before .before .before .before .before .before .before .before .before .before .args in
     let n = c .before .before .before .before .before .before .before .before .before .size-of .result in
     let e = c .before .before .share-line .ensures .0 ∙ ap (λ (x : List Glyph). lineLeft x n) (laid-glyphs (c .before .before .before .before .before .before .before .before .before .before .before .before .before .before .before .before .before .before .before .before .before .before .before .before .lay-parts .ensures)) in
-    omega (arith, c .before .before .before .before .before .before .before .before .before .size-of .ensures, c .before .before .before .before .before .before .before .before .before .before .before .before .before .before .before .before .before .before .before .before .before .before .before .before .before .before .before .before .before .before .before .before .before .before .before .before .before .pre .1 .1 .3, left-small (partsOf (sideOf (a .shape .direction) (meaningOf (a .table .now) (a .count))) (c .before .before .before .before .before .before .before .before .before .before .before .before .before .before .before .before .before .before .before .before .before .before .before .before .before .before .before .before .before .shrinks .result) (a .shape .size) (a .glyphs .now) (a .classes .now)) n)
+    omega (arith, c .before .before .before .before .before .before .before .before .before .size-of .ensures, c .before .before .before .before .before .before .before .before .before .before .before .before .before .before .before .before .before .before .before .before .before .before .before .before .before .before .before .before .before .before .before .before .before .before .before .before .before .before .pre .1 .1 .3, left-small (partsOf (sideOf (a .shape .direction) (meaningOf (a .table .now) (a .count))) (c .before .before .before .before .before .before .before .before .before .before .before .before .before .before .before .before .before .before .before .before .before .before .before .before .before .before .before .before .before .shrinks .result) (a .sizes .now) (a .glyphs .now) (a .classes .now)) n)
 
-cast-t46 : tie.Need-cast-t46
-cast-t46 c = wide-fits (c .signed .result) (record { sfits = c .signed .ok })
+cast-remainder : tie.Need-cast-remainder
+cast-remainder c = wide-fits (c .signed .result) (record { sfits = c .signed .ok })
 
 same-length : tie.Need-same-length
 same-length c = search needs
@@ -81,17 +81,17 @@ same-length-6 c = search needs
 
 returns : tie.Need-returns
 returns c =
-    let a = c .before .before .before .before .before .before .before .before .before .before .before .before .before .before .before .before .before .before .before .before .before .before .before .before .before .before .before .before .before .before .before .before .before .before .before .before .before .before .args in
-    let p = c .before .before .before .before .before .before .before .before .before .before .before .before .before .before .before .before .before .before .before .before .before .before .before .before .before .before .before .before .before .before .before .before .before .before .before .before .before .before .pre in
+    let a = c .before .before .before .before .before .before .before .before .before .before .before .before .before .before .before .before .before .before .before .before .before .before .before .before .before .before .before .before .before .before .before .before .before .before .before .before .before .before .before .args in
+    let p = c .before .before .before .before .before .before .before .before .before .before .before .before .before .before .before .before .before .before .before .before .before .before .before .before .before .before .before .before .before .before .before .before .before .before .before .before .before .before .before .pre in
     let k = c .before .before .before .before .before .before .before .before .before .before .before .before .before .before .before .before .before .before .before .before .before .before .before .before .before .before .before .before .before .before .shrinks .result in
     let w = c .before .before .before .before .before .before .before .before .before .before .before .before .before .before .before .before .before .before .before .before .before .before .before .before .before .lay-parts .ensures in
     let s = sideOf (a .shape .direction) (meaningOf (a .table .now) (a .count)) in
-    let q = parts-length s k (a .shape .size) (a .glyphs .now) (a .classes .now) (p .0 .1) in
-    let nn = parts-narrow s k (a .shape .size) (record-limits (a .table .now) (a .count) (a .shape .direction) (λ i. c .before .before .before .before .before .before .before .before .before .before .before .before .before .before .before .before .before .before .before .before .before .before .before .before .before .before .before .before .before .before .before .before .before .before .before .before .before .shared-slice-known .given i .fits) (p .0 .0)) (p .1 .1 .4) (a .glyphs .now) (a .classes .now) in
+    let q = parts-length s k (a .sizes .now) (a .glyphs .now) (a .classes .now) (p .0 .2) (p .0 .1) in
+    let nn = parts-narrow s k (record-limits (a .table .now) (a .count) (a .shape .direction) (λ i. c .before .before .before .before .before .before .before .before .before .before .before .before .before .before .before .before .before .before .before .before .before .before .before .before .before .before .before .before .before .before .before .before .before .before .before .before .before .before .shared-slice-known .given i .fits) (p .0 .0)) (a .sizes .now) (p .1 .1 .4) (a .glyphs .now) (a .classes .now) in
     let m = laid-priorities w in
     let l = laid-lent w (omega (arith, p .1 .1 .2)) nn in
     let e = c .before .before .before .share-line .ensures in
-    by-sign (a .gap .0) s (a .shape .size) (a .glyphs .now) (a .classes .now) (c .before .before .before .before .before .before .before .before .before .before .before .before .before .before .before .before .before .before .before .before .before .before .before .before .before .before .before .before .before .before .shrinks .ensures) (c .before .before .before .before .before .before .before .before .before .before .size-of .ensures)
+    by-sign (a .gap .0) s (a .sizes .now) (a .glyphs .now) (a .classes .now) (c .before .before .before .before .before .before .before .before .before .before .before .before .before .before .before .before .before .before .before .before .before .before .before .before .before .before .before .before .before .before .shrinks .ensures) (c .before .before .before .before .before .before .before .before .before .before .size-of .ensures)
     (shared-left k (c .before .before .before .before .before .before .before .before .before .before .size-of .result) _ _ (laid-glyphs w) (a .before .now) (a .after .now) (laid-fits w (c .before .before .before .before .before .before .before .before .before .before .before .before .totals-fit .ensures ∙ totals-line (c .before .before .before .before .before .before .before .before .before .before .before .before .before .line-totals .ensures) l) ∙ c .before .before .before .before .before .before .before .before .before .before .before .if1 .taken)
     (widened (c .signed .result) (record { sfits = c .signed .ok }) ∙ c .signed .ensures ∙ ap (signedOf k) (e .0)) (e .1 .0) (e .1 .1))
 
@@ -109,16 +109,16 @@ same-length-10 c = search needs
 
 returns-2 : tie.Need-returns-2
 returns-2 c =
-    let a = c .before .before .before .before .before .before .before .before .before .before .before .before .before .before .before .before .before .before .before .before .before .before .before .before .before .before .before .args in
-    let p = c .before .before .before .before .before .before .before .before .before .before .before .before .before .before .before .before .before .before .before .before .before .before .before .before .before .before .before .pre in
+    let a = c .before .before .before .before .before .before .before .before .before .before .before .before .before .before .before .before .before .before .before .before .before .before .before .before .before .before .before .before .args in
+    let p = c .before .before .before .before .before .before .before .before .before .before .before .before .before .before .before .before .before .before .before .before .before .before .before .before .before .before .before .before .pre in
     let k = c .before .before .before .before .before .before .before .before .before .before .before .before .before .before .before .before .before .before .before .shrinks .result in
     let w = c .before .before .before .before .before .before .before .before .before .before .before .before .before .before .lay-parts .ensures in
     let s = sideOf (a .shape .direction) (meaningOf (a .table .now) (a .count)) in
-    let q = parts-length s k (a .shape .size) (a .glyphs .now) (a .classes .now) (p .0 .1) in
-    let nn = parts-narrow s k (a .shape .size) (record-limits (a .table .now) (a .count) (a .shape .direction) (λ i. c .before .before .before .before .before .before .before .before .before .before .before .before .before .before .before .before .before .before .before .before .before .before .before .before .before .before .shared-slice-known .given i .fits) (p .0 .0)) (p .1 .1 .4) (a .glyphs .now) (a .classes .now) in
+    let q = parts-length s k (a .sizes .now) (a .glyphs .now) (a .classes .now) (p .0 .2) (p .0 .1) in
+    let nn = parts-narrow s k (record-limits (a .table .now) (a .count) (a .shape .direction) (λ i. c .before .before .before .before .before .before .before .before .before .before .before .before .before .before .before .before .before .before .before .before .before .before .before .before .before .before .before .shared-slice-known .given i .fits) (p .0 .0)) (a .sizes .now) (p .1 .1 .4) (a .glyphs .now) (a .classes .now) in
     let m = laid-priorities w in
     let l = laid-lent w (omega (arith, p .1 .1 .2)) nn in
-    by-sign (a .gap .0) s (a .shape .size) (a .glyphs .now) (a .classes .now) (c .before .before .before .before .before .before .before .before .before .before .before .before .before .before .before .before .before .before .before .shrinks .ensures) refl
+    by-sign (a .gap .0) s (a .sizes .now) (a .glyphs .now) (a .classes .now) (c .before .before .before .before .before .before .before .before .before .before .before .before .before .before .before .before .before .before .before .shrinks .ensures) refl
     (shared-over k (natAbs (a .gap .0)) _ (a .before .now) (a .after .now) (laid-fits w (c .before .totals-fit .ensures ∙ totals-line (c .before .before .line-totals .ensures) l) ∙ c .if1 .left))
 
 pub share-parts-spec : {M : Type 1} → statement M
@@ -132,7 +132,7 @@ share-parts-spec =
     size-of-requires
     share-line-requires
     signed-requires
-    cast-t46
+    cast-remainder
     same-length
     same-length-2
     same-length-3
