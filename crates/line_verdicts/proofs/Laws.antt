@@ -40,7 +40,7 @@ use Rattle.table_ask.proofs.Laws.{list-clear}
 use Rattle.line_rule.specs.Line.{recordIf, firings, verdictsFrom}
 use Rattle.line_verdicts.specs.declared.Cursor.{Cursor}
 use Rattle.line_verdicts.specs.declared.Step.{Step}
-use Rattle.line_verdicts.specs.Cursor.{Moved, classAt, growthAt, verdictsAt, listLeft, leftAt, startCursor, endCursor, handCursor, firesCount, given, stepOf, nothingAt, pastOf, judgedAt, Serves, Begins, InList, Here, InLine, Fits}
+use Rattle.line_verdicts.specs.Cursor.{Moved, sizeAt, classAt, growthAt, verdictsAt, listLeft, leftAt, startCursor, endCursor, handCursor, firesCount, given, stepOf, nothingAt, pastOf, judgedAt, Serves, Begins, InList, Here, InLine, Fits}
 
 -- ---- an accepted table
 
@@ -219,15 +219,15 @@ in-places t p class growth growth′ size c r e s i =
 
 module _ (t : List ℕ) (s : Side) (l : Moved) (glyphs : List ℕ) where
   -- nothing is taken: all are left
-  pub all-left : verdictsFrom s (l .size) 0 glyphs (l .classes) (l .before) (l .after) ≡ leftAt t s l glyphs startCursor
+  pub all-left : verdictsFrom s 0 (l .sizes) glyphs (l .classes) (l .before) (l .after) ≡ leftAt t s l glyphs startCursor
   unfolding leftAt listLeft firings actionsAt verdictsAt
   all-left = refl
 
   -- what is left of the list at hand, then the glyphs after it
   line-left : (c : Cursor) (k : ℕ) → c .next ≡ k
-      → leftAt t s l glyphs c ≡ listLeft t (classAt l (k - 1)) (growthAt l (k - 1)) (l .size) c ++ verdictsAt s l glyphs k
+      → leftAt t s l glyphs c ≡ listLeft t (classAt l (k - 1)) (growthAt l (k - 1)) (sizeAt l (k - 1)) c ++ verdictsAt s l glyphs k
   unfolding leftAt
-  line-left c k e = ap (λ (j : ℕ). listLeft t (classAt l (j - 1)) (growthAt l (j - 1)) (l .size) c ++ verdictsAt s l glyphs j) e
+  line-left c k e = ap (λ (j : ℕ). listLeft t (classAt l (j - 1)) (growthAt l (j - 1)) (sizeAt l (j - 1)) c ++ verdictsAt s l glyphs j) e
 
   -- nothing is left of the list at hand
   pub line-spent : (c : Cursor) → c .left ≡ 0 → leftAt t s l glyphs c ≡ verdictsAt s l glyphs (c .next)
@@ -259,13 +259,14 @@ module _ (t : List ℕ) (s : Side) (l : Moved) (glyphs : List ℕ) where
 
   module _ (fits : Fits l glyphs) where
     verdicts-next : (k : ℕ) → k < length glyphs
-        → verdictsAt s l glyphs k ≡ firings k (classAt l k) (l .size) (growthAt l k) 0 (getD (s .lists) (getD glyphs k 0) []) ++ verdictsAt s l glyphs (k + 1)
+        → verdictsAt s l glyphs k ≡ firings k (classAt l k) (sizeAt l k) (growthAt l k) 0 (getD (s .lists) (getD glyphs k 0) []) ++ verdictsAt s l glyphs (k + 1)
     unfolding verdictsAt verdictsFrom
     verdicts-next k h =
+        let hz : k < length (l .sizes) = omega (arith, fits .sizes) in
         let hc : k < length (l .classes) = omega (arith, fits .classes) in
         let hb : k < length (l .before) = omega (arith, fits .before) in
         let ha : k < length (l .after) = omega (arith, fits .after) in
-        rw (drop-cons glyphs k 0 h, drop-cons (l .classes) k 0 hc, drop-cons (l .before) k (pos 0) hb, drop-cons (l .after) k (pos 0) ha, add-one k)
+        rw (drop-cons (l .sizes) k 0 hz, drop-cons glyphs k 0 h, drop-cons (l .classes) k 0 hc, drop-cons (l .before) k (pos 0) hb, drop-cons (l .after) k (pos 0) ha, add-one k)
 
     -- the glyph at a place is begun
     pub line-begun : (k : ℕ) (c : Cursor) → k < length glyphs → Begins t (getD (s .lists) (getD glyphs k 0) []) k c
@@ -275,12 +276,19 @@ module _ (t : List ℕ) (s : Side) (l : Moved) (glyphs : List ℕ) where
         let q : c .next - 1 ≡ k = omega (arith, b .next) in
         verdicts-next k h
         ∙ sym (line-left c (k + 1) (b .next)
-        ∙ ap (λ (j : ℕ). listLeft t (classAt l j) (growthAt l j) (l .size) c ++ verdictsAt s l glyphs (k + 1)) p
-        ∙ ap (λ (vs : List Verdict). vs ++ verdictsAt s l glyphs (k + 1)) (list-begun t (classAt l k) (growthAt l k) (l .size) c k _ q (b .number) (b .actions)))
+        ∙ ap (λ (j : ℕ). listLeft t (classAt l j) (growthAt l j) (sizeAt l j) c ++ verdictsAt s l glyphs (k + 1)) p
+        ∙ ap (λ (vs : List Verdict). vs ++ verdictsAt s l glyphs (k + 1)) (list-begun t (classAt l k) (growthAt l k) (sizeAt l k) c k _ q (b .number) (b .actions)))
+
+  no-verdicts : (k : ℕ) (zs cs : List ℕ) (bs fs : List ℤ) → verdictsFrom s k zs [] cs bs fs ≡ []
+  unfolding verdictsFrom
+  no-verdicts k [] cs bs fs = refl
+  no-verdicts k (z ∷ zs) cs bs fs = refl
 
   verdicts-end : (k : ℕ) → length glyphs ≤ k → verdictsAt s l glyphs k ≡ []
-  unfolding verdictsAt verdictsFrom
-  verdicts-end k h = ap (λ (gs : List ℕ). verdictsFrom s (l .size) k gs (drop k (l .classes)) (drop k (l .before)) (drop k (l .after))) (drop-past glyphs k h)
+  unfolding verdictsAt
+  verdicts-end k h =
+      ap (λ (gs : List ℕ). verdictsFrom s k (drop k (l .sizes)) gs (drop k (l .classes)) (drop k (l .before)) (drop k (l .after))) (drop-past glyphs k h)
+      ∙ no-verdicts k (drop k (l .sizes)) (drop k (l .classes)) (drop k (l .before)) (drop k (l .after))
 
   -- at the line's end nothing is left
   pub none-left : leftAt t s l glyphs (endCursor (length glyphs)) ≡ []
@@ -320,20 +328,21 @@ firings-few place class size growth number (a ∷ rest) =
     )
 
 -- no more than 64 to a glyph
-pub verdicts-few : (s : Side) (size place : ℕ) (gs cs : List ℕ) (bs fs : List ℤ) → ((g : ℕ) → length (getD (s .lists) g []) ≤ 64)
-    → length (verdictsFrom s size place gs cs bs fs) ≤ 64 * length gs
+pub verdicts-few : (s : Side) (place : ℕ) (zs gs cs : List ℕ) (bs fs : List ℤ) → ((g : ℕ) → length (getD (s .lists) g []) ≤ 64)
+    → length (verdictsFrom s place zs gs cs bs fs) ≤ 64 * length gs
 unfolding verdictsFrom
-verdicts-few s size place [] cs bs fs h = omega arith
-verdicts-few s size place (g ∷ gs) [] bs fs h = omega arith
-verdicts-few s size place (g ∷ gs) (c ∷ cs) [] fs h = omega arith
-verdicts-few s size place (g ∷ gs) (c ∷ cs) (b ∷ bs) [] h = omega arith
-verdicts-few s size place (g ∷ gs) (c ∷ cs) (b ∷ bs) (f ∷ fs) h =
+verdicts-few s place [] gs cs bs fs h = omega arith
+verdicts-few s place (z ∷ zs) [] cs bs fs h = omega arith
+verdicts-few s place (z ∷ zs) (g ∷ gs) [] bs fs h = omega arith
+verdicts-few s place (z ∷ zs) (g ∷ gs) (c ∷ cs) [] fs h = omega arith
+verdicts-few s place (z ∷ zs) (g ∷ gs) (c ∷ cs) (b ∷ bs) [] h = omega arith
+verdicts-few s place (z ∷ zs) (g ∷ gs) (c ∷ cs) (b ∷ bs) (f ∷ fs) h =
     omega (
       arith,
-      length-append (firings place c size (b +ℤ f) 0 (getD (s .lists) g [])) (verdictsFrom s size (suc place) gs cs bs fs),
-      firings-few place c size (b +ℤ f) 0 (getD (s .lists) g []),
+      length-append (firings place c z (b +ℤ f) 0 (getD (s .lists) g [])) (verdictsFrom s (suc place) zs gs cs bs fs),
+      firings-few place c z (b +ℤ f) 0 (getD (s .lists) g []),
       h g,
-      verdicts-few s size (suc place) gs cs bs fs h,
+      verdicts-few s (suc place) zs gs cs bs fs h,
     )
 
 -- how many fire depends neither on the place nor on the numbers
@@ -382,19 +391,19 @@ module _ (t : List ℕ) (class : ℕ) (growth : ℤ) (size : ℕ) (list : List A
 
 -- a line's lists, counted glyph by glyph
 module _ (s : Side) (l : Moved) (glyphs : List ℕ) where
-  pub count-all : length (verdictsFrom s (l .size) 0 glyphs (l .classes) (l .before) (l .after)) ≡ length (verdictsAt s l glyphs 0)
+  pub count-all : length (verdictsFrom s 0 (l .sizes) glyphs (l .classes) (l .before) (l .after)) ≡ length (verdictsAt s l glyphs 0)
   unfolding verdictsAt
   count-all = refl
 
   pub count-next : Fits l glyphs → (t : List ℕ) (k r : ℕ) → k < length glyphs → (growth : ℤ) → growth ≡ growthAt l k
-      → r ≡ length (firings 0 (classAt l k) (l .size) growth 0 (getD (s .lists) (getD glyphs k 0) []))
+      → r ≡ length (firings 0 (classAt l k) (sizeAt l k) growth 0 (getD (s .lists) (getD glyphs k 0) []))
       → length (verdictsAt s l glyphs k) ≡ r + length (verdictsAt s l glyphs (k + 1))
   count-next fits t k r h growth g e =
       ap (λ (vs : List Verdict). length vs) (verdicts-next t s l glyphs fits k h)
-      ∙ length-append (firings k (classAt l k) (l .size) (growthAt l k) 0 (getD (s .lists) (getD glyphs k 0) [])) (verdictsAt s l glyphs (k + 1))
+      ∙ length-append (firings k (classAt l k) (sizeAt l k) (growthAt l k) 0 (getD (s .lists) (getD glyphs k 0) [])) (verdictsAt s l glyphs (k + 1))
       ∙ ap (λ (n : ℕ). n + length (verdictsAt s l glyphs (k + 1)))
-      (same-many k (classAt l k) (l .size) (growthAt l k) 0 0 (getD (s .lists) (getD glyphs k 0) [])
-      ∙ sym (e ∙ ap (λ (x : ℤ). length (firings 0 (classAt l k) (l .size) x 0 (getD (s .lists) (getD glyphs k 0) []))) g))
+      (same-many k (classAt l k) (sizeAt l k) (growthAt l k) 0 0 (getD (s .lists) (getD glyphs k 0) [])
+      ∙ sym (e ∙ ap (λ (x : ℤ). length (firings 0 (classAt l k) (sizeAt l k) x 0 (getD (s .lists) (getD glyphs k 0) []))) g))
 
   pub count-past : (t : List ℕ) (k : ℕ) → length glyphs ≤ k → length (verdictsAt s l glyphs k) ≡ 0
   count-past t k h = ap (λ (vs : List Verdict). length vs) (verdicts-end t s l glyphs k h)

@@ -23,15 +23,18 @@ use Rattle.line_verdicts.specs.declared.Step.{Step}
 
 -- ---- what is left
 
--- the classes and movements of a line's glyphs, and its point size
+-- the sizes, classes and movements of a line's glyphs
 pub record Moved : Type 0 where
-  pub size : ℕ
+  pub sizes : List ℕ
   pub classes : List ℕ
   pub before : List ℤ
   pub after : List ℤ
 
-abbrev pub moved : ℕ → List ℕ → List ℤ → List ℤ → Moved
-moved size classes before after = record { size = size; classes = classes; before = before; after = after }
+abbrev pub moved : List ℕ → List ℕ → List ℤ → List ℤ → Moved
+moved sizes classes before after = record { sizes = sizes; classes = classes; before = before; after = after }
+
+abbrev pub sizeAt : Moved → ℕ → ℕ
+sizeAt l place = getD (l .sizes) place 0
 
 abbrev pub classAt : Moved → ℕ → ℕ
 classAt l place = getD (l .classes) place 0
@@ -42,7 +45,7 @@ growthAt l place = getD (l .before) place (pos 0) +ℤ getD (l .after) place (po
 -- the verdicts of the glyphs from a place on
 unfoldable pub verdictsAt : Side → Moved → List ℕ → ℕ → List Verdict
 verdictsAt s l glyphs place =
-    verdictsFrom s (l .size) place (drop place glyphs) (drop place (l .classes)) (drop place (l .before)) (drop place (l .after))
+    verdictsFrom s place (drop place (l .sizes)) (drop place glyphs) (drop place (l .classes)) (drop place (l .before)) (drop place (l .after))
 
 -- those of the list at hand, for a glyph of a class and a growth
 unfoldable pub listLeft : List ℕ → ℕ → ℤ → ℕ → Cursor → List Verdict
@@ -50,7 +53,7 @@ listLeft t class growth size c = firings (c .next - 1) class size growth (c .num
 
 -- those of the line
 unfoldable pub leftAt : List ℕ → Side → Moved → List ℕ → Cursor → List Verdict
-leftAt t s l glyphs c = listLeft t (classAt l (c .next - 1)) (growthAt l (c .next - 1)) (l .size) c ++ verdictsAt s l glyphs (c .next)
+leftAt t s l glyphs c = listLeft t (classAt l (c .next - 1)) (growthAt l (c .next - 1)) (sizeAt l (c .next - 1)) c ++ verdictsAt s l glyphs (c .next)
 
 -- nothing is taken
 abbrev pub startCursor : Cursor
@@ -122,7 +125,7 @@ pub record InList (t : List ℕ) (places class : ℕ) (growth : ℤ) (size : ℕ
 
 -- the same with the class and the growth of the glyph whose list it is
 abbrev pub Here : List ℕ → Moved → Cursor → Step → Type 0
-Here t l c = InList t (length (l .classes)) (classAt l (c .next - 1)) (growthAt l (c .next - 1)) (l .size) c
+Here t l c = InList t (length (l .classes)) (classAt l (c .next - 1)) (growthAt l (c .next - 1)) (sizeAt l (c .next - 1)) c
 
 -- a step in the line: it finds the first of what is left, and the rest is left past it; where nothing is found, it says so with zeros, at the line's end.
 -- This fixes the verdict found and, step after step, all that follow; by which numbers a cursor stands for them is left free.
@@ -131,9 +134,10 @@ pub record InLine (t : List ℕ) (s : Side) (l : Moved) (glyphs : List ℕ) (pla
   pub serves : Serves t places (r .next)
   pub spent : r .found ≡ false → r ≡ nothingAt (endCursor places)
 
--- the classes and both movements have an element for each glyph, of which there are at most 1,024
+-- the sizes, the classes and both movements have an element for each glyph, of which there are at most 1,024
 pub record Fits (l : Moved) (glyphs : List ℕ) : Type 0 where
   pub few : length glyphs ≤ 1024
+  pub sizes : length (l .sizes) ≡ length glyphs
   pub classes : length (l .classes) ≡ length glyphs
   pub before : length (l .before) ≡ length glyphs
   pub after : length (l .after) ≡ length glyphs

@@ -40,7 +40,7 @@ pub struct Step {
     pub next: Cursor,
 }
 
-// Whether the action at `at` fires for a glyph of a class, at its growth and the point size. Its limits are read where
+// Whether the action at `at` fires for a glyph of a class, at its growth and its point size. Its limits are read where
 // they stand.
 fn fires_here(table: &[u8], at: usize, class: u8, growth: Units, size: u32) -> Fires
     requires { ⌜ at + 8 ≤ length (now table) ⌝ }
@@ -149,18 +149,18 @@ fn next_in_list(table: &[u8], class: u8, growth: Units, size: u32, cursor: Curso
     nothing_at(at_hand)
 }
 
-// The same, the class and the movements of the line's glyphs being given.
+// The same, the sizes, classes and movements of the line's glyphs being given.
 fn next_here(
     table: &[u8],
-    size: u32,
+    sizes: &[u32],
     classes: &[u8],
     before: &[i32],
     after: &[i32],
     cursor: Cursor,
 ) -> Step
     requires { ⌜ Serves (now table) (length (now classes)) cursor × (length (now classes) ≤ 1024) ⌝ }
-    requires { ⌜ (length (now before) ≡ length (now classes)) × (length (now after) ≡ length (now classes)) ⌝ }
-    ensures { λ r. ⌜ Here (now (table .entry)) (moved size (now (classes .entry)) (now (before .entry)) (now (after .entry))) cursor r ⌝ }
+    requires { ⌜ (length (now sizes) ≡ length (now classes)) × (length (now before) ≡ length (now classes)) × (length (now after) ≡ length (now classes)) ⌝ }
+    ensures { λ r. ⌜ Here (now (table .entry)) (moved (now (sizes .entry)) (now (classes .entry)) (now (before .entry)) (now (after .entry))) cursor r ⌝ }
 {
     let next = cursor.next;
     if cursor.left == 0 {
@@ -171,7 +171,7 @@ fn next_here(
         table,
         classes[place],
         growth_at(before, after, place),
-        size,
+        sizes[place],
         cursor,
     )
 }
@@ -210,17 +210,18 @@ pub fn next_verdict<'a>(
     table: &'a [u8],
     count: u32,
     shape: LineShape,
+    sizes: &'a [u32],
     glyphs: &'a [u16],
     classes: &'a [u8],
     before: &'a [i32],
     after: &'a [i32],
     cursor: Cursor,
 ) -> Step
-    requires { ⌜ HasMoves (now table) count (moved (shape .size) (now classes) (now before) (now after)) (now glyphs) × Serves (now table) (length (now glyphs)) cursor ⌝ }
-    ensures { λ r. ⌜ InLine (now (table .entry)) (sideOf (shape .direction) (meaningOf (now (table .entry)) count)) (moved (shape .size) (now (classes .entry)) (now (before .entry)) (now (after .entry))) (now (glyphs .entry)) (length (now (glyphs .entry))) cursor r ⌝ }
+    requires { ⌜ HasMoves (now table) count (moved (now sizes) (now classes) (now before) (now after)) (now glyphs) × Serves (now table) (length (now glyphs)) cursor ⌝ }
+    ensures { λ r. ⌜ InLine (now (table .entry)) (sideOf (shape .direction) (meaningOf (now (table .entry)) count)) (moved (now (sizes .entry)) (now (classes .entry)) (now (before .entry)) (now (after .entry))) (now (glyphs .entry)) (length (now (glyphs .entry))) cursor r ⌝ }
 {
     let direction = shape.direction;
-    let here = next_here(table, shape.size, classes, before, after, cursor);
+    let here = next_here(table, sizes, classes, before, after, cursor);
     if here.found {
         return here;
     }
@@ -228,7 +229,7 @@ pub fn next_verdict<'a>(
     let mut next = cursor.next;
     while next < glyphs.len() {
         let begun = begin(table, count, direction, lists, glyphs[next], next);
-        let step = next_here(table, shape.size, classes, before, after, begun);
+        let step = next_here(table, sizes, classes, before, after, begun);
         if step.found {
             return step;
         }
@@ -242,7 +243,7 @@ pub fn next_verdict<'a>(
     })
 }
 
-// 1 where the action at `at` fires for a glyph of a class, at its growth and the point size, else 0.
+// 1 where the action at `at` fires for a glyph of a class, at its growth and its point size, else 0.
 fn fires_once(table: &[u8], at: usize, class: u8, growth: Units, size: u32) -> usize
     requires { ⌜ at + 8 ≤ length (now table) ⌝ }
     ensures { λ r. ⌜ (r ≡ firesCount (firesOf (actionAt (now (table .entry)) at) class (growth .0) size)) × (r ≤ 1) ⌝ }
@@ -254,7 +255,7 @@ fn fires_once(table: &[u8], at: usize, class: u8, growth: Units, size: u32) -> u
     }
 }
 
-// How many of `count` actions from `first` on fire for a glyph of a class, at its growth and the point size.
+// How many of `count` actions from `first` on fire for a glyph of a class, at its growth and its point size.
 fn count_list(
     table: &[u8],
     class: u8,
@@ -277,7 +278,7 @@ fn count_list(
     total
 }
 
-// How many actions of a glyph fire, for its class and growth and the point size, by the lookup of its direction's lists.
+// How many actions of a glyph fire, for its class, growth and point size, by the lookup of its direction's lists.
 fn count_glyph(
     table: &[u8],
     count: u32,
@@ -310,13 +311,14 @@ pub fn count_verdicts<'a>(
     table: &'a [u8],
     count: u32,
     shape: LineShape,
+    sizes: &'a [u32],
     glyphs: &'a [u16],
     classes: &'a [u8],
     before: &'a [i32],
     after: &'a [i32],
 ) -> usize
-    requires { ⌜ HasMoves (now table) count (moved (shape .size) (now classes) (now before) (now after)) (now glyphs) ⌝ }
-    ensures { λ r. ⌜ r ≡ length (verdictsFrom (sideOf (shape .direction) (meaningOf (now (table .entry)) count)) (shape .size) 0 (now (glyphs .entry)) (now (classes .entry)) (now (before .entry)) (now (after .entry))) ⌝ }
+    requires { ⌜ HasMoves (now table) count (moved (now sizes) (now classes) (now before) (now after)) (now glyphs) ⌝ }
+    ensures { λ r. ⌜ r ≡ length (verdictsFrom (sideOf (shape .direction) (meaningOf (now (table .entry)) count)) 0 (now (sizes .entry)) (now (glyphs .entry)) (now (classes .entry)) (now (before .entry)) (now (after .entry))) ⌝ }
 {
     let direction = shape.direction;
     let lists = table_ask::lookup_in(table, direction, Kind::Lists);
@@ -324,6 +326,7 @@ pub fn count_verdicts<'a>(
     let mut place: usize = 0;
     while place < glyphs.len() {
         let growth = growth_at(before, after, place);
+        let size = sizes[place];
         total += count_glyph(
             table,
             count,
@@ -332,7 +335,7 @@ pub fn count_verdicts<'a>(
             glyphs[place],
             classes[place],
             growth,
-            shape.size,
+            size,
         );
         place += 1;
     }
