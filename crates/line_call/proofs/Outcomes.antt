@@ -20,6 +20,7 @@ use Rattle.meaning.specs.Ask.{sideOf}
 use Rattle.table.specs.Table.{tableFault}
 use Rattle.table.specs.Means.{meaningOf}
 use Rattle.line_rule.specs.Line.{Line, walkOf, classesOf, entriesOf, beforeOf, afterOf, remainderOf, verdictsFrom, verdictsOf}
+use Rattle.line_moves.specs.Parts.{SmallSizes}
 use Rattle.line_call.specs.declared.LineAnswer.the-variants.{Justified, Refused}
 use Rattle.line_call.specs.declared.Settled.{Settled}
 use Rattle.line_call.specs.declared.Worked.{Worked}
@@ -27,7 +28,7 @@ use Rattle.line_call.specs.declared.Worked.the-variants as worked
 use Rattle.line_call.specs.Justified.{justifies, roomTest, workedFault, lineFault, settled, justified}
 use Rattle.line_call.specs.Settle.{lentBy, settlementIs, settlementIn}
 use Rattle.line_call.specs.Steps.{inputFault, workFault, workedBy, WorkedOut, Finished, SettledIn}
-use Rattle.line_call.proofs.Tests.{and-right, lengths-hold}
+use Rattle.line_call.proofs.Tests.{lengths-hold, sizes-small}
 
 -- ---- 16
 
@@ -95,20 +96,20 @@ module _ (s : Side) (n : ℕ) (l : Line) (room : ℕ) (cs : List ℕ) (bs fs : L
     done : WorkedClear z k
     done = worked-clear z k (sym q ∙ o .says)
 
-    verdicts-are : verdictsFrom s (l .size) 0 (l .glyphs) held moved moves ≡ verdictsOf s l
+    verdicts-are : verdictsFrom s 0 (l .sizes) (l .glyphs) held moved moves ≡ verdictsOf s l
     unfolding verdictsOf
     verdicts-are =
-        ap (λ (xs : List ℕ). verdictsFrom s (l .size) 0 (l .glyphs) xs moved moves) (o .classes (done .clear))
-        ∙ ap₂ (λ (xs ys : List ℤ). verdictsFrom s (l .size) 0 (l .glyphs) (classesOf (walkOf (s .machine) l)) xs ys) (o .before (done .clear)) (o .after (done .clear))
+        ap (λ (xs : List ℕ). verdictsFrom s 0 (l .sizes) (l .glyphs) xs moved moves) (o .classes (done .clear))
+        ∙ ap₂ (λ (xs ys : List ℤ). verdictsFrom s 0 (l .sizes) (l .glyphs) (classesOf (walkOf (s .machine) l)) xs ys) (o .before (done .clear)) (o .after (done .clear))
 
     pub settled-done : {z′ : ℤ} {answer : Settled} {cs′ : List ℕ} {bs′ fs′ : List ℤ} → z′ ≡ z
-        → Finished room (length (verdictsFrom s (l .size) 0 (l .glyphs) held moved moves)) z′ k held cs cs′ moved bs bs′ moves fs fs′ answer
+        → Finished room (length (verdictsFrom s 0 (l .sizes) (l .glyphs) held moved moves)) z′ k held cs cs′ moved bs bs′ moves fs fs′ answer
         → SettledIn s n l room cs bs fs answer cs′ bs′ fs′
     unfolding last
     settled-done {z′} {answer} {cs′} {bs′} {fs′} ez f verdicts = go (leb count room) refl (f .says) (f .classes) (f .before) (f .after)
       where
         count : ℕ
-        count = length (verdictsFrom s (l .size) 0 (l .glyphs) held moved moves)
+        count = length (verdictsFrom s 0 (l .sizes) (l .glyphs) held moved moves)
 
         counted : count ≡ length (verdictsOf s l)
         counted = ap (λ (x : List Verdict). length x) verdicts-are
@@ -152,24 +153,26 @@ module _ (t : List ℕ) (n : ℕ) (l : Line) (cs : List ℕ) (bs fs : List ℤ) 
   pub record Input : Type 0 where
     pub accepted : tableFault t n ≡ Clear
     pub short : length (l .glyphs) ≤ 1024
+    pub sizes : length (l .sizes) ≡ length (l .glyphs)
     pub classes : length cs ≡ length (l .glyphs)
     pub before : length bs ≡ length (l .glyphs)
     pub after : length fs ≡ length (l .glyphs)
-    pub small : l .size ≤ 67108864
+    pub small : SmallSizes (l .sizes)
 
   pub input-clear : {f : Fault} → f ≡ input → f ≡ Clear → Input
   unfolding inputFault
   input-clear {f} e q =
       let a : inputFault t n l (length cs ∷ length bs ∷ length fs ∷ []) ≡ Clear = sym e ∙ q in
       let b = then-second _ _ a in
-      let long = lengths-hold (length (l .glyphs)) _ _ _ _ (rule-holds _ UnequalLengths 0 (then-first _ _ b)) in
+      let long = lengths-hold (length (l .glyphs)) _ _ _ _ _ (rule-holds _ UnequalLengths 0 (then-first _ _ b)) in
       record {
         accepted = then-first _ _ a;
         short = leb-true _ _ (rule-holds _ LongLine 0 (then-first _ _ (then-second _ _ b)));
-        classes = long .1;
-        before = long .2;
-        after = long .3;
-        small = leb-true _ _ (and-right (leb 1 (l .size)) (leb (l .size) 67108864) (rule-holds _ PointSize 0 (then-second _ _ (then-second _ _ b))));
+        sizes = long .0;
+        classes = long .2;
+        before = long .3;
+        after = long .4;
+        small = sizes-small (l .sizes) (rule-holds _ PointSize 0 (then-second _ _ (then-second _ _ b)));
       }
 
   pub whole-clear : (answer : Settled) {f : Fault} {room : ℕ} {cs′ : List ℕ} {bs′ fs′ : List ℤ} → f ≡ input → f ≡ Clear

@@ -6,13 +6,13 @@ use mathlib.Core.Bool.{Bool, true, false, _&&_, _||_, false≢true}
 use mathlib.Core.List.{List, [], _∷_, _++_}
 use native.Mathlib.Omega.{arith}
 use native.Mathlib.Numerals.{add-one}
-use lib.Dec.{ltb, eqb}
+use lib.Dec.{leb, ltb, eqb}
 use lib.ListN.{length, getD, take, drop, set, drop-of-length-le}
 use lib.Seq.{drop-cons}
-use borrow.Author.Tests.{ltb-true, eqb-true}
+use borrow.Author.Tests.{leb-true, ltb-true, eqb-true}
 use Rattle.share.proofs.Fill.{fill-again, fill-end}
-use Rattle.line_moves.specs.Parts.{Known}
-use Rattle.line_call.specs.Justified.{allLong, allKnown}
+use Rattle.line_moves.specs.Parts.{Known, SmallSizes}
+use Rattle.line_call.specs.Justified.{allLong, goodSize, goodSizes, allKnown}
 
 -- ---- conjunctions
 
@@ -30,13 +30,19 @@ and-true false = refl
 
 -- ---- lengths
 
--- four that refusal 9 does not bar
-pub lengths-hold : (n a b c d : ℕ) → allLong n (a ∷ b ∷ c ∷ d ∷ []) ≡ true → (a ≡ n) × (b ≡ n) × (c ≡ n) × (d ≡ n)
-lengths-hold n a b c d e =
-    let q = and-right (eqb a n) (eqb b n && (eqb c n && (eqb d n && true))) e in
-    let w = and-right (eqb b n) (eqb c n && (eqb d n && true)) q in
-    let z = and-right (eqb c n) (eqb d n && true) w in
-    (eqb-true a n (and-left (eqb a n) _ e), eqb-true b n (and-left (eqb b n) _ q), eqb-true c n (and-left (eqb c n) _ w), eqb-true d n (and-left (eqb d n) true z))
+-- five that refusal 9 does not bar
+pub lengths-hold : (n a b c d e : ℕ) → allLong n (a ∷ b ∷ c ∷ d ∷ e ∷ []) ≡ true → (a ≡ n) × (b ≡ n) × (c ≡ n) × (d ≡ n) × (e ≡ n)
+lengths-hold n a b c d e h =
+    let from-b = and-right (eqb a n) (eqb b n && (eqb c n && (eqb d n && (eqb e n && true)))) h in
+    let from-c = and-right (eqb b n) (eqb c n && (eqb d n && (eqb e n && true))) from-b in
+    let from-d = and-right (eqb c n) (eqb d n && (eqb e n && true)) from-c in
+    let from-e = and-right (eqb d n) (eqb e n && true) from-d in (
+      eqb-true a n (and-left (eqb a n) _ h),
+      eqb-true b n (and-left (eqb b n) _ from-b),
+      eqb-true c n (and-left (eqb c n) _ from-c),
+      eqb-true d n (and-left (eqb d n) _ from-d),
+      eqb-true e n (and-left (eqb e n) true from-e),
+    )
 
 -- ---- one glyph more
 
@@ -52,23 +58,39 @@ module _ {A : Type 0} (xs : List A) (i : ℕ) (d : A) where
 pub copy-end : {A : Type 0} (xs : List A) (i : ℕ) (out : List A) → length xs ≤ i → length xs ≡ length out → xs ≡ take i out ++ drop i xs → out ≡ xs
 copy-end xs i out h e inv = fill-end out (drop i xs) i (omega arith) inv (drop-of-length-le xs h)
 
--- ---- known glyphs
+-- ---- a test of each element
 
-module _ (n : ℕ) (gs : List ℕ) (i : ℕ) where
-  known-next : i < length gs → allKnown n (drop i gs) ≡ ((ltb (getD gs i 0) n || eqb (getD gs i 0) 0xFFFF) && allKnown n (drop (i + 1) gs))
-  known-next h = ap (allKnown n) (drop-next gs i 0 h)
+-- `all` tests each element of a list by `one`
+pub record Each (all : List ℕ → Bool) (one : ℕ → Bool) : Type 0 where
+  none : all [] ≡ true
+  more : (x : ℕ) (xs : List ℕ) → all (x ∷ xs) ≡ (one x && all xs)
 
-  module _ {r : Bool} (h : i < length gs) (e : r ≡ (ltb (getD gs i 0) n || eqb (getD gs i 0) 0xFFFF)) where
-    pub known-on : r ≡ true → allKnown n (drop i gs) ≡ allKnown n (drop (i + 1) gs)
-    known-on q = known-next h ∙ ap (λ (b : Bool). b && allKnown n (drop (i + 1) gs)) (sym e ∙ q)
+module _ {all : List ℕ → Bool} {one : ℕ → Bool} (w : Each all one) (xs : List ℕ) (i : ℕ) where
+  each-next : i < length xs → all (drop i xs) ≡ (one (getD xs i 0) && all (drop (i + 1) xs))
+  each-next h = ap all (drop-next xs i 0 h) ∙ w .more (getD xs i 0) (drop (i + 1) xs)
 
-    pub known-not : r ≡ false → allKnown n (drop i gs) ≡ false
-    known-not q = known-next h ∙ ap (λ (b : Bool). b && allKnown n (drop (i + 1) gs)) (sym e ∙ q)
+  module _ {r : Bool} (h : i < length xs) (e : r ≡ one (getD xs i 0)) where
+    pub each-on : r ≡ true → all (drop i xs) ≡ all (drop (i + 1) xs)
+    each-on q = each-next h ∙ ap (λ (b : Bool). b && all (drop (i + 1) xs)) (sym e ∙ q)
 
-  pub known-end : length gs ≤ i → allKnown n (drop i gs) ≡ true
-  known-end h = ap (allKnown n) (drop-of-length-le gs h)
+    pub each-not : r ≡ false → all (drop i xs) ≡ false
+    each-not q = each-next h ∙ ap (λ (b : Bool). b && all (drop (i + 1) xs)) (sym e ∙ q)
 
--- what the test says of each place
+  pub each-end : length xs ≤ i → all (drop i xs) ≡ true
+  each-end h = ap all (drop-of-length-le xs h) ∙ w .none
+
+pub each-known : (n : ℕ) → Each (allKnown n) (λ (g : ℕ). ltb g n || eqb g 0xFFFF)
+each-known n = record { none = refl; more = λ g gs. refl }
+
+pub each-size : Each goodSizes goodSize
+each-size = record { none = refl; more = λ z zs. refl }
+
+-- what the tests say of each place
+pub sizes-small : (zs : List ℕ) → goodSizes zs ≡ true → SmallSizes zs
+sizes-small [] e place = omega arith
+sizes-small (z ∷ zs) e zero = leb-true z 67108864 (and-right (leb 1 z) (leb z 67108864) (and-left (goodSize z) (goodSizes zs) e))
+sizes-small (z ∷ zs) e (suc place) = sizes-small zs (and-right (goodSize z) (goodSizes zs) e) place
+
 pub known-each : (n : ℕ) (gs : List ℕ) → allKnown n gs ≡ true → Known n gs
 known-each n [] e place h = absurd (omega arith)
 known-each n (g ∷ gs) e zero h = go (ltb g n) refl (and-left (ltb g n || eqb g 0xFFFF) (allKnown n gs) e)

@@ -13,7 +13,7 @@ use lib.Signed.{ltZ}
 use lib.ListN.{length, getD, length-map}
 use borrow.Author.Tests.{leb-true, eq-eqb, ne-eqb, le-ltb}
 use Rattle.fields.specs.declared.Refusal.{Refusal}
-use Rattle.fields.specs.declared.Refusal.the-variants.{LongLine, UnknownGlyph, EndlessWalk, ShortRoom}
+use Rattle.fields.specs.declared.Refusal.the-variants.{UnequalLengths, LongLine, UnknownGlyph, EndlessWalk, ShortRoom}
 use Rattle.fields.specs.declared.Fault.{Fault}
 use Rattle.fields.specs.declared.Fault.the-variants.{Clear, Bad}
 use Rattle.fields.specs.Laws.{then-first, then-second, rule-holds}
@@ -35,7 +35,7 @@ use Rattle.line_moves.proofs.Walks.{walk-length}
 use Rattle.line_moves.proofs.Parts.{parts-length}
 use Rattle.line_call.specs.Justified.{Lent, justifies, refuses, lengthsOf, workedFault, lineFault, settled, justified}
 use Rattle.line_call.specs.Settle.{storedIn}
-use Rattle.line_call.proofs.Tests.{known-each}
+use Rattle.line_call.proofs.Tests.{lengths-hold, known-each}
 
 -- ---- refusals
 
@@ -161,7 +161,8 @@ module _ (t : List ℕ) (n : ℕ) (l : Line) (b : Lent) where
       let e14 = then-second _ _ e13 in
       let stops = rule-holds _ EndlessWalk 0 (then-first _ _ e14) in
       let classes = each-class (walkOf (side .machine) l) refl stops in
-      let parts = parts-length side (shrinks l) (l .size) (l .glyphs) (classesOf (walkOf (side .machine) l)) classes in
+      let long = lengths-hold (length (l .glyphs)) _ _ _ _ _ (rule-holds _ UnequalLengths 0 (then-first _ _ e9)) in
+      let parts = parts-length side (shrinks l) (l .sizes) (l .glyphs) (classesOf (walkOf (side .machine) l)) (long .0) classes in
       let moves = line-lengths (partsFor side l) (gapSize l) in
       record {
         accepted = then-first _ _ e;

@@ -22,6 +22,7 @@ use Rattle.line_moves.specs.declared.Shared.the-variants.{Left, Over}
 use Rattle.line_moves.specs.Parts.{inUnits, SharedOut, SharedGap}
 use Rattle.line_moves.proofs.Sharing.{left-small}
 use Rattle.line_call.specs.declared.Gap.the-variants as gap
+use Rattle.line_call.specs.declared.Worked.{Worked}
 use Rattle.line_call.specs.declared.Worked.the-variants as worked
 use Rattle.line_call.specs.Justified.{within, noneNegative, goodAdvances, allKnown}
 use Rattle.line_call.specs.Steps.{measuredLine, gapIn, workFault, workedBy, WorkedOut}
@@ -73,33 +74,33 @@ module _ (l : Line) {t : ℤ} (r : t ≡ l .target) where
 -- ---- what bars it
 
 module _ (s : Side) (n : ℕ) (l : Line) where
-  barred : (r : Refusal) {cs : List ℕ} {bs fs : List ℤ} → workFault s n l ≡ Bad r 0 → WorkedOut s n l (worked.Bad r 0) cs bs fs
-  barred r {cs} {bs} {fs} e =
+  barred : (r : Refusal) {w : Worked} {cs : List ℕ} {bs fs : List ℤ} → w ≡ worked.Bad r 0 → workFault s n l ≡ Bad r 0 → WorkedOut s n l w cs bs fs
+  barred r {w} {cs} {bs} {fs} b e =
       record {
-        says = ap (λ (f : Fault). workedBy f s l) (sym e);
+        says = b ∙ ap (λ (f : Fault). workedBy f s l) (sym e);
         classes = λ c. let z : _≡_ {A = ℕ} 0 1 = cc in absurd (omega arith);
         before = λ c. let z : _≡_ {A = ℕ} 0 1 = cc in absurd (omega arith);
         after = λ c. let z : _≡_ {A = ℕ} 0 1 = cc in absurd (omega arith);
       }
 
-  pub bad-advances : {cs : List ℕ} {bs fs : List ℤ} → goodAdvances l ≡ false → WorkedOut s n l (worked.Bad Advances 0) cs bs fs
+  pub bad-advances : {w : Worked} {cs : List ℕ} {bs fs : List ℤ} → w ≡ worked.Bad Advances 0 → goodAdvances l ≡ false → WorkedOut s n l w cs bs fs
   unfolding workFault _then_ rule
-  bad-advances a = barred Advances (rw a)
+  bad-advances b a = barred Advances b (rw a)
 
   module _ (a : goodAdvances l ≡ true) where
-    pub bad-glyph : {cs : List ℕ} {bs fs : List ℤ} → allKnown n (l .glyphs) ≡ false → WorkedOut s n l (worked.Bad UnknownGlyph 0) cs bs fs
+    pub bad-glyph : {w : Worked} {cs : List ℕ} {bs fs : List ℤ} → w ≡ worked.Bad UnknownGlyph 0 → allKnown n (l .glyphs) ≡ false → WorkedOut s n l w cs bs fs
     unfolding workFault _then_ rule
-    bad-glyph k = barred UnknownGlyph (rw (a, k))
+    bad-glyph b k = barred UnknownGlyph b (rw (a, k))
 
     module _ (k : allKnown n (l .glyphs) ≡ true) where
-      pub bad-walk : {cs : List ℕ} {bs fs : List ℤ} → hasStopped (walkOf (s .machine) l) ≡ false → WorkedOut s n l (worked.Bad EndlessWalk 0) cs bs fs
+      pub bad-walk : {o : Worked} {cs : List ℕ} {bs fs : List ℤ} → o ≡ worked.Bad EndlessWalk 0 → hasStopped (walkOf (s .machine) l) ≡ false → WorkedOut s n l o cs bs fs
       unfolding workFault _then_ rule
-      bad-walk w = barred EndlessWalk (rw (a, k, w))
+      bad-walk b w = barred EndlessWalk b (rw (a, k, w))
 
       module _ (w : hasStopped (walkOf (s .machine) l) ≡ true) where
-        bad-total : {cs : List ℕ} {bs fs : List ℤ} → lineFits (partsFor s l) ≡ false → WorkedOut s n l (worked.Bad StageTotal 0) cs bs fs
+        bad-total : {o : Worked} {cs : List ℕ} {bs fs : List ℤ} → o ≡ worked.Bad StageTotal 0 → lineFits (partsFor s l) ≡ false → WorkedOut s n l o cs bs fs
         unfolding workFault _then_ rule
-        bad-total f = barred StageTotal (rw (a, k, w, f))
+        bad-total b f = barred StageTotal b (rw (a, k, w, f))
 
         clear : lineFits (partsFor s l) ≡ true → workFault s n l ≡ Clear
         unfolding workFault _then_ rule
@@ -138,15 +139,15 @@ signed-small true (suc x) h = record { sfits = omega arith }
 
 module _ (s : Side) (n : ℕ) (l : Line) {g : ℤ} (d : Gapped l g) (k : allKnown n (l .glyphs) ≡ true) (w : hasStopped (walkOf (s .machine) l) ≡ true)
     {held : List ℕ} (eh : held ≡ classesOf (walkOf (s .machine) l)) {bs fs bs′ fs′ : List ℤ} {sh : Shared}
-    (o : SharedGap g s (l .size) (l .glyphs) held bs fs sh bs′ fs′) where
+    (o : SharedGap g s (l .sizes) (l .glyphs) held bs fs sh bs′ fs′) where
   -- the gap and the classes are the line's
   out : SharedOut (shrinks l) (gapSize l) (partsFor s l) bs fs sh bs′ fs′
   out =
-      subst (λ (cs : List ℕ). SharedGap (gapOf l) s (l .size) (l .glyphs) cs bs fs sh bs′ fs′) eh
-      (subst (λ (z : ℤ). SharedGap z s (l .size) (l .glyphs) held bs fs sh bs′ fs′) (sym (d .gap)) o)
+      subst (λ (cs : List ℕ). SharedGap (gapOf l) s (l .sizes) (l .glyphs) cs bs fs sh bs′ fs′) eh
+      (subst (λ (z : ℤ). SharedGap z s (l .sizes) (l .glyphs) held bs fs sh bs′ fs′) (sym (d .gap)) o)
 
-  pub work-over : {cs : List ℕ} {xs ys : List ℤ} → sh ≡ Over → WorkedOut s n l (worked.Bad StageTotal 0) cs xs ys
-  work-over {cs} {xs} {ys} e = bad-total s n l (d .good) k w (shared-over out e)
+  pub work-over : {v : Worked} {cs : List ℕ} {xs ys : List ℤ} → v ≡ worked.Bad StageTotal 0 → sh ≡ Over → WorkedOut s n l v cs xs ys
+  work-over {v} {cs} {xs} {ys} b e = bad-total s n l (d .good) k w b (shared-over out e)
 
   module _ (u : Units) (e : sh ≡ Left u) where
     -- no more is left than the gap, so that 32 bits hold it

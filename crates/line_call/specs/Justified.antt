@@ -37,13 +37,21 @@ abbrev pub allLong : ℕ → List ℕ → Bool
 allLong n [] = true
 allLong n (m ∷ ms) = eqb m n && allLong n ms
 
--- 9: the advances, and each slice that is lent with a place for every glyph, have the glyphs' number; `lengths` are those of such slices
+-- 9: the sizes, the advances, and each slice that is lent with a place for every glyph, have the glyphs' number; `lengths` are those of such slices
 abbrev pub equalLengths : Line → List ℕ → Bool
-equalLengths l lengths = allLong (length (l .glyphs)) (length (l .advances) ∷ lengths)
+equalLengths l lengths = allLong (length (l .glyphs)) (length (l .sizes) ∷ length (l .advances) ∷ lengths)
 
 -- classes and both sides' movements are such slices; the verdicts are not
 abbrev pub lengthsOf : Lent → List ℕ
 lengthsOf b = length (b .classes) ∷ length (b .before) ∷ length (b .after) ∷ []
+
+-- 11: every size is 1 to 67,108,864 units, that of a deleted glyph and of one without a record too (document 02, request 5/14); so an empty line is never barred by it
+abbrev pub goodSize : ℕ → Bool
+goodSize size = leb 1 size && leb size 67108864
+
+abbrev pub goodSizes : List ℕ → Bool
+goodSizes [] = true
+goodSizes (z ∷ zs) = goodSize z && goodSizes zs
 
 -- 12: advances and target are 0 or more; the advances' sum, and the target, at most 1,073,741,823 units
 abbrev pub within : ℤ → Bool
@@ -66,7 +74,7 @@ abbrev pub inputTests : Line → List ℕ → List Fault
 inputTests l lengths =
     rule (equalLengths l lengths) UnequalLengths 0
     ∷ rule (leb (length (l .glyphs)) 1024) LongLine 0
-    ∷ rule (leb 1 (l .size) && leb (l .size) 67108864) PointSize 0
+    ∷ rule (goodSizes (l .sizes)) PointSize 0
     ∷ []
 
 -- 12 to 15, by the meaning of its direction

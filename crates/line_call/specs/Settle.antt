@@ -10,13 +10,13 @@ use Rattle.line_call.specs.declared.Settled.{Settled}
 use Rattle.line_call.specs.Justified.{Lent, LineReply, justifies, refuses, saysLine, Outcome}
 
 -- the line and what is lent, as the call has them
-abbrev pub lineBy : LineShape → List ℕ → List ℤ → Line
-lineBy shape glyphs advances =
+abbrev pub lineBy : LineShape → List ℕ → List ℕ → List ℤ → Line
+lineBy shape sizes glyphs advances =
     record {
       direction = shape .direction;
       starts = shape .starts;
       ends = shape .ends;
-      size = shape .size;
+      sizes = sizes;
       glyphs = glyphs;
       advances = advances;
       target = shape .target;

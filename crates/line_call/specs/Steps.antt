@@ -39,7 +39,7 @@ inputFault t n l lengths = firstFault (tableFault t n ∷ inputTests l lengths)
 -- a line of which only its advances and its target are said
 abbrev pub measuredLine : List ℤ → ℤ → Line
 measuredLine advances target =
-    record { direction = Horizontal; starts = false; ends = false; size = 0; glyphs = []; advances = advances; target = target }
+    record { direction = Horizontal; starts = false; ends = false; sizes = []; glyphs = []; advances = advances; target = target }
 
 abbrev pub sumIn : List ℤ → Sum
 sumIn advances = cond (noneNegative advances && within (sumℤ advances)) (sum.Total (inUnits (sumℤ advances))) sum.Unfit

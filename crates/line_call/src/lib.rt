@@ -2,10 +2,10 @@
 // Here: all of it but the storing of the verdicts, whose number `settle` answers beside the call's answer. Nothing
 // lent is written before every refusal is judged.
 ghost use mathlib.Core.Path.{_≡_};
-ghost use mathlib.Core.Bool.{_&&_, _||_};
+ghost use mathlib.Core.Bool.{_||_};
 ghost use mathlib.Core.List.{List, [], _∷_};
 ghost use Prim.Native.Nat.{_≤_};
-ghost use lib.Dec.{eqb, leb, ltb};
+ghost use lib.Dec.{eqb, ltb};
 ghost use lib.ListN.{length};
 ghost use Rattle.fields.specs.declared.Fault.the-variants.{Clear};
 ghost use Rattle.types.specs.declared.Verdict.{Verdict};
@@ -13,7 +13,9 @@ ghost use Rattle.meaning.specs.Ask.{sideOf};
 ghost use Rattle.table.specs.Table.{tableFault};
 ghost use Rattle.table.specs.Means.{meaningOf};
 ghost use Rattle.line_rule.specs.Line.{verdictsFrom};
-ghost use Rattle.line_call.specs.Justified.{allLong, allKnown, justified};
+ghost use Rattle.line_moves.specs.Parts.{SmallSizes};
+ghost use Rattle.line_call.specs.declared.Worked.the-variants.{Bad};
+ghost use Rattle.line_call.specs.Justified.{allLong, goodSize, goodSizes, allKnown, justified};
 ghost use Rattle.line_call.specs.Settle.{lineBy, lentBy, settlementIs, settlementIn};
 ghost use Rattle.line_call.specs.Steps.{measuredLine, sumIn, gapIn, inputFault, WorkedOut, Finished, SettledIn, LineRoom};
 use fields::Fault;
@@ -66,16 +68,23 @@ const MOST: u64 = 1073741823;
 // The most glyphs of a line.
 const LONGEST: usize = 1024;
 
+// The most units of a point size: 1,024 points.
+const LARGEST: u32 = 67108864;
+
 // Refusal 9's test.
 fn equal_lengths(
     glyphs: usize,
+    sizes: usize,
     advances: usize,
     classes: usize,
     before: usize,
     after: usize,
 ) -> bool
-    ensures { λ r. ⌜ r ≡ allLong glyphs (advances ∷ classes ∷ before ∷ after ∷ []) ⌝ }
+    ensures { λ r. ⌜ r ≡ allLong glyphs (sizes ∷ advances ∷ classes ∷ before ∷ after ∷ []) ⌝ }
 {
+    if sizes != glyphs {
+        return false;
+    }
     if advances != glyphs {
         return false;
     }
@@ -88,14 +97,29 @@ fn equal_lengths(
     after == glyphs
 }
 
-// Refusal 11's test.
+// Whether a size is within its bounds.
 fn good_size(size: u32) -> bool
-    ensures { λ r. ⌜ r ≡ (leb 1 size && leb size 67108864) ⌝ }
+    ensures { λ r. ⌜ r ≡ goodSize size ⌝ }
 {
     if size < 1 {
         return false;
     }
-    size <= 67108864
+    size <= LARGEST
+}
+
+// Refusal 11's test.
+fn good_sizes(sizes: &[u32]) -> bool
+    ensures { λ r. ⌜ r ≡ goodSizes (now (sizes .entry)) ⌝ }
+{
+    let mut i = 0;
+    while i < sizes.len() {
+        if good_size(sizes[i]) {
+            i += 1;
+        } else {
+            return false;
+        }
+    }
+    true
 }
 
 // The table's refusals, then 9 to 11.
@@ -103,6 +127,7 @@ fn input_fault(
     table: &[u8],
     count: u32,
     shape: LineShape,
+    sizes: &[u32],
     glyphs: &[u16],
     advances: &[i32],
     classes: usize,
@@ -110,16 +135,16 @@ fn input_fault(
     after: usize,
 ) -> Fault
     ensures { λ r. ⌜
-        r ≡ inputFault (now (table .entry)) count (lineBy shape (now (glyphs .entry)) (now (advances .entry)))
+        r ≡ inputFault (now (table .entry)) count (lineBy shape (now (sizes .entry)) (now (glyphs .entry)) (now (advances .entry)))
         (classes ∷ before ∷ after ∷ [])
         ⌝ }
 {
     let n = glyphs.len();
     let table_is = table::table_fault(table, count);
-    let equal = equal_lengths(n, advances.len(), classes, before, after);
+    let equal = equal_lengths(n, sizes.len(), advances.len(), classes, before, after);
     let lengths = fields::ruled(equal, Refusal::UnequalLengths, 0);
     let short = fields::ruled(n <= LONGEST, Refusal::LongLine, 0);
-    let sized = fields::ruled(good_size(shape.size), Refusal::PointSize, 0);
+    let sized = fields::ruled(good_sizes(sizes), Refusal::PointSize, 0);
     fields::then(table_is, fields::then(lengths, fields::then(short, sized)))
 }
 
@@ -206,11 +231,19 @@ fn copy_moves(from: &[i32], to: &mut [i32])
     }
 }
 
+// A line that one of its own refusals bars: the offset of each is 0.
+fn barred(refusal: Refusal) -> Worked
+    ensures { λ r. ⌜ r ≡ Bad refusal 0 ⌝ }
+{
+    Worked::Bad { refusal, at: 0 }
+}
+
 // Refusals 12 to 15; where nothing bars the line, `held` gets its classes, `befores` and `afters` its movements.
 fn work_out(
     table: &[u8],
     count: u32,
     shape: LineShape,
+    sizes: &[u32],
     glyphs: &[u16],
     advances: &[i32],
     held: &mut [u8],
@@ -218,20 +251,17 @@ fn work_out(
     afters: &mut [i32],
 ) -> Worked
     requires { ⌜
-        (tableFault (now table) count ≡ Clear) × (length (now glyphs) ≤ 1024)
-        × LineRoom (length (now glyphs)) (now held) (now befores) (now afters) × (shape .size ≤ 67108864)
+        (tableFault (now table) count ≡ Clear) × (length (now glyphs) ≤ 1024) × (length (now sizes) ≡ length (now glyphs))
+        × LineRoom (length (now glyphs)) (now held) (now befores) (now afters) × SmallSizes (now sizes)
         ⌝ }
     ensures { λ r. ⌜
         WorkedOut (sideOf (shape .direction) (meaningOf (now (table .entry)) count)) count
-        (lineBy shape (now (glyphs .entry)) (now (advances .entry)))
+        (lineBy shape (now (sizes .entry)) (now (glyphs .entry)) (now (advances .entry)))
         r (now (held .exit)) (now (befores .exit)) (now (afters .exit))
         ⌝ }
 {
     let Gap::Of(gap) = gap_of(advances, shape.target) else {
-        return Worked::Bad {
-            refusal: Refusal::Advances,
-            at: 0,
-        };
+        return barred(Refusal::Advances);
     };
     if all_known(count, glyphs) {
         let walked = line_moves::line_walk(table, count, shape, glyphs);
@@ -244,31 +274,24 @@ fn work_out(
                 count,
                 shape,
                 gap,
+                sizes,
                 glyphs,
                 held,
                 befores,
                 afters,
             );
-            let Shared::Left(remainder) = shared else {
-                return Worked::Bad {
-                    refusal: Refusal::StageTotal,
-                    at: 0,
-                };
+            let Shared::Left(left) = shared else {
+                return barred(Refusal::StageTotal);
             };
+            let remainder = left.0 as i32;
             return Worked::Done {
-                remainder: remainder.0 as i32,
+                remainder,
                 entries: walked.count,
             };
         }
-        return Worked::Bad {
-            refusal: Refusal::EndlessWalk,
-            at: 0,
-        };
+        return barred(Refusal::EndlessWalk);
     }
-    Worked::Bad {
-        refusal: Refusal::UnknownGlyph,
-        at: 0,
-    }
+    barred(Refusal::UnknownGlyph)
 }
 
 // Refusal 16; where there is room for the verdicts, classes and movements are copied out.
@@ -276,6 +299,7 @@ fn finish<'a, 'b>(
     table: &'a [u8],
     count: u32,
     shape: LineShape,
+    sizes: &'a [u32],
     glyphs: &'a [u16],
     remainder: i32,
     entries: u32,
@@ -287,15 +311,15 @@ fn finish<'a, 'b>(
     before: &'b mut [i32],
     after: &'b mut [i32],
 ) -> Settled
-    requires { ⌜ (tableFault (now table) count ≡ Clear) × (length (now glyphs) ≤ 1024) ⌝ }
+    requires { ⌜ (tableFault (now table) count ≡ Clear) × (length (now glyphs) ≤ 1024) × (length (now sizes) ≡ length (now glyphs)) ⌝ }
     requires { ⌜
         LineRoom (length (now glyphs)) (now held) (now befores) (now afters)
         × LineRoom (length (now glyphs)) (now classes) (now before) (now after)
         ⌝ }
     ensures { λ r. ⌜
         Finished room
-        (length (verdictsFrom (sideOf (shape .direction) (meaningOf (now (table .entry)) count)) (shape .size) 0
-        (now (glyphs .entry)) (now (held .entry)) (now (befores .entry)) (now (afters .entry))))
+        (length (verdictsFrom (sideOf (shape .direction) (meaningOf (now (table .entry)) count)) 0
+        (now (sizes .entry)) (now (glyphs .entry)) (now (held .entry)) (now (befores .entry)) (now (afters .entry))))
         remainder entries
         (now (held .entry)) (now (classes .entry)) (now (classes .exit))
         (now (befores .entry)) (now (before .entry)) (now (before .exit))
@@ -303,16 +327,17 @@ fn finish<'a, 'b>(
         r
         ⌝ }
 {
-    let verdicts = line_verdicts::count_verdicts(
+    let stored = line_verdicts::count_verdicts(
         table,
         count,
         shape,
+        sizes,
         glyphs,
         held,
         befores,
         afters,
     );
-    if room < verdicts {
+    if room < stored {
         return Settled {
             answer: LineAnswer::Refused {
                 refusal: Refusal::ShortRoom,
@@ -324,13 +349,14 @@ fn finish<'a, 'b>(
     copy_classes(held, classes);
     copy_moves(befores, before);
     copy_moves(afters, after);
+    let verdicts = stored as u32;
     Settled {
         answer: LineAnswer::Justified {
             remainder,
             entries,
-            verdicts: verdicts as u32,
+            verdicts,
         },
-        stored: verdicts,
+        stored,
     }
 }
 
@@ -339,6 +365,7 @@ fn settle_in<'a, 'b>(
     table: &'a [u8],
     count: u32,
     shape: LineShape,
+    sizes: &'a [u32],
     glyphs: &'a [u16],
     advances: &'a [i32],
     room: usize,
@@ -349,19 +376,29 @@ fn settle_in<'a, 'b>(
     before: &'b mut [i32],
     after: &'b mut [i32],
 ) -> Settled
-    requires { ⌜ (tableFault (now table) count ≡ Clear) × (length (now glyphs) ≤ 1024) ⌝ }
+    requires { ⌜ (tableFault (now table) count ≡ Clear) × (length (now glyphs) ≤ 1024) × (length (now sizes) ≡ length (now glyphs)) ⌝ }
     requires { ⌜
         LineRoom (length (now glyphs)) (now held) (now befores) (now afters)
-        × LineRoom (length (now glyphs)) (now classes) (now before) (now after) × (shape .size ≤ 67108864)
+        × LineRoom (length (now glyphs)) (now classes) (now before) (now after) × SmallSizes (now sizes)
         ⌝ }
     ensures { λ r. ⌜
         SettledIn (sideOf (shape .direction) (meaningOf (now (table .entry)) count)) count
-        (lineBy shape (now (glyphs .entry)) (now (advances .entry))) room
+        (lineBy shape (now (sizes .entry)) (now (glyphs .entry)) (now (advances .entry))) room
         (now (classes .entry)) (now (before .entry)) (now (after .entry))
         r (now (classes .exit)) (now (before .exit)) (now (after .exit))
         ⌝ }
 {
-    let worked = work_out(table, count, shape, glyphs, advances, held, befores, afters);
+    let worked = work_out(
+        table,
+        count,
+        shape,
+        sizes,
+        glyphs,
+        advances,
+        held,
+        befores,
+        afters,
+    );
     match worked {
         Worked::Bad { refusal, at } => Settled {
             answer: LineAnswer::Refused { refusal, at },
@@ -371,6 +408,7 @@ fn settle_in<'a, 'b>(
             table,
             count,
             shape,
+            sizes,
             glyphs,
             remainder,
             entries,
@@ -390,6 +428,7 @@ pub fn settle<'a, 'b>(
     table: &'a [u8],
     count: u32,
     shape: LineShape,
+    sizes: &'a [u32],
     glyphs: &'a [u16],
     advances: &'a [i32],
     room: usize,
@@ -401,7 +440,7 @@ pub fn settle<'a, 'b>(
         ((verdicts : List Verdict) → length verdicts ≡ room →
         settlementIs r (now (classes .exit)) (now (before .exit)) (now (after .exit))
         ≡ settlementIn (justified (now (table .entry)) count
-        (lineBy shape (now (glyphs .entry)) (now (advances .entry)))
+        (lineBy shape (now (sizes .entry)) (now (glyphs .entry)) (now (advances .entry)))
         (lentBy (now (classes .entry)) (now (before .entry)) (now (after .entry)) verdicts)))
         ⌝ }
 {
@@ -410,6 +449,7 @@ pub fn settle<'a, 'b>(
         table,
         count,
         shape,
+        sizes,
         glyphs,
         advances,
         classes.len(),
@@ -429,6 +469,7 @@ pub fn settle<'a, 'b>(
         table,
         count,
         shape,
+        sizes,
         glyphs,
         advances,
         room,

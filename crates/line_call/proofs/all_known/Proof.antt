@@ -4,7 +4,7 @@ use lib.ListN.{length, drop}
 use Prim.Native.Nat.{_-_, _≤_}
 use mathlib.Core.Path.{_≡_, refl, sym, _∙_}
 use Rattle.line_call.specs.Justified.{allKnown}
-use Rattle.line_call.proofs.Tests.{known-on, known-not, known-end}
+use Rattle.line_call.proofs.Tests.{each-known, each-on, each-not, each-end}
 use Rattle.line_call.proofs.all_known.Statement.{statement}
 use Rattle.line_call.proofs.all_known.Tie as tie
 
@@ -36,19 +36,19 @@ loop-again : tie.Need-loop-again Inv-loop μ-loop
 loop-again c =
     let a = c .before .before .before .before .before .before .args in
     let l = c .before .before .before .before .loop in
-    (omega arith, l .inv .1 ∙ known-on (a .count) (a .glyphs .now) (l .i) (omega arith) (c .before .known .ensures) (c .if1 .taken))
+    (omega arith, l .inv .1 ∙ each-on (each-known (a .count)) (a .glyphs .now) (l .i) (omega arith) (c .before .known .ensures) (c .if1 .taken))
 
 returns : tie.Need-returns Inv-loop μ-loop
 returns c =
     let a = c .before .before .before .before .before .before .args in
     let l = c .before .before .before .before .loop in
-    sym (l .inv .1 ∙ known-not (a .count) (a .glyphs .now) (l .i) (omega arith) (c .before .known .ensures) (c .if1 .left))
+    sym (l .inv .1 ∙ each-not (each-known (a .count)) (a .glyphs .now) (l .i) (omega arith) (c .before .known .ensures) (c .if1 .left))
 
 returns-2 : tie.Need-returns-2 Inv-loop μ-loop
 returns-2 c =
     let a = c .before .before .before .args in
     let l = c .before .loop in
-    sym (l .inv .1 ∙ known-end (a .count) (a .glyphs .now) (l .i) (omega arith))
+    sym (l .inv .1 ∙ each-end (each-known (a .count)) (a .glyphs .now) (l .i) (omega arith))
 
 pub all-known-spec : {M : Type 1} → statement M
 all-known-spec =

@@ -21,8 +21,8 @@ ruled-requires c κs = search needs
 ruled-requires-2 : tie.Need-ruled-requires-2
 ruled-requires-2 c κs = search needs
 
-good-size-requires : tie.Need-good-size-requires
-good-size-requires c κs = search needs
+good-sizes-requires : tie.Need-good-sizes-requires
+good-sizes-requires c κs = search needs
 
 ruled-requires-3 : tie.Need-ruled-requires-3
 ruled-requires-3 c κs = search needs
@@ -38,7 +38,7 @@ then-requires-3 c κs = search needs
 
 returns : tie.Need-returns
 unfolding inputFault
-returns c = then-of (c .then3 .ensures) (c .before .before .before .before .before .before .before .before .table-fault .ensures) (then-of (c .before .then2 .ensures) (c .before .before .before .before .before .before .ruled .ensures ∙ ap (λ (b : Bool). rule b UnequalLengths 0) (c .before .before .before .before .before .before .before .equal-lengths .ensures)) (then-of (c .before .before .then .ensures) (c .before .before .before .before .before .ruled2 .ensures) (c .before .before .before .ruled3 .ensures ∙ ap (λ (b : Bool). rule b PointSize 0) (c .before .before .before .before .good-size .ensures))))
+returns c = then-of (c .then3 .ensures) (c .before .before .before .before .before .before .before .before .table-fault .ensures) (then-of (c .before .then2 .ensures) (c .before .before .before .before .before .before .ruled .ensures ∙ ap (λ (b : Bool). rule b UnequalLengths 0) (c .before .before .before .before .before .before .before .equal-lengths .ensures)) (then-of (c .before .before .then .ensures) (c .before .before .before .before .before .ruled2 .ensures) (c .before .before .before .ruled3 .ensures ∙ ap (λ (b : Bool). rule b PointSize 0) (c .before .before .before .before .good-sizes .ensures))))
 
 pub input-fault-spec : {M : Type 1} → statement M
 input-fault-spec =
@@ -48,7 +48,7 @@ input-fault-spec =
     equal-lengths-requires
     ruled-requires
     ruled-requires-2
-    good-size-requires
+    good-sizes-requires
     ruled-requires-3
     then-requires
     then-requires-2

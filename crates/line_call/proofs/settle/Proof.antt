@@ -16,48 +16,48 @@ enum-known-fault c = search needs
 
 returns : tie.Need-returns
 returns c =
-    let a = c .before .before .before .before .before .before .before .args in
-    λ verdicts h. whole-bad (a .table .now) (a .count) (lineBy (a .shape) (a .glyphs .now) (a .advances .now)) (a .classes .now) (a .before .now) (a .after .now) (c .before .fault .given .0 .0) (c .before .fault .given .0 .1 .0) (c .before .before .before .input-fault .ensures) (c .before .fault .given .1) verdicts
+    let a = c .before .before .before .before .before .before .before .before .args in
+    λ verdicts h. whole-bad (a .table .now) (a .count) (lineBy (a .shape) (a .sizes .now) (a .glyphs .now) (a .advances .now)) (a .classes .now) (a .before .now) (a .after .now) (c .before .fault .given .0 .0) (c .before .fault .given .0 .1 .0) (c .before .before .before .input-fault .ensures) (c .before .fault .given .1) verdicts
 
 enum-told : tie.Need-enum-told
 enum-told c = search needs
 
 array-borrow-prefix-held : tie.Need-array-borrow-prefix-held
 array-borrow-prefix-held c =
-    let a = c .before .before .before .before .before .before .args in
-    input-clear (a .table .now) (a .count) (lineBy (a .shape) (a .glyphs .now) (a .advances .now)) (a .classes .now) (a .before .now) (a .after .now) (c .before .before .input-fault .ensures) (c .enum-told .given .1) .short
+    let a = c .before .before .before .before .before .before .before .args in
+    input-clear (a .table .now) (a .count) (lineBy (a .shape) (a .sizes .now) (a .glyphs .now) (a .advances .now)) (a .classes .now) (a .before .now) (a .after .now) (c .before .before .input-fault .ensures) (c .enum-told .given .1) .short
 
 slice-aggregate-settle-in : tie.Need-slice-aggregate-settle-in
 slice-aggregate-settle-in c =
-    let a = c .before .before .before .before .before .before .before .args in
-    prefix-length 0 1024 (length (a .glyphs .now)) (input-clear (a .table .now) (a .count) (lineBy (a .shape) (a .glyphs .now) (a .advances .now)) (a .classes .now) (a .before .now) (a .after .now) (c .before .before .before .input-fault .ensures) (c .before .enum-told .given .1) .short)
+    let a = c .before .before .before .before .before .before .before .before .args in
+    prefix-length 0 1024 (length (a .glyphs .now)) (input-clear (a .table .now) (a .count) (lineBy (a .shape) (a .sizes .now) (a .glyphs .now) (a .advances .now)) (a .classes .now) (a .before .now) (a .after .now) (c .before .before .before .input-fault .ensures) (c .before .enum-told .given .1) .short)
 
 array-borrow-prefix-befores : tie.Need-array-borrow-prefix-befores
 array-borrow-prefix-befores c =
-    let a = c .before .before .before .before .before .before .before .args in
-    input-clear (a .table .now) (a .count) (lineBy (a .shape) (a .glyphs .now) (a .advances .now)) (a .classes .now) (a .before .now) (a .after .now) (c .before .before .before .input-fault .ensures) (c .before .enum-told .given .1) .short
+    let a = c .before .before .before .before .before .before .before .before .args in
+    input-clear (a .table .now) (a .count) (lineBy (a .shape) (a .sizes .now) (a .glyphs .now) (a .advances .now)) (a .classes .now) (a .before .now) (a .after .now) (c .before .before .before .input-fault .ensures) (c .before .enum-told .given .1) .short
 
 slice-aggregate-settle-in-2 : tie.Need-slice-aggregate-settle-in-2
 slice-aggregate-settle-in-2 c =
-    let a = c .before .before .before .before .before .before .before .before .args in
-    prefix-length (pos 0) 1024 (length (a .glyphs .now)) (input-clear (a .table .now) (a .count) (lineBy (a .shape) (a .glyphs .now) (a .advances .now)) (a .classes .now) (a .before .now) (a .after .now) (c .before .before .before .before .input-fault .ensures) (c .before .before .enum-told .given .1) .short)
+    let a = c .before .before .before .before .before .before .before .before .before .args in
+    prefix-length (pos 0) 1024 (length (a .glyphs .now)) (input-clear (a .table .now) (a .count) (lineBy (a .shape) (a .sizes .now) (a .glyphs .now) (a .advances .now)) (a .classes .now) (a .before .now) (a .after .now) (c .before .before .before .before .input-fault .ensures) (c .before .before .enum-told .given .1) .short)
 
 array-borrow-prefix-afters : tie.Need-array-borrow-prefix-afters
 array-borrow-prefix-afters c =
-    let a = c .before .before .before .before .before .before .before .before .args in
-    input-clear (a .table .now) (a .count) (lineBy (a .shape) (a .glyphs .now) (a .advances .now)) (a .classes .now) (a .before .now) (a .after .now) (c .before .before .before .before .input-fault .ensures) (c .before .before .enum-told .given .1) .short
+    let a = c .before .before .before .before .before .before .before .before .before .args in
+    input-clear (a .table .now) (a .count) (lineBy (a .shape) (a .sizes .now) (a .glyphs .now) (a .advances .now)) (a .classes .now) (a .before .now) (a .after .now) (c .before .before .before .before .input-fault .ensures) (c .before .before .enum-told .given .1) .short
 
 slice-aggregate-settle-in-3 : tie.Need-slice-aggregate-settle-in-3
 slice-aggregate-settle-in-3 c =
-    let a = c .before .before .before .before .before .before .before .before .before .args in
-    prefix-length (pos 0) 1024 (length (a .glyphs .now)) (input-clear (a .table .now) (a .count) (lineBy (a .shape) (a .glyphs .now) (a .advances .now)) (a .classes .now) (a .before .now) (a .after .now) (c .before .before .before .before .before .input-fault .ensures) (c .before .before .before .enum-told .given .1) .short)
+    let a = c .before .before .before .before .before .before .before .before .before .before .args in
+    prefix-length (pos 0) 1024 (length (a .glyphs .now)) (input-clear (a .table .now) (a .count) (lineBy (a .shape) (a .sizes .now) (a .glyphs .now) (a .advances .now)) (a .classes .now) (a .before .now) (a .after .now) (c .before .before .before .before .before .input-fault .ensures) (c .before .before .before .enum-told .given .1) .short)
 
 settle-in-requires : tie.Need-settle-in-requires
 settle-in-requires c κs =
-    let a = c .before .before .before .before .before .before .before .before .before .before .before .before .args in
+    let a = c .before .before .before .before .before .before .before .before .before .before .before .before .before .args in
     let n = length (a .glyphs .now) in
-    let i = input-clear (a .table .now) (a .count) (lineBy (a .shape) (a .glyphs .now) (a .advances .now)) (a .classes .now) (a .before .now) (a .after .now) (c .before .before .before .before .before .before .before .before .input-fault .ensures) (c .before .before .before .before .before .before .enum-told .given .1) in
-    ((i .accepted, i .short), (record { classes = sym (prefix-length 0 1024 n (i .short)); before = sym (prefix-length (pos 0) 1024 n (i .short)); after = sym (prefix-length (pos 0) 1024 n (i .short)) }, record { classes = i .classes; before = i .before; after = i .after }, i .small))
+    let i = input-clear (a .table .now) (a .count) (lineBy (a .shape) (a .sizes .now) (a .glyphs .now) (a .advances .now)) (a .classes .now) (a .before .now) (a .after .now) (c .before .before .before .before .before .before .before .before .input-fault .ensures) (c .before .before .before .before .before .before .enum-told .given .1) in
+    ((i .accepted, i .short, i .sizes), (record { classes = sym (prefix-length 0 1024 n (i .short)); before = sym (prefix-length (pos 0) 1024 n (i .short)); after = sym (prefix-length (pos 0) 1024 n (i .short)) }, record { classes = i .classes; before = i .before; after = i .after }, i .small))
 
 same-length : tie.Need-same-length
 same-length c = search needs
@@ -70,8 +70,8 @@ same-length-3 c = search needs
 
 returns-2 : tie.Need-returns-2
 returns-2 c =
-    let a = c .before .before .before .before .before .before .before .before .before .before .before .before .before .before .before .before .before .before .before .before .args in
-    whole-clear (a .table .now) (a .count) (lineBy (a .shape) (a .glyphs .now) (a .advances .now)) (a .classes .now) (a .before .now) (a .after .now) (c .before .before .before .before .before .before .before .settle-in .result) (c .before .before .before .before .before .before .before .before .before .before .before .before .before .before .before .before .input-fault .ensures) (c .before .before .before .before .before .before .before .before .before .before .before .before .before .before .enum-told .given .1) (c .before .before .before .before .before .before .before .settle-in .ensures)
+    let a = c .before .before .before .before .before .before .before .before .before .before .before .before .before .before .before .before .before .before .before .before .before .args in
+    whole-clear (a .table .now) (a .count) (lineBy (a .shape) (a .sizes .now) (a .glyphs .now) (a .advances .now)) (a .classes .now) (a .before .now) (a .after .now) (c .before .before .before .before .before .before .before .settle-in .result) (c .before .before .before .before .before .before .before .before .before .before .before .before .before .before .before .before .input-fault .ensures) (c .before .before .before .before .before .before .before .before .before .before .before .before .before .before .enum-told .given .1) (c .before .before .before .before .before .before .before .settle-in .ensures)
 
 pub settle-spec : {M : Type 1} → statement M
 settle-spec =

@@ -21,9 +21,9 @@ enum-known-worked-2 c = search needs
 
 finish-requires : tie.Need-finish-requires
 finish-requires c κs =
-    let p = c .before .before .before .before .before .before .before .before .before .before .before .before .before .before .before .before .before .before .before .before .before .pre in
+    let p = c .before .before .before .before .before .before .before .before .before .before .before .before .before .before .before .before .before .before .before .before .before .before .pre in
     let k = c .before .before .before .before .before .before .before .before .before .before .before .before .before .work-out .kept in
-    (p .0, (record { classes = k .1 .1 .1 .1 .1 .0 ∙ p .1 .0 .classes; before = k .1 .1 .1 .1 .1 .1 .0 ∙ p .1 .0 .before; after = k .1 .1 .1 .1 .1 .1 .1 .0 ∙ p .1 .0 .after }, p .1 .1))
+    (p .0, (record { classes = k .1 .1 .1 .1 .1 .1 .0 ∙ p .1 .0 .classes; before = k .1 .1 .1 .1 .1 .1 .1 .0 ∙ p .1 .0 .before; after = k .1 .1 .1 .1 .1 .1 .1 .1 .0 ∙ p .1 .0 .after }, p .1 .1))
 
 same-length : tie.Need-same-length
 same-length c = search needs
@@ -36,9 +36,9 @@ same-length-3 c = search needs
 
 returns : tie.Need-returns
 returns c =
-    let a = c .before .before .before .before .before .before .before .before .before .before .before .before .before .before .before .args in
+    let a = c .before .before .before .before .before .before .before .before .before .before .before .before .before .before .before .before .args in
     let s = sideOf (a .shape .direction) (meaningOf (a .table .now) (a .count)) in
-    settled-bad s (a .count) (lineBy (a .shape) (a .glyphs .now) (a .advances .now)) (a .room) (a .classes .now) (a .before .now) (a .after .now) (c .before .worked .given .0 .0) (c .before .worked .given .0 .1 .0) (c .before .worked .given .1) (c .before .before .before .before .before .before .before .work-out .ensures .says)
+    settled-bad s (a .count) (lineBy (a .shape) (a .sizes .now) (a .glyphs .now) (a .advances .now)) (a .room) (a .classes .now) (a .before .now) (a .after .now) (c .before .worked .given .0 .0) (c .before .worked .given .0 .1 .0) (c .before .worked .given .1) (c .before .before .before .before .before .before .before .work-out .ensures .says)
 
 same-length-4 : tie.Need-same-length-4
 same-length-4 c = search needs
@@ -60,9 +60,9 @@ same-length-9 c = search needs
 
 returns-2 : tie.Need-returns-2
 returns-2 c =
-    let a = c .before .before .before .before .before .before .before .before .before .before .before .before .before .before .before .before .before .before .before .before .before .before .before .before .before .before .args in
+    let a = c .before .before .before .before .before .before .before .before .before .before .before .before .before .before .before .before .before .before .before .before .before .before .before .before .before .before .before .args in
     let s = sideOf (a .shape .direction) (meaningOf (a .table .now) (a .count)) in
-    settled-done s (a .count) (lineBy (a .shape) (a .glyphs .now) (a .advances .now)) (a .room) (a .classes .now) (a .before .now) (a .after .now) (c .before .before .before .before .before .before .before .before .before .before .before .before .before .before .before .before .before .before .work-out .ensures) (c .before .before .before .before .before .before .before .before .before .before .before .before .worked2 .given .0 .0) (c .before .before .before .before .before .before .before .before .before .before .before .before .worked2 .given .0 .1 .0) (c .before .before .before .before .before .before .before .before .before .before .before .before .worked2 .given .1) (toZ-ofZ w32 (c .before .before .before .before .before .before .before .before .before .before .before .before .worked2 .given .0 .0) (search needs)) (c .before .before .before .before .finish .ensures)
+    settled-done s (a .count) (lineBy (a .shape) (a .sizes .now) (a .glyphs .now) (a .advances .now)) (a .room) (a .classes .now) (a .before .now) (a .after .now) (c .before .before .before .before .before .before .before .before .before .before .before .before .before .before .before .before .before .before .work-out .ensures) (c .before .before .before .before .before .before .before .before .before .before .before .before .worked2 .given .0 .0) (c .before .before .before .before .before .before .before .before .before .before .before .before .worked2 .given .0 .1 .0) (c .before .before .before .before .before .before .before .before .before .before .before .before .worked2 .given .1) (toZ-ofZ w32 (c .before .before .before .before .before .before .before .before .before .before .before .before .worked2 .given .0 .0) (search needs)) (c .before .before .before .before .finish .ensures)
 
 pub settle-in-spec : {M : Type 1} → statement M
 settle-in-spec =

@@ -22,61 +22,67 @@ enum-known-gap c = search needs
 enum-told : tie.Need-enum-told
 enum-told c = search needs
 
+barred-requires : tie.Need-barred-requires
+barred-requires c κs = search needs
+
 returns : tie.Need-returns
 returns c =
-    let a = c .before .before .before .before .before .before .before .args in
+    let a = c .before .before .before .before .before .before .before .before .before .args in
     let s = sideOf (a .shape .direction) (meaningOf (a .table .now) (a .count)) in
-    let l = lineBy (a .shape) (a .glyphs .now) (a .advances .now) in
-    bad-advances s (a .count) l (gap-none l (as-read (a .shape .target) (c .before .before .before .struct-told .given .1 .1 .1 .1 .0 .1)) (sym (c .before .before .gap-of .ensures) ∙ c .enum-told .given .1))
+    let l = lineBy (a .shape) (a .sizes .now) (a .glyphs .now) (a .advances .now) in
+    bad-advances s (a .count) l (c .barred .ensures) (gap-none l (as-read (a .shape .target) (c .before .before .before .before .struct-told .given .1 .1 .1 .0 .1)) (sym (c .before .before .before .gap-of .ensures) ∙ c .before .enum-told .given .1))
 
 all-known-requires : tie.Need-all-known-requires
 all-known-requires c κs = search needs
 
 line-walk-requires : tie.Need-line-walk-requires
 line-walk-requires c κs =
-    let a = c .before .before .before .before .before .before .before .before .before .before .args in
-    let p = c .before .before .before .before .before .before .before .before .before .before .pre in
+    let a = c .before .before .before .before .before .before .before .before .before .before .before .args in
+    let p = c .before .before .before .before .before .before .before .before .before .before .before .pre in
     ((p .0, p .1), known-each (a .count) (a .glyphs .now) (sym (c .before .all-known .ensures) ∙ c .if1 .taken))
 
 array-share-prefix-classes : tie.Need-array-share-prefix-classes
 array-share-prefix-classes c =
-    let a = c .before .before .before .before .before .before .before .before .before .before .before .before .before .args in
+    let a = c .before .before .before .before .before .before .before .before .before .before .before .before .before .before .args in
     let s = sideOf (a .shape .direction) (meaningOf (a .table .now) (a .count)) in
-    let l = lineBy (a .shape) (a .glyphs .now) (a .advances .now) in
+    let l = lineBy (a .shape) (a .sizes .now) (a .glyphs .now) (a .advances .now) in
     let w = walk-ended (s .machine) l (c .before .before .line-walk .result) (c .before .before .line-walk .ensures) (c .before .if2 .taken) in
-    omega (arith, w .room (c .before .before .before .before .before .before .before .before .before .before .before .before .before .pre .1), c .before .before .before .before .before .before .before .before .before .before .before .before .before .pre .1)
+    omega (arith, w .room (c .before .before .before .before .before .before .before .before .before .before .before .before .before .before .pre .1), c .before .before .before .before .before .before .before .before .before .before .before .before .before .before .pre .1)
 
 slice-aggregate-copy-classes : tie.Need-slice-aggregate-copy-classes
 slice-aggregate-copy-classes c =
-    let a = c .before .before .before .before .before .before .before .before .before .before .before .before .before .before .args in
+    let a = c .before .before .before .before .before .before .before .before .before .before .before .before .before .before .before .args in
     let s = sideOf (a .shape .direction) (meaningOf (a .table .now) (a .count)) in
-    let l = lineBy (a .shape) (a .glyphs .now) (a .advances .now) in
+    let l = lineBy (a .shape) (a .sizes .now) (a .glyphs .now) (a .advances .now) in
     let w = walk-ended (s .machine) l (c .before .before .before .line-walk .result) (c .before .before .before .line-walk .ensures) (c .before .before .if2 .taken) in
     sym (ap length (w .classes) ∙ w .each)
 
 copy-classes-requires : tie.Need-copy-classes-requires
 copy-classes-requires c κs =
-    let a = c .before .before .before .before .before .before .before .before .before .before .before .before .before .before .before .args in
+    let a = c .before .before .before .before .before .before .before .before .before .before .before .before .before .before .before .before .args in
     let s = sideOf (a .shape .direction) (meaningOf (a .table .now) (a .count)) in
-    let l = lineBy (a .shape) (a .glyphs .now) (a .advances .now) in
+    let l = lineBy (a .shape) (a .sizes .now) (a .glyphs .now) (a .advances .now) in
     let w = walk-ended (s .machine) l (c .before .before .before .before .line-walk .result) (c .before .before .before .before .line-walk .ensures) (c .before .before .before .if2 .taken) in
-    ap length (w .classes) ∙ w .each ∙ sym (c .before .before .before .before .before .before .before .before .before .before .before .before .before .before .before .pre .2 .classes)
+    ap length (w .classes) ∙ w .each ∙ sym (c .before .before .before .before .before .before .before .before .before .before .before .before .before .before .before .before .pre .3 .classes)
 
 share-glyphs-requires : tie.Need-share-glyphs-requires
 share-glyphs-requires c κs =
-    let a = c .before .before .before .before .before .before .before .before .before .before .before .before .before .before .before .before .before .before .before .before .before .args in
+    let a = c .before .before .before .before .before .before .before .before .before .before .before .before .before .before .before .before .before .before .before .before .before .before .args in
     let s = sideOf (a .shape .direction) (meaningOf (a .table .now) (a .count)) in
-    let l = lineBy (a .shape) (a .glyphs .now) (a .advances .now) in
-    let p = c .before .before .before .before .before .before .before .before .before .before .before .before .before .before .before .before .before .before .before .before .before .pre in
+    let l = lineBy (a .shape) (a .sizes .now) (a .glyphs .now) (a .advances .now) in
+    let p = c .before .before .before .before .before .before .before .before .before .before .before .before .before .before .before .before .before .before .before .before .before .before .pre in
     let w = walk-ended (s .machine) l (c .before .before .before .before .before .before .before .before .before .before .line-walk .result) (c .before .before .before .before .before .before .before .before .before .before .line-walk .ensures) (c .before .before .before .before .before .before .before .before .before .if2 .taken) in
-    let g = gap-found l (as-read (a .shape .target) (c .before .before .before .before .before .before .before .before .before .before .before .before .before .before .before .before .before .struct-told .given .1 .1 .1 .1 .0 .1)) (c .before .before .before .before .before .before .before .before .before .before .before .before .before .before .gap .given .0 .0) (sym (c .before .before .before .before .before .before .before .before .before .before .before .before .before .before .before .before .gap-of .ensures) ∙ c .before .before .before .before .before .before .before .before .before .before .before .before .before .before .gap .given .1) in
-    ((p .0, ap length (c .before .before .before .before .before .copy-classes .ensures ∙ w .classes) ∙ w .each), (p .2 .before, p .2 .after, p .1, g .small, p .3))
+    let g = gap-found l (as-read (a .shape .target) (c .before .before .before .before .before .before .before .before .before .before .before .before .before .before .before .before .before .struct-told .given .1 .1 .1 .0 .1)) (c .before .before .before .before .before .before .before .before .before .before .before .before .before .before .gap .given .0 .0) (sym (c .before .before .before .before .before .before .before .before .before .before .before .before .before .before .before .before .gap-of .ensures) ∙ c .before .before .before .before .before .before .before .before .before .before .before .before .before .before .gap .given .1) in
+    ((p .0, ap length (c .before .before .before .before .before .copy-classes .ensures ∙ w .classes) ∙ w .each, p .2), (p .3 .before, p .3 .after, p .1, g .small, p .4))
 
 enum-known-shared : tie.Need-enum-known-shared
 enum-known-shared c = search needs
 
 enum-told-2 : tie.Need-enum-told-2
 enum-told-2 c = search needs
+
+barred-requires-2 : tie.Need-barred-requires-2
+barred-requires-2 c κs = search needs
 
 same-length : tie.Need-same-length
 same-length c = search needs
@@ -89,21 +95,21 @@ same-length-3 c = search needs
 
 returns-2 : tie.Need-returns-2
 returns-2 c =
-    let a = c .before .before .before .before .before .before .before .before .before .before .before .before .before .before .before .before .before .before .before .before .before .before .before .before .before .before .args in
+    let a = c .before .before .before .before .before .before .before .before .before .before .before .before .before .before .before .before .before .before .before .before .before .before .before .before .before .before .before .before .args in
     let s = sideOf (a .shape .direction) (meaningOf (a .table .now) (a .count)) in
-    let l = lineBy (a .shape) (a .glyphs .now) (a .advances .now) in
-    let w = walk-ended (s .machine) l (c .before .before .before .before .before .before .before .before .before .before .before .before .before .before .before .line-walk .result) (c .before .before .before .before .before .before .before .before .before .before .before .before .before .before .before .line-walk .ensures) (c .before .before .before .before .before .before .before .before .before .before .before .before .before .before .if2 .taken) in
-    let g = gap-found l (as-read (a .shape .target) (c .before .before .before .before .before .before .before .before .before .before .before .before .before .before .before .before .before .before .before .before .before .before .struct-told .given .1 .1 .1 .1 .0 .1)) (c .before .before .before .before .before .before .before .before .before .before .before .before .before .before .before .before .before .before .before .gap .given .0 .0) (sym (c .before .before .before .before .before .before .before .before .before .before .before .before .before .before .before .before .before .before .before .before .before .gap-of .ensures) ∙ c .before .before .before .before .before .before .before .before .before .before .before .before .before .before .before .before .before .before .before .gap .given .1) in
-    let k = sym (c .before .before .before .before .before .before .before .before .before .before .before .before .before .before .before .before .before .all-known .ensures) ∙ c .before .before .before .before .before .before .before .before .before .before .before .before .before .before .before .before .if1 .taken in
-    work-over s (a .count) l g k (w .stops) (c .before .before .before .before .before .before .before .before .before .before .copy-classes .ensures ∙ w .classes) (c .before .before .before .before .share-glyphs .ensures) (c .enum-told2 .given .1)
+    let l = lineBy (a .shape) (a .sizes .now) (a .glyphs .now) (a .advances .now) in
+    let w = walk-ended (s .machine) l (c .before .before .before .before .before .before .before .before .before .before .before .before .before .before .before .before .line-walk .result) (c .before .before .before .before .before .before .before .before .before .before .before .before .before .before .before .before .line-walk .ensures) (c .before .before .before .before .before .before .before .before .before .before .before .before .before .before .before .if2 .taken) in
+    let g = gap-found l (as-read (a .shape .target) (c .before .before .before .before .before .before .before .before .before .before .before .before .before .before .before .before .before .before .before .before .before .before .before .struct-told .given .1 .1 .1 .0 .1)) (c .before .before .before .before .before .before .before .before .before .before .before .before .before .before .before .before .before .before .before .before .gap .given .0 .0) (sym (c .before .before .before .before .before .before .before .before .before .before .before .before .before .before .before .before .before .before .before .before .before .before .gap-of .ensures) ∙ c .before .before .before .before .before .before .before .before .before .before .before .before .before .before .before .before .before .before .before .before .gap .given .1) in
+    let k = sym (c .before .before .before .before .before .before .before .before .before .before .before .before .before .before .before .before .before .before .all-known .ensures) ∙ c .before .before .before .before .before .before .before .before .before .before .before .before .before .before .before .before .before .if1 .taken in
+    work-over s (a .count) l g k (w .stops) (c .before .before .before .before .before .before .before .before .before .before .before .copy-classes .ensures ∙ w .classes) (c .before .before .before .before .before .share-glyphs .ensures) (c .barred2 .ensures) (c .before .enum-told2 .given .1)
 
-cast-t31 : tie.Need-cast-t31
-cast-t31 c =
-    let a = c .before .before .before .before .before .before .before .before .before .before .before .before .before .before .before .before .before .before .before .before .before .before .before .before .before .before .before .before .before .args in
+cast-remainder : tie.Need-cast-remainder
+cast-remainder c =
+    let a = c .before .before .before .before .before .before .before .before .before .before .before .before .before .before .before .before .before .before .before .before .before .before .before .before .before .before .before .before .before .before .args in
     let s = sideOf (a .shape .direction) (meaningOf (a .table .now) (a .count)) in
-    let l = lineBy (a .shape) (a .glyphs .now) (a .advances .now) in
+    let l = lineBy (a .shape) (a .sizes .now) (a .glyphs .now) (a .advances .now) in
     let w = walk-ended (s .machine) l (c .before .before .before .before .before .before .before .before .before .before .before .before .before .before .before .before .before .before .line-walk .result) (c .before .before .before .before .before .before .before .before .before .before .before .before .before .before .before .before .before .before .line-walk .ensures) (c .before .before .before .before .before .before .before .before .before .before .before .before .before .before .before .before .before .if2 .taken) in
-    let g = gap-found l (as-read (a .shape .target) (c .before .before .before .before .before .before .before .before .before .before .before .before .before .before .before .before .before .before .before .before .before .before .before .before .before .struct-told .given .1 .1 .1 .1 .0 .1)) (c .before .before .before .before .before .before .before .before .before .before .before .before .before .before .before .before .before .before .before .before .before .before .gap .given .0 .0) (sym (c .before .before .before .before .before .before .before .before .before .before .before .before .before .before .before .before .before .before .before .before .before .before .before .before .gap-of .ensures) ∙ c .before .before .before .before .before .before .before .before .before .before .before .before .before .before .before .before .before .before .before .before .before .before .gap .given .1) in
+    let g = gap-found l (as-read (a .shape .target) (c .before .before .before .before .before .before .before .before .before .before .before .before .before .before .before .before .before .before .before .before .before .before .before .before .before .struct-told .given .1 .1 .1 .0 .1)) (c .before .before .before .before .before .before .before .before .before .before .before .before .before .before .before .before .before .before .before .before .before .before .gap .given .0 .0) (sym (c .before .before .before .before .before .before .before .before .before .before .before .before .before .before .before .before .before .before .before .before .before .before .before .before .gap-of .ensures) ∙ c .before .before .before .before .before .before .before .before .before .before .before .before .before .before .before .before .before .before .before .before .before .before .gap .given .1) in
     let k = sym (c .before .before .before .before .before .before .before .before .before .before .before .before .before .before .before .before .before .before .before .before .all-known .ensures) ∙ c .before .before .before .before .before .before .before .before .before .before .before .before .before .before .before .before .before .before .before .if1 .taken in
     narrow-fits s (a .count) l g k (w .stops) (c .before .before .before .before .before .before .before .before .before .before .before .before .before .copy-classes .ensures ∙ w .classes) (c .before .before .before .before .before .before .before .share-glyphs .ensures) (c .before .before .before .shared .given .0 .0) (c .before .before .before .shared .given .1)
 
@@ -118,11 +124,11 @@ same-length-6 c = search needs
 
 returns-3 : tie.Need-returns-3
 returns-3 c =
-    let a = c .before .before .before .before .before .before .before .before .before .before .before .before .before .before .before .before .before .before .before .before .before .before .before .before .before .before .before .before .before .args in
+    let a = c .before .before .before .before .before .before .before .before .before .before .before .before .before .before .before .before .before .before .before .before .before .before .before .before .before .before .before .before .before .before .args in
     let s = sideOf (a .shape .direction) (meaningOf (a .table .now) (a .count)) in
-    let l = lineBy (a .shape) (a .glyphs .now) (a .advances .now) in
+    let l = lineBy (a .shape) (a .sizes .now) (a .glyphs .now) (a .advances .now) in
     let w = walk-ended (s .machine) l (c .before .before .before .before .before .before .before .before .before .before .before .before .before .before .before .before .before .before .line-walk .result) (c .before .before .before .before .before .before .before .before .before .before .before .before .before .before .before .before .before .before .line-walk .ensures) (c .before .before .before .before .before .before .before .before .before .before .before .before .before .before .before .before .before .if2 .taken) in
-    let g = gap-found l (as-read (a .shape .target) (c .before .before .before .before .before .before .before .before .before .before .before .before .before .before .before .before .before .before .before .before .before .before .before .before .before .struct-told .given .1 .1 .1 .1 .0 .1)) (c .before .before .before .before .before .before .before .before .before .before .before .before .before .before .before .before .before .before .before .before .before .before .gap .given .0 .0) (sym (c .before .before .before .before .before .before .before .before .before .before .before .before .before .before .before .before .before .before .before .before .before .before .before .before .gap-of .ensures) ∙ c .before .before .before .before .before .before .before .before .before .before .before .before .before .before .before .before .before .before .before .before .before .before .gap .given .1) in
+    let g = gap-found l (as-read (a .shape .target) (c .before .before .before .before .before .before .before .before .before .before .before .before .before .before .before .before .before .before .before .before .before .before .before .before .before .struct-told .given .1 .1 .1 .0 .1)) (c .before .before .before .before .before .before .before .before .before .before .before .before .before .before .before .before .before .before .before .before .before .before .gap .given .0 .0) (sym (c .before .before .before .before .before .before .before .before .before .before .before .before .before .before .before .before .before .before .before .before .before .before .before .before .gap-of .ensures) ∙ c .before .before .before .before .before .before .before .before .before .before .before .before .before .before .before .before .before .before .before .before .before .before .gap .given .1) in
     let k = sym (c .before .before .before .before .before .before .before .before .before .before .before .before .before .before .before .before .before .before .before .before .all-known .ensures) ∙ c .before .before .before .before .before .before .before .before .before .before .before .before .before .before .before .before .before .before .before .if1 .taken in
     let eh = c .before .before .before .before .before .before .before .before .before .before .before .before .before .copy-classes .ensures ∙ w .classes in
     let o = c .before .before .before .before .before .before .before .share-glyphs .ensures in
@@ -130,21 +136,27 @@ returns-3 c =
     let e = c .before .before .before .shared .given .1 in
     work-done s (a .count) l g k (w .stops) eh o u e (narrowed s (a .count) l g k (w .stops) eh o u e) (w .count)
 
+barred-requires-3 : tie.Need-barred-requires-3
+barred-requires-3 c κs = search needs
+
 returns-4 : tie.Need-returns-4
 returns-4 c =
-    let a = c .before .before .before .before .before .before .before .before .before .before .before .before .args in
+    let a = c .before .before .before .before .before .before .before .before .before .before .before .before .before .before .args in
     let s = sideOf (a .shape .direction) (meaningOf (a .table .now) (a .count)) in
-    let l = lineBy (a .shape) (a .glyphs .now) (a .advances .now) in
-    let g = gap-found l (as-read (a .shape .target) (c .before .before .before .before .before .before .before .before .struct-told .given .1 .1 .1 .1 .0 .1)) (c .before .before .before .before .before .gap .given .0 .0) (sym (c .before .before .before .before .before .before .before .gap-of .ensures) ∙ c .before .before .before .before .before .gap .given .1) in
-    bad-walk s (a .count) l (g .good) (sym (c .before .before .before .all-known .ensures) ∙ c .before .before .if1 .taken) (walk-endless (s .machine) l (c .before .line-walk .result) (c .before .line-walk .ensures) (c .if2 .left))
+    let l = lineBy (a .shape) (a .sizes .now) (a .glyphs .now) (a .advances .now) in
+    let g = gap-found l (as-read (a .shape .target) (c .before .before .before .before .before .before .before .before .before .struct-told .given .1 .1 .1 .0 .1)) (c .before .before .before .before .before .before .gap .given .0 .0) (sym (c .before .before .before .before .before .before .before .before .gap-of .ensures) ∙ c .before .before .before .before .before .before .gap .given .1) in
+    bad-walk s (a .count) l (g .good) (sym (c .before .before .before .before .all-known .ensures) ∙ c .before .before .before .if1 .taken) (c .barred3 .ensures) (walk-endless (s .machine) l (c .before .before .line-walk .result) (c .before .before .line-walk .ensures) (c .before .if2 .left))
+
+barred-requires-4 : tie.Need-barred-requires-4
+barred-requires-4 c κs = search needs
 
 returns-5 : tie.Need-returns-5
 returns-5 c =
-    let a = c .before .before .before .before .before .before .before .before .before .before .args in
+    let a = c .before .before .before .before .before .before .before .before .before .before .before .before .args in
     let s = sideOf (a .shape .direction) (meaningOf (a .table .now) (a .count)) in
-    let l = lineBy (a .shape) (a .glyphs .now) (a .advances .now) in
-    let g = gap-found l (as-read (a .shape .target) (c .before .before .before .before .before .before .struct-told .given .1 .1 .1 .1 .0 .1)) (c .before .before .before .gap .given .0 .0) (sym (c .before .before .before .before .before .gap-of .ensures) ∙ c .before .before .before .gap .given .1) in
-    bad-glyph s (a .count) l (g .good) (sym (c .before .all-known .ensures) ∙ c .if1 .left)
+    let l = lineBy (a .shape) (a .sizes .now) (a .glyphs .now) (a .advances .now) in
+    let g = gap-found l (as-read (a .shape .target) (c .before .before .before .before .before .before .before .struct-told .given .1 .1 .1 .0 .1)) (c .before .before .before .before .gap .given .0 .0) (sym (c .before .before .before .before .before .before .gap-of .ensures) ∙ c .before .before .before .before .gap .given .1) in
+    bad-glyph s (a .count) l (g .good) (c .barred4 .ensures) (sym (c .before .before .all-known .ensures) ∙ c .before .if1 .left)
 
 pub work-out-spec : {M : Type 1} → statement M
 work-out-spec =
@@ -153,6 +165,7 @@ work-out-spec =
     gap-of-requires
     enum-known-gap
     enum-told
+    barred-requires
     returns
     all-known-requires
     line-walk-requires
@@ -162,14 +175,17 @@ work-out-spec =
     share-glyphs-requires
     enum-known-shared
     enum-told-2
+    barred-requires-2
     same-length
     same-length-2
     same-length-3
     returns-2
-    cast-t31
+    cast-remainder
     same-length-4
     same-length-5
     same-length-6
     returns-3
+    barred-requires-3
     returns-4
+    barred-requires-4
     returns-5)
