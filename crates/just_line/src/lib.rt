@@ -19,16 +19,15 @@ pub struct JustLine {
     pub verdicts: u32,
 }
 
-// What is handed in of a line beside its glyphs and advances.
-fn shape_in(direction: u32, starts: bool, ends: bool, size: u32, target: i32) -> LineShape
-    ensures { λ r. ⌜ r ≡ shapeIn direction starts ends size target ⌝ }
+// What is handed in of a line beside its glyphs, their sizes and advances.
+fn shape_in(direction: u32, starts: bool, ends: bool, target: i32) -> LineShape
+    ensures { λ r. ⌜ r ≡ shapeIn direction starts ends target ⌝ }
 {
     let along = types::direction_in(direction);
     LineShape {
         direction: along,
         starts,
         ends,
-        size,
         target,
     }
 }
@@ -66,7 +65,7 @@ pub extern "C" fn just_justify<'a, 'v>(
     direction: u32,
     starts: bool,
     ends: bool,
-    size: u32,
+    sizes: &'a [u32],
     glyphs: &'a [u16],
     advances: &'a [i32],
     target: i32,
@@ -78,15 +77,16 @@ pub extern "C" fn just_justify<'a, 'v>(
     ensures { λ r. ⌜
         calledIs r (now (classes .exit)) (now (before .exit)) (now (after .exit)) (now (verdicts .exit))
         ≡ calledIn (justified (now (table .entry)) count
-        (lineBy (shapeIn direction starts ends size target) (now (glyphs .entry)) (now (advances .entry)))
+        (lineBy (shapeIn direction starts ends target) (now (sizes .entry)) (now (glyphs .entry)) (now (advances .entry)))
         (lentBy (now (classes .entry)) (now (before .entry)) (now (after .entry)) (now (verdicts .entry))))
         ⌝ }
 {
-    let shape = shape_in(direction, starts, ends, size, target);
+    let shape = shape_in(direction, starts, ends, target);
     let answer = line_justify::justify(
         table,
         count,
         shape,
+        sizes,
         glyphs,
         advances,
         classes,

@@ -72,12 +72,12 @@ module _ (t : List ℕ) (s : Side) (l : Moved) (glyphs : List ℕ) (vs : List Ve
   taken-next = record { left = sym (drop-next vs i (r .verdict) (leftAt t s l glyphs (r .next)) taken-verdict); serves = e .serves }
 
 -- none of a line's verdicts is taken
-pub taken-none : (t : List ℕ) (count : ℕ) (d : Direction) (size : ℕ) (glyphs classes : List ℕ) (before after : List ℤ)
-    → HasMoves t count (moved size classes before after) glyphs
-    → Taken t (sideOf d (meaningOf t count)) (moved size classes before after) glyphs (lineVerdicts t count d size glyphs classes before after) 0 startCursor
+pub taken-none : (t : List ℕ) (count : ℕ) (d : Direction) (sizes glyphs classes : List ℕ) (before after : List ℤ)
+    → HasMoves t count (moved sizes classes before after) glyphs
+    → Taken t (sideOf d (meaningOf t count)) (moved sizes classes before after) glyphs (lineVerdicts t count d sizes glyphs classes before after) 0 startCursor
 unfolding lineVerdicts
-taken-none t count d size glyphs classes before after ready =
+taken-none t count d sizes glyphs classes before after ready =
     record {
-      left = sym (all-left t (sideOf d (meaningOf t count)) (moved size classes before after) glyphs);
-      serves = start-serves t (sideOf d (meaningOf t count)) (moved size classes before after) glyphs (table-short t count d (ready .accepted));
+      left = sym (all-left t (sideOf d (meaningOf t count)) (moved sizes classes before after) glyphs);
+      serves = start-serves t (sideOf d (meaningOf t count)) (moved sizes classes before after) glyphs (table-short t count d (ready .accepted));
     }

@@ -39,13 +39,13 @@ module _ (t : List ℕ) (n : ℕ) (l : Line) (cs : List ℕ) (bs fs : List ℤ) 
   s = sideOf (l .direction) (meaningOf t n)
 
   abbrev vs : List ℕ → List ℤ → List ℤ → List Verdict
-  vs = lineVerdicts t n (l .direction) (l .size) (l .glyphs)
+  vs = lineVerdicts t n (l .direction) (l .sizes) (l .glyphs)
 
   -- the verdicts of the classes and movements that are settled
   same-verdicts : (cs′ : List ℕ) (bs′ fs′ : List ℤ) → cs′ ≡ classesOf (walkOf (s .machine) l) → bs′ ≡ beforeOf s l → fs′ ≡ afterOf s l
       → vs cs′ bs′ fs′ ≡ verdictsOf s l
   unfolding lineVerdicts verdictsOf
-  same-verdicts cs′ bs′ fs′ e f g = λ i. verdictsFrom s (l .size) 0 (l .glyphs) (e i) (f i) (g i)
+  same-verdicts cs′ bs′ fs′ e f g = λ i. verdictsFrom s 0 (l .sizes) (l .glyphs) (e i) (f i) (g i)
 
   module _ (clear : lineFault t n l b ≡ Clear) where
     worked : workedFault t n l (lengthsOf b) ≡ Clear
@@ -69,10 +69,10 @@ module _ (t : List ℕ) (n : ℕ) (l : Line) (cs : List ℕ) (bs fs : List ℤ) 
     few = leb-true _ _ (rule-holds _ LongLine 0 (then-first _ _ (then-second _ _ (then-second _ _ worked))))
 
     lengths : (cs′ : List ℕ) (bs′ fs′ : List ℤ) → length cs′ ≡ length cs → length bs′ ≡ length bs → length fs′ ≡ length fs
-        → Fits (moved (l .size) cs′ bs′ fs′) (l .glyphs)
+        → Fits (moved (l .sizes) cs′ bs′ fs′) (l .glyphs)
     lengths cs′ bs′ fs′ lc lb lf =
-        let h = lengths-hold (length (l .glyphs)) _ _ _ _ rest-equal in
-        record { few = few; classes = lc ∙ h .1; before = lb ∙ h .2; after = lf ∙ h .3 }
+        let h = lengths-hold (length (l .glyphs)) _ _ _ _ _ rest-equal in
+        record { few = few; sizes = h .0; classes = lc ∙ h .2; before = lb ∙ h .3; after = lf ∙ h .4 }
 
   module _ (r : Settled) (cs′ : List ℕ) (bs′ fs′ : List ℤ) where
     module _ (o : Outcome) (e : settlementIs r cs′ bs′ fs′ ≡ settlementIn o) where
@@ -93,12 +93,12 @@ module _ (t : List ℕ) (n : ℕ) (l : Line) (cs : List ℕ) (bs fs : List ℤ) 
 
     -- the verdicts can be stored
     pub settled-storable : settlementIs r cs′ bs′ fs′ ≡ settlementIn (justified t n l b) → length cs′ ≡ length cs → length bs′ ≡ length bs → length fs′ ≡ length fs
-        → Storable t n (l .direction) (l .size) (l .glyphs) cs′ bs′ fs′ (r .stored) (length ys)
+        → Storable t n (l .direction) (l .sizes) (l .glyphs) cs′ bs′ fs′ (r .stored) (length ys)
     unfolding justified
     settled-storable e lc lb lf = go (lineFault t n l b) refl e
       where
         go : (f : Fault) → lineFault t n l b ≡ f → settlementIs r cs′ bs′ fs′ ≡ settlementIn (settled f s l b)
-            → Storable t n (l .direction) (l .size) (l .glyphs) cs′ bs′ fs′ (r .stored) (length ys)
+            → Storable t n (l .direction) (l .sizes) (l .glyphs) cs′ bs′ fs′ (r .stored) (length ys)
         go (Bad q at) p w =
             let z : r .stored ≡ 0 = stored-is (settled (Bad q at) s l b) w in
             record { room = omega arith; most = omega arith; ready = λ h. absurd (omega arith) }

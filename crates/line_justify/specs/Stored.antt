@@ -12,15 +12,15 @@ use Rattle.line_rule.specs.Line.{verdictsFrom}
 use Rattle.line_verdicts.specs.Cursor.{moved, HasMoves}
 
 -- the verdicts of a line, by the table's meaning in its direction
-unfoldable pub lineVerdicts : List ℕ → ℕ → Direction → ℕ → List ℕ → List ℕ → List ℤ → List ℤ → List Verdict
-lineVerdicts t count direction size glyphs classes before after = verdictsFrom (sideOf direction (meaningOf t count)) size 0 glyphs classes before after
+unfoldable pub lineVerdicts : List ℕ → ℕ → Direction → List ℕ → List ℕ → List ℕ → List ℤ → List ℤ → List Verdict
+lineVerdicts t count direction sizes glyphs classes before after = verdictsFrom (sideOf direction (meaningOf t count)) 0 sizes glyphs classes before after
 
 -- a list with the first n of some verdicts at its front
 unfoldable pub filledWith : List Verdict → ℕ → List Verdict → List Verdict
 filledWith verdicts n list = take n verdicts ++ drop n list
 
 -- what is asked of n verdicts that are to be stored: there is room for them, there are so many, and where there are any, they can be taken
-pub record Storable (t : List ℕ) (count : ℕ) (direction : Direction) (size : ℕ) (glyphs classes : List ℕ) (before after : List ℤ) (n space : ℕ) : Type 0 where
+pub record Storable (t : List ℕ) (count : ℕ) (direction : Direction) (sizes glyphs classes : List ℕ) (before after : List ℤ) (n space : ℕ) : Type 0 where
   pub room : n ≤ space
-  pub most : n ≤ length (lineVerdicts t count direction size glyphs classes before after)
-  pub ready : 0 < n → HasMoves t count (moved size classes before after) glyphs
+  pub most : n ≤ length (lineVerdicts t count direction sizes glyphs classes before after)
+  pub ready : 0 < n → HasMoves t count (moved sizes classes before after) glyphs

@@ -26,6 +26,7 @@ fn fill<'v, 'a>(
     table: &'a [u8],
     count: u32,
     shape: LineShape,
+    sizes: &'a [u32],
     glyphs: &'a [u16],
     classes: &'a [u8],
     before: &'a [i32],
@@ -33,13 +34,13 @@ fn fill<'v, 'a>(
     n: usize,
 )
     requires { ⌜
-        Storable (now table) count (shape .direction) (shape .size) (now glyphs) (now classes) (now before) (now after)
+        Storable (now table) count (shape .direction) (now sizes) (now glyphs) (now classes) (now before) (now after)
         n (length (now list))
         ⌝ }
     ensures { λ _. ⌜
         now (list .exit)
         ≡ filledWith
-        (lineVerdicts (now (table .entry)) count (shape .direction) (shape .size) (now (glyphs .entry))
+        (lineVerdicts (now (table .entry)) count (shape .direction) (now (sizes .entry)) (now (glyphs .entry))
         (now (classes .entry)) (now (before .entry)) (now (after .entry)))
         n (now (list .entry))
         ⌝ }
@@ -56,6 +57,7 @@ fn fill<'v, 'a>(
             table,
             count,
             shape,
+            sizes,
             glyphs,
             classes,
             before,
@@ -73,6 +75,7 @@ pub fn justify<'a, 'v>(
     table: &'a [u8],
     count: u32,
     shape: LineShape,
+    sizes: &'a [u32],
     glyphs: &'a [u16],
     advances: &'a [i32],
     classes: &'a mut [u8],
@@ -83,7 +86,7 @@ pub fn justify<'a, 'v>(
     ensures { λ r. ⌜
         outcomeIs r (now (classes .exit)) (now (before .exit)) (now (after .exit)) (now (verdicts .exit))
         ≡ justified (now (table .entry)) count
-        (lineBy shape (now (glyphs .entry)) (now (advances .entry)))
+        (lineBy shape (now (sizes .entry)) (now (glyphs .entry)) (now (advances .entry)))
         (lentBy (now (classes .entry)) (now (before .entry)) (now (after .entry)) (now (verdicts .entry)))
         ⌝ }
 {
@@ -92,6 +95,7 @@ pub fn justify<'a, 'v>(
         table,
         count,
         shape,
+        sizes,
         glyphs,
         advances,
         room,
@@ -105,6 +109,7 @@ pub fn justify<'a, 'v>(
         table,
         count,
         shape,
+        sizes,
         glyphs,
         classes,
         before,

@@ -33,7 +33,7 @@ use types.Part.{agg, whole, sub, look-in}
 use types.Tokens.{lft-new, lft-end}
 use sound.Loop.{loop-rule}
 use sound.WpLaws.{FmC, fmOf, WpFn-mono}
-use denote.RattleType.{owns}
+use denote.RattleType.{RattleType, owns}
 use denote.Memory.{pointee}
 use denote.Laws.{Is, shows}
 use denote.Plain.{uint-makes, uint-vals, uint-tells, nothing-lawful}
@@ -93,8 +93,12 @@ fails false _ = refl
 start-is : Is U.the-row startCursor (LL.vals U.the-type U′.the-laws startCursor)
 start-is = LL.owes U.the-type U′.the-laws startCursor ((refl, lit< tt), ((refl, lit< tt), ((refl, lit< tt), ((refl, lit< tt), tt))))
 
+-- what can be had twice
+record Twice {M : Type 1} (𝓤 : URA M) (H : Heap 𝓤) (A : Atoms 𝓤) (F : Fml) : Type 1 where
+  both : ent 𝓤 (sem 𝓤 H A F) (sep 𝓤 (sem 𝓤 H A F) (sem 𝓤 H A F))
+
 abbrev stayed : Stays (fill.ended .signature .params) (fill.ended .kept)
-stayed = (stay-slice (0 ∷ []) tt (plain (λ _. T.the-row)), (stay-none-slice (1 ∷ []) tt (plain (λ _. u8)) yes, (stay-none (λ _. u32) yes, (stay-none (λ _. L.the-row) yes, (stay-none-slice (1 ∷ []) tt (plain (λ _. u16)) yes, (stay-none-slice (1 ∷ []) tt (plain (λ _. u8)) yes, (stay-none-slice (1 ∷ []) tt (plain (λ _. i32)) yes, (stay-none-slice (1 ∷ []) tt (plain (λ _. i32)) yes, (stay-none (λ _. usize) yes, tt)))))))))
+stayed = (stay-slice (0 ∷ []) tt (plain (λ _. T.the-row)), (stay-none-slice (1 ∷ []) tt (plain (λ _. u8)) yes, (stay-none (λ _. u32) yes, (stay-none (λ _. L.the-row) yes, (stay-none-slice (1 ∷ []) tt (plain (λ _. u32)) yes, (stay-none-slice (1 ∷ []) tt (plain (λ _. u16)) yes, (stay-none-slice (1 ∷ []) tt (plain (λ _. u8)) yes, (stay-none-slice (1 ∷ []) tt (plain (λ _. i32)) yes, (stay-none-slice (1 ∷ []) tt (plain (λ _. i32)) yes, (stay-none (λ _. usize) yes, tt))))))))))
 
 module _ {M : Type 1} (𝓤 : URA M) (H : Heap 𝓤) (A : Atoms 𝓤) (mem : Memory → SProp 𝓤) (run : Routine → Fun 𝓤) where
   -- the contracts that the proof cites
@@ -105,24 +109,24 @@ module _ {M : Type 1} (𝓤 : URA M) (H : Heap 𝓤) (A : Atoms 𝓤) (mem : Mem
   StepAt = tripleOf 𝓤 H A step-at.signature (step-at.spec 𝓤 H A mem run)
 
 -- κ is the list's lifetime, κ′ that of all that is only read
-module _ {M : Type 1} (𝓤 : URA M) (H : Heap 𝓤) (A : Atoms 𝓤) (W : Given 𝓤 H A) (mem : Memory → SProp 𝓤) (run : Routine → Fun 𝓤) (κ κ′ : Lft) (q q′ : Share) (b o : ℕ) (γ : GName) (ys : List Verdict) (p : RefT (List ℕ)) (cn : ℕ) (sh : LineShape) (g c : RefT (List ℕ)) (d f : RefT (List ℤ)) (n : ℕ) where
+module _ {M : Type 1} (𝓤 : URA M) (H : Heap 𝓤) (A : Atoms 𝓤) (W : Given 𝓤 H A) (mem : Memory → SProp 𝓤) (run : Routine → Fun 𝓤) (κ κ′ : Lft) (q q′ : Share) (b o : ℕ) (γ : GName) (ys : List Verdict) (p : RefT (List ℕ)) (cn : ℕ) (sh : LineShape) (z g c : RefT (List ℕ)) (d f : RefT (List ℤ)) (n : ℕ) where
   -- the list under the name δ
   abbrev x : GName → List Verdict → RefT (List Verdict)
   x δ l = record { ptr = (b, o); name = δ; now = l }
 
   -- the line's verdicts, and the list after i turns
   abbrev vs : List Verdict
-  vs = lineVerdicts (p .now) cn (sh .direction) (sh .size) (g .now) (c .now) (d .now) (f .now)
+  vs = lineVerdicts (p .now) cn (sh .direction) (z .now) (g .now) (c .now) (d .now) (f .now)
 
   abbrev zs : ℕ → List Verdict
   zs i = filledWith vs i ys
 
   -- what a step promises, and a cursor where i verdicts are taken
   abbrev Said : Cursor → Step → Type 0
-  Said cur r = InLine (p .now) (sideOf (sh .direction) (meaningOf (p .now) cn)) (moved (sh .size) (c .now) (d .now) (f .now)) (g .now) (length (g .now)) cur r
+  Said cur r = InLine (p .now) (sideOf (sh .direction) (meaningOf (p .now) cn)) (moved (z .now) (c .now) (d .now) (f .now)) (g .now) (length (g .now)) cur r
 
   abbrev Good : ℕ → Cursor → Type 0
-  Good i cur = Taken (p .now) (sideOf (sh .direction) (meaningOf (p .now) cn)) (moved (sh .size) (c .now) (d .now) (f .now)) (g .now) vs i cur
+  Good i cur = Taken (p .now) (sideOf (sh .direction) (meaningOf (p .now) cn)) (moved (z .now) (c .now) (d .now) (f .now)) (g .now) vs i cur
 
   -- the machine values
   abbrev s : Val
@@ -130,6 +134,9 @@ module _ {M : Type 1} (𝓤 : URA M) (H : Heap 𝓤) (A : Atoms 𝓤) (W : Given
 
   abbrev sp : Val
   sp = sliceVal (p .ptr) (length (p .now))
+
+  abbrev sz : Val
+  sz = sliceVal (z .ptr) (length (z .now))
 
   abbrev sg : Val
   sg = sliceVal (g .ptr) (length (g .now))
@@ -143,11 +150,11 @@ module _ {M : Type 1} (𝓤 : URA M) (H : Heap 𝓤) (A : Atoms 𝓤) (W : Given
   abbrev sf : Val
   sf = sliceVal (f .ptr) (length (f .now))
 
-  abbrev a : RefT (List Verdict) × (RefT (List ℕ) × (ℕ × (LineShape × (RefT (List ℕ) × (RefT (List ℕ) × (RefT (List ℤ) × (RefT (List ℤ) × (ℕ × Unit {0}))))))))
-  a = (x γ ys, (p, (cn, (sh, (g, (c, (d, (f, (n, tt)))))))))
+  abbrev a : RefT (List Verdict) × (RefT (List ℕ) × (ℕ × (LineShape × (RefT (List ℕ) × (RefT (List ℕ) × (RefT (List ℕ) × (RefT (List ℤ) × (RefT (List ℤ) × (ℕ × Unit {0})))))))))
+  a = (x γ ys, (p, (cn, (sh, (z, (g, (c, (d, (f, (n, tt))))))))))
 
-  abbrev vals : List Val × (List Val × (List Val × (List Val × (List Val × (List Val × (List Val × (List Val × (List Val × Unit {0}))))))))
-  vals = (s ∷ [], (sp ∷ [], (vint w32 cn ∷ [], (LL.vals L.the-type L′.the-laws sh, (sg ∷ [], (sc ∷ [], (sd ∷ [], (sf ∷ [], (vint w64 n ∷ [], tt)))))))))
+  abbrev vals : List Val × (List Val × (List Val × (List Val × (List Val × (List Val × (List Val × (List Val × (List Val × (List Val × Unit {0})))))))))
+  vals = (s ∷ [], (sp ∷ [], (vint w32 cn ∷ [], (LL.vals L.the-type L′.the-laws sh, (sz ∷ [], (sg ∷ [], (sc ∷ [], (sd ∷ [], (sf ∷ [], (vint w64 n ∷ [], tt))))))))))
 
   abbrev Post : Val → SProp 𝓤
   Post = walkOf 𝓤 H A fill.ended stayed (fill.clauses 𝓤 H A mem run) .post (((κ, (κ′, tt)), (q, (q′, tt)), tt, a, vals), tt)
@@ -157,48 +164,32 @@ module _ {M : Type 1} (𝓤 : URA M) (H : Heap 𝓤) (A : Atoms 𝓤) (W : Given
   Own l = MutSlice (named 0) κ T.the-row .own (x γ l) (s ∷ [])
 
   abbrev Packed : Fml
-  Packed = fsep (ShrSlice (named 1) κ′ u8 .own p (sp ∷ [])) (fsep (ShrSlice (named 1) κ′ u16 .own g (sg ∷ [])) (fsep (ShrSlice (named 1) κ′ u8 .own c (sc ∷ [])) (fsep (ShrSlice (named 1) κ′ i32 .own d (sd ∷ [])) (ShrSlice (named 1) κ′ i32 .own f (sf ∷ [])))))
+  Packed = fsep (ShrSlice (named 1) κ′ u8 .own p (sp ∷ [])) (fsep (ShrSlice (named 1) κ′ u32 .own z (sz ∷ [])) (fsep (ShrSlice (named 1) κ′ u16 .own g (sg ∷ [])) (fsep (ShrSlice (named 1) κ′ u8 .own c (sc ∷ [])) (fsep (ShrSlice (named 1) κ′ i32 .own d (sd ∷ [])) (ShrSlice (named 1) κ′ i32 .own f (sf ∷ []))))))
 
   -- what is only read is had twice
-  twice : ent 𝓤 (sem 𝓤 H A Packed) (sep 𝓤 (sem 𝓤 H A Packed) (sem 𝓤 H A Packed))
-  twice =
-      qed W (‵ Packed ∷ []) ∵ fsplit ! $ move ! (1 ∷ []) $ fsplit ! $ move ! (1 ∷ []) $ fsplit ! $ move ! (1 ∷ []) $ fsplit ! $
-      -- [before's; after's; classes's; glyphs's; table's], each copied in turn
-      use1 W (‵ (ShrSlice (named 1) κ′ i32 .own d (sd ∷ [])) ⊛ ‵ (ShrSlice (named 1) κ′ i32 .own d (sd ∷ []))) (shr-slice-copy 𝓤 H A W (named 1) κ′ i32 .twice d (sd ∷ [])) $ split ! $
-      move ! (2 ∷ []) $
-      use1 W (‵ (ShrSlice (named 1) κ′ i32 .own f (sf ∷ [])) ⊛ ‵ (ShrSlice (named 1) κ′ i32 .own f (sf ∷ []))) (shr-slice-copy 𝓤 H A W (named 1) κ′ i32 .twice f (sf ∷ [])) $ split ! $
-      move ! (4 ∷ []) $
-      use1 W (‵ (ShrSlice (named 1) κ′ u8 .own c (sc ∷ [])) ⊛ ‵ (ShrSlice (named 1) κ′ u8 .own c (sc ∷ []))) (shr-slice-copy 𝓤 H A W (named 1) κ′ u8 .twice c (sc ∷ [])) $ split ! $
-      move ! (6 ∷ []) $
-      use1 W (‵ (ShrSlice (named 1) κ′ u16 .own g (sg ∷ [])) ⊛ ‵ (ShrSlice (named 1) κ′ u16 .own g (sg ∷ []))) (shr-slice-copy 𝓤 H A W (named 1) κ′ u16 .twice g (sg ∷ [])) $ split ! $
-      move ! (8 ∷ []) $
-      use1 W (‵ (ShrSlice (named 1) κ′ u8 .own p (sp ∷ [])) ⊛ ‵ (ShrSlice (named 1) κ′ u8 .own p (sp ∷ []))) (shr-slice-copy 𝓤 H A W (named 1) κ′ u8 .twice p (sp ∷ [])) $ split ! $
-      move ! (8 ∷ 6 ∷ []) $
-      fjoin ! $
-      move ! (5 ∷ 0 ∷ []) $
-      fjoin ! $
-      move ! (3 ∷ 0 ∷ []) $
-      fjoin ! $
-      move ! (1 ∷ 0 ∷ []) $
-      fjoin ! $
-      frame ! $
-      move ! (4 ∷ 3 ∷ []) $
-      fjoin ! $
-      move ! (3 ∷ 0 ∷ []) $
-      fjoin ! $
-      move ! (2 ∷ 0 ∷ []) $
-      fjoin ! $
-      move ! (1 ∷ 0 ∷ []) $
-      fjoin ! $ done !
+  twice-one : (R : RattleType) (y : RefT (List (R .Denot))) (vs : List Val) → Twice 𝓤 H A (ShrSlice (named 1) κ′ R .own y vs)
+  twice-one R y vs = record { both = shr-slice-copy 𝓤 H A W (named 1) κ′ R .twice y vs }
 
-  module _ (n-fits : n < 2 ^ 64) (cn-fits : cn < 2 ^ 32) (sh-is : Is L.the-row sh (LL.vals L.the-type L′.the-laws sh)) (room : Room T.the-row (length ys)) (p-room : Room u8 (length (p .now))) (g-room : Room u16 (length (g .now))) (c-room : Room u8 (length (c .now))) (d-room : Room i32 (length (d .now))) (f-room : Room i32 (length (f .now))) (pre : Storable (p .now) cn (sh .direction) (sh .size) (g .now) (c .now) (d .now) (f .now) n (length ys)) where
+  twice-both : {F G : Fml} → Twice 𝓤 H A F → Twice 𝓤 H A G → Twice 𝓤 H A (fsep F G)
+  twice-both {F} {G} e e′ =
+      record {
+        both =
+            qed W (‵ (fsep F G) ∷ []) ∵ fsplit ! $ use1 W (‵ F ⊛ ‵ F) (e .both) $ split ! $ move ! (2 ∷ []) $ use1 W (‵ G ⊛ ‵ G) (e′ .both) $ split ! $
+            move ! (2 ∷ 0 ∷ []) $ fjoin ! $ frame ! $ move ! (1 ∷ 0 ∷ []) $ fjoin ! $ done !;
+      }
+
+  twice : Twice 𝓤 H A Packed
+  twice =
+      twice-both (twice-one u8 p (sp ∷ [])) (twice-both (twice-one u32 z (sz ∷ [])) (twice-both (twice-one u16 g (sg ∷ [])) (twice-both (twice-one u8 c (sc ∷ [])) (twice-both (twice-one i32 d (sd ∷ [])) (twice-one i32 f (sf ∷ []))))))
+
+  module _ (n-fits : n < 2 ^ 64) (cn-fits : cn < 2 ^ 32) (sh-is : Is L.the-row sh (LL.vals L.the-type L′.the-laws sh)) (room : Room T.the-row (length ys)) (p-room : Room u8 (length (p .now))) (z-room : Room u32 (length (z .now))) (g-room : Room u16 (length (g .now))) (c-room : Room u8 (length (c .now))) (d-room : Room i32 (length (d .now))) (f-room : Room i32 (length (f .now))) (pre : Storable (p .now) cn (sh .direction) (z .now) (g .now) (c .now) (d .now) (f .now) n (length ys)) where
     exits : length (zs n) ≡ length ys → ent 𝓤 (⋆ 𝓤 H A (‵ (Own (zs n)) ∷ ‵ (flft κ q) ∷ ‵ Packed ∷ (‵ (flft κ′ q′) ⊛ ‵ ftrue) ∷ [])) (Post vunit)
     exits e =
         qed W (‵ (Own (zs n)) ∷ ‵ (flft κ q) ∷ ‵ Packed ∷ (‵ (flft κ′ q′) ⊛ ‵ ftrue) ∷ []) ∵
-        suffices ! _ (ends-at 𝓤 H A fill.ended stayed (fill.clauses 𝓤 H A mem run) W (((κ, (κ′, tt)), (q, (q′, tt)), tt, a, vals), tt) vunit tt (zs n, (tt, (tt, (tt, (tt, (tt, (tt, (tt, (tt, tt))))))))) (e, (tt, (tt, (tt, (tt, (tt, (tt, (tt, (tt, tt)))))))))) $ says ! refl $
-        move ! (1 ∷ 3 ∷ []) $ join ! $ frame ! $ move ! (1 ∷ []) $ fsplit ! $ move ! (1 ∷ []) $ fsplit ! $ move ! (1 ∷ []) $ fsplit ! $ move ! (1 ∷ []) $ fsplit ! $
-        -- [before's; after's; classes's; glyphs's; table's; the list]
-        nothing ! $ owned ! usize (Is usize) (uint-makes 𝓤 H A W w64) n _ (refl, n-fits) $ fjoin ! $ move ! (2 ∷ 0 ∷ []) $ fjoin ! $ move ! (1 ∷ 0 ∷ []) $ fjoin ! $ move ! (1 ∷ 0 ∷ []) $ fjoin ! $ move ! (1 ∷ 0 ∷ []) $ fjoin ! $
+        suffices ! _ (ends-at 𝓤 H A fill.ended stayed (fill.clauses 𝓤 H A mem run) W (((κ, (κ′, tt)), (q, (q′, tt)), tt, a, vals), tt) vunit tt (zs n, (tt, (tt, (tt, (tt, (tt, (tt, (tt, (tt, (tt, tt)))))))))) (e, (tt, (tt, (tt, (tt, (tt, (tt, (tt, (tt, (tt, tt))))))))))) $ says ! refl $
+        move ! (1 ∷ 3 ∷ []) $ join ! $ frame ! $ move ! (1 ∷ []) $ fsplit ! $ move ! (1 ∷ []) $ fsplit ! $ move ! (1 ∷ []) $ fsplit ! $ move ! (1 ∷ []) $ fsplit ! $ move ! (1 ∷ []) $ fsplit ! $
+        -- [before's; after's; classes's; glyphs's; sizes's; table's; the list]
+        nothing ! $ owned ! usize (Is usize) (uint-makes 𝓤 H A W w64) n _ (refl, n-fits) $ fjoin ! $ move ! (2 ∷ 0 ∷ []) $ fjoin ! $ move ! (1 ∷ 0 ∷ []) $ fjoin ! $ move ! (1 ∷ 0 ∷ []) $ fjoin ! $ move ! (1 ∷ 0 ∷ []) $ fjoin ! $ move ! (1 ∷ 0 ∷ []) $ fjoin ! $
         owned ! L.the-row (Is L.the-row) (LL.makes L.the-type L′.the-plain 𝓤 H A) sh _ sh-is $ fjoin ! $ owned ! u32 (Is u32) (uint-makes 𝓤 H A W w32) cn _ (refl, cn-fits) $ fjoin ! $ move ! (1 ∷ 0 ∷ []) $ fjoin ! $ move ! (1 ∷ 0 ∷ []) $ fjoin ! $
         feqI ! (List Val) (vunit ∷ []) (vunit ∷ []) refl $ move ! (1 ∷ 0 ∷ []) $ done !
 
@@ -207,17 +198,17 @@ module _ {M : Type 1} (𝓤 : URA M) (H : Heap 𝓤) (A : Atoms 𝓤) (W : Given
 
     -- what `next_verdict`'s triple binds outside, and that the caller has what it asks
     abbrev to-at : Cursor → StepAt 𝓤 H A mem run .Ghost
-    to-at cur = (((κ′, tt), (q′, tt), tt, (p, (cn, (sh, (g, (c, (d, (f, (cur, tt)))))))), (sp ∷ [], (vint w32 cn ∷ [], (LL.vals L.the-type L′.the-laws sh, (sg ∷ [], (sc ∷ [], (sd ∷ [], (sf ∷ [], (LL.vals U.the-type U′.the-laws cur, tt))))))))), tt)
+    to-at cur = (((κ′, tt), (q′, tt), tt, (p, (cn, (sh, (z, (g, (c, (d, (f, (cur, tt))))))))), (sp ∷ [], (vint w32 cn ∷ [], (LL.vals L.the-type L′.the-laws sh, (sz ∷ [], (sg ∷ [], (sc ∷ [], (sd ∷ [], (sf ∷ [], (LL.vals U.the-type U′.the-laws cur, tt)))))))))), tt)
 
     goes-at : (i : ℕ) (cur : Cursor) → 0 < n → Is U.the-row cur (LL.vals U.the-type U′.the-laws cur) → Good i cur → ent 𝓤 (sep 𝓤 (sep 𝓤 (A .lft κ′ q′) (sem 𝓤 H A ftrue)) (sem 𝓤 H A Packed)) (StepAt 𝓤 H A mem run .pre (to-at cur))
     goes-at i cur some cur-is good =
-        qed W ((‵ (flft κ′ q′) ⊛ ‵ ftrue) ∷ ‵ Packed ∷ []) ∵ says ! (pre .ready some, good .serves) $ frame ! $ fsplit ! $ move ! (1 ∷ []) $ fsplit ! $ move ! (1 ∷ []) $ fsplit ! $ move ! (1 ∷ []) $ fsplit ! $
-        nothing ! $ owned ! U.the-row (Is U.the-row) (LL.makes U.the-type U′.the-plain 𝓤 H A) cur _ cur-is $ fjoin ! $ move ! (2 ∷ 0 ∷ []) $ fjoin ! $ move ! (1 ∷ 0 ∷ []) $ fjoin ! $ move ! (1 ∷ 0 ∷ []) $ fjoin ! $ move ! (1 ∷ 0 ∷ []) $ fjoin ! $
+        qed W ((‵ (flft κ′ q′) ⊛ ‵ ftrue) ∷ ‵ Packed ∷ []) ∵ says ! (pre .ready some, good .serves) $ frame ! $ fsplit ! $ move ! (1 ∷ []) $ fsplit ! $ move ! (1 ∷ []) $ fsplit ! $ move ! (1 ∷ []) $ fsplit ! $ move ! (1 ∷ []) $ fsplit ! $
+        nothing ! $ owned ! U.the-row (Is U.the-row) (LL.makes U.the-type U′.the-plain 𝓤 H A) cur _ cur-is $ fjoin ! $ move ! (2 ∷ 0 ∷ []) $ fjoin ! $ move ! (1 ∷ 0 ∷ []) $ fjoin ! $ move ! (1 ∷ 0 ∷ []) $ fjoin ! $ move ! (1 ∷ 0 ∷ []) $ fjoin ! $ move ! (1 ∷ 0 ∷ []) $ fjoin ! $
         owned ! L.the-row (Is L.the-row) (LL.makes L.the-type L′.the-plain 𝓤 H A) sh _ sh-is $ fjoin ! $ owned ! u32 (Is u32) (uint-makes 𝓤 H A W w32) cn _ (refl, cn-fits) $ fjoin ! $ move ! (1 ∷ 0 ∷ []) $ fjoin ! $ done !
 
     -- of `next_verdict`'s `ensured`, the clause alone: it has no `&mut`
-    said : (cur : Cursor) (r : Step) → ent 𝓤 (ensured 𝓤 H A step-at.ended (step-at.clauses 𝓤 H A mem run) (κ′, tt) (p, (cn, (sh, (g, (c, (d, (f, (cur, tt)))))))) tt r) (fact 𝓤 (Said cur r))
-    said cur r = exE 𝓤 _ (λ ws. snd∗ 𝓤 (sem 𝓤 H A (lasts step-at.ended (κ′, tt) (p, (cn, (sh, (g, (c, (d, (f, (cur, tt)))))))) ws)) (fact 𝓤 (Said cur r)))
+    said : (cur : Cursor) (r : Step) → ent 𝓤 (ensured 𝓤 H A step-at.ended (step-at.clauses 𝓤 H A mem run) (κ′, tt) (p, (cn, (sh, (z, (g, (c, (d, (f, (cur, tt))))))))) tt r) (fact 𝓤 (Said cur r))
+    said cur r = exE 𝓤 _ (λ ws. snd∗ 𝓤 (sem 𝓤 H A (lasts step-at.ended (κ′, tt) (p, (cn, (sh, (z, (g, (c, (d, (f, (cur, tt))))))))) ws)) (fact 𝓤 (Said cur r)))
 
     -- the same of `store`: the list lent again for the lifetime ν, under the name δ
     abbrev to-store : ℕ → Verdict → ℕ → GName → Store 𝓤 H A mem run .Ghost
@@ -254,6 +245,9 @@ module _ {M : Type 1} (𝓤 : URA M) (H : Heap 𝓤) (A : Atoms 𝓤) (W : Given
       abbrev table-ty : Ty
       table-ty = sliceTy (tyRef (named 1) imm (tyInt w8))
 
+      abbrev sizes-ty : Ty
+      sizes-ty = sliceTy (tyRef (named 1) imm (tyInt w32))
+
       abbrev glyphs-ty : Ty
       glyphs-ty = sliceTy (tyRef (named 1) imm (tyInt w16))
 
@@ -266,13 +260,13 @@ module _ {M : Type 1} (𝓤 : URA M) (H : Heap 𝓤) (A : Atoms 𝓤) (W : Given
       abbrev lent-ty : Ty
       lent-ty = sliceTy elem-ty
 
-      module _ (l₀ l₁ l₂ l₃ l₄ l₆ l₇ l₈ l₉ m₀ m₁ m₂ m₃ m₄ m₅ m₆ m₇ : ℕ) where
+      module _ (l₀ l₁ l₂ l₃ l₄ l₅ l₆ l₇ l₈ l₉ m₀ m₁ m₂ m₃ m₄ m₅ m₆ m₇ : ℕ) where
         abbrev En : Env 𝓤 H
-        En = (tyUnit, l₀) ∷ (list-ty, l₁) ∷ (table-ty, l₂) ∷ (half, l₃) ∷ (L′.mir, l₄) ∷ (glyphs-ty, l₆) ∷ (table-ty, l₇) ∷ (moves-ty, l₈) ∷ (moves-ty, l₉) ∷ (word, m₀) ∷ (U′.mir, m₁) ∷ (word, m₂) ∷ (S′.mir, m₃) ∷ (tyBool, m₄) ∷ (tyUnit, m₅) ∷ (elem-ty, m₆) ∷ (lent-ty, m₇) ∷ []
+        En = (tyUnit, l₀) ∷ (list-ty, l₁) ∷ (table-ty, l₂) ∷ (half, l₃) ∷ (L′.mir, l₄) ∷ (sizes-ty, l₅) ∷ (glyphs-ty, l₆) ∷ (table-ty, l₇) ∷ (moves-ty, l₈) ∷ (moves-ty, l₉) ∷ (word, m₀) ∷ (U′.mir, m₁) ∷ (word, m₂) ∷ (S′.mir, m₃) ∷ (tyBool, m₄) ∷ (tyUnit, m₅) ∷ (elem-ty, m₆) ∷ (lent-ty, m₇) ∷ []
 
         -- what is had where i records are stored
         abbrev At : ℕ → Cursor → List (Item 𝓤)
-        At i cur = ‵ (Own (zs i)) ∷ ‵ (flft κ q) ∷ ‵ Packed ∷ (‵ (flft κ′ q′) ⊛ ‵ ftrue) ∷ ‵ (fat fullShare word m₂ 0 (vint w64 i)) ∷ ‵ (froom S′.mir m₃ 0) ∷ ‵ (froom tyBool m₄ 0) ∷ ‵ (froom tyUnit m₅ 0) ∷ ‵ (froom elem-ty m₆ 0) ∷ ‵ (froom lent-ty m₇ 0) ∷ ‵ (fat fullShare list-ty l₁ 0 s) ∷ ‵ (fat fullShare table-ty l₂ 0 sp) ∷ ‵ (fat fullShare word m₀ 0 (vint w64 n)) ∷ ‵ (froom tyUnit l₀ 0) ∷ ‵ (fat fullShare U′.mir m₁ 0 (LL.val U.the-type U′.the-laws cur)) ∷ ‵ (fat fullShare half l₃ 0 (vint w32 cn)) ∷ ‵ (fat fullShare L′.mir l₄ 0 (LL.val L.the-type L′.the-laws sh)) ∷ ‵ (fat fullShare glyphs-ty l₆ 0 sg) ∷ ‵ (fat fullShare table-ty l₇ 0 sc) ∷ ‵ (fat fullShare moves-ty l₈ 0 sd) ∷ ‵ (fat fullShare moves-ty l₉ 0 sf) ∷ ‵ (fdies tyUnit l₀) ∷ ‵ (fdies list-ty l₁) ∷ ‵ (fdies table-ty l₂) ∷ ‵ (fdies half l₃) ∷ ‵ (fdies L′.mir l₄) ∷ ‵ (fdies glyphs-ty l₆) ∷ ‵ (fdies table-ty l₇) ∷ ‵ (fdies moves-ty l₈) ∷ ‵ (fdies moves-ty l₉) ∷ ‵ (fdies word m₀) ∷ ‵ (fdies U′.mir m₁) ∷ ‵ (fdies word m₂) ∷ ‵ (fdies S′.mir m₃) ∷ ‵ (fdies tyBool m₄) ∷ ‵ (fdies tyUnit m₅) ∷ ‵ (fdies elem-ty m₆) ∷ ‵ (fdies lent-ty m₇) ∷ []
+        At i cur = ‵ (Own (zs i)) ∷ ‵ (flft κ q) ∷ ‵ Packed ∷ (‵ (flft κ′ q′) ⊛ ‵ ftrue) ∷ ‵ (fat fullShare word m₂ 0 (vint w64 i)) ∷ ‵ (froom S′.mir m₃ 0) ∷ ‵ (froom tyBool m₄ 0) ∷ ‵ (froom tyUnit m₅ 0) ∷ ‵ (froom elem-ty m₆ 0) ∷ ‵ (froom lent-ty m₇ 0) ∷ ‵ (fat fullShare list-ty l₁ 0 s) ∷ ‵ (fat fullShare table-ty l₂ 0 sp) ∷ ‵ (fat fullShare word m₀ 0 (vint w64 n)) ∷ ‵ (froom tyUnit l₀ 0) ∷ ‵ (fat fullShare U′.mir m₁ 0 (LL.val U.the-type U′.the-laws cur)) ∷ ‵ (fat fullShare half l₃ 0 (vint w32 cn)) ∷ ‵ (fat fullShare L′.mir l₄ 0 (LL.val L.the-type L′.the-laws sh)) ∷ ‵ (fat fullShare sizes-ty l₅ 0 sz) ∷ ‵ (fat fullShare glyphs-ty l₆ 0 sg) ∷ ‵ (fat fullShare table-ty l₇ 0 sc) ∷ ‵ (fat fullShare moves-ty l₈ 0 sd) ∷ ‵ (fat fullShare moves-ty l₉ 0 sf) ∷ ‵ (fdies tyUnit l₀) ∷ ‵ (fdies list-ty l₁) ∷ ‵ (fdies table-ty l₂) ∷ ‵ (fdies half l₃) ∷ ‵ (fdies L′.mir l₄) ∷ ‵ (fdies sizes-ty l₅) ∷ ‵ (fdies glyphs-ty l₆) ∷ ‵ (fdies table-ty l₇) ∷ ‵ (fdies moves-ty l₈) ∷ ‵ (fdies moves-ty l₉) ∷ ‵ (fdies word m₀) ∷ ‵ (fdies U′.mir m₁) ∷ ‵ (fdies word m₂) ∷ ‵ (fdies S′.mir m₃) ∷ ‵ (fdies tyBool m₄) ∷ ‵ (fdies tyUnit m₅) ∷ ‵ (fdies elem-ty m₆) ∷ ‵ (fdies lent-ty m₇) ∷ []
 
         abbrev Facts : ℕ → ℕ × Cursor → Type 0
         Facts t y = (y .0 + t ≡ n) × Is U.the-row (y .1) (LL.vals U.the-type U′.the-laws (y .1)) × (0 < n → Good (y .0) (y .1))
@@ -304,11 +298,11 @@ module _ {M : Type 1} (𝓤 : URA M) (H : Heap 𝓤) (A : Atoms 𝓤) (W : Given
             rewrite ! 6 (λ (t : Bool). ‵ (fat fullShare tyBool m₄ 0 (vbool t))) (holds (ltb i n) (lt→ltb i n small)) refl $
             stays ! (load ! (from ! (stop !)) (look ! 6 refl)) $
             -- `next_verdict` is handed a copy of what is only read
-            move ! (2 ∷ []) $ use1 W (‵ Packed ⊛ ‵ Packed) twice $ split ! $
+            move ! (2 ∷ []) $ use1 W (‵ Packed ⊛ ‵ Packed) (twice .both) $ split ! $
             move ! (4 ∷ 0 ∷ []) $ use2 W (raw (StepAt 𝓤 H A mem run .pre (to-at cur))) (goes-at i cur some cur-is good) $
             -- [its `pre`; what is read; the list; the list's token; _12 at 4; …]
-            calls-at ! fm (StepAt 𝓤 H A mem run) known-at (to-at cur) (and-then ! (load ! (from ! (stop !)) (look ! 11 refl)) (and-then ! (load ! (from ! (stop !)) (look ! 15 refl)) (and-then ! (load ! (from ! (stop !)) (look ! 16 refl)) (and-then ! (load ! (from ! (stop !)) (look ! 17 refl)) (and-then ! (load ! (from ! (stop !)) (look ! 18 refl)) (and-then ! (load ! (from ! (stop !)) (look ! 19 refl)) (and-then ! (load ! (from ! (stop !)) (look ! 20 refl)) (and-then ! (load ! (from ! (stop !)) (look ! 14 refl)) (no-more !))))))))) (λ w.
-            use1 W (later (someI (λ (r : Step). ((‵ (flft κ′ q′) ⊛ ‵ ftrue) ⊛ ‵ (S.the-row .own r (w ∷ []))) ⊛ raw (ensured 𝓤 H A step-at.ended (step-at.clauses 𝓤 H A mem run) (κ′, tt) (p, (cn, (sh, (g, (c, (d, (f, (cur, tt)))))))) tt r)))) (id⊢ 𝓤 _) $ await ! tt $ pick ! (λ r.
+            calls-at ! fm (StepAt 𝓤 H A mem run) known-at (to-at cur) (and-then ! (load ! (from ! (stop !)) (look ! 11 refl)) (and-then ! (load ! (from ! (stop !)) (look ! 15 refl)) (and-then ! (load ! (from ! (stop !)) (look ! 16 refl)) (and-then ! (load ! (from ! (stop !)) (look ! 17 refl)) (and-then ! (load ! (from ! (stop !)) (look ! 18 refl)) (and-then ! (load ! (from ! (stop !)) (look ! 19 refl)) (and-then ! (load ! (from ! (stop !)) (look ! 20 refl)) (and-then ! (load ! (from ! (stop !)) (look ! 21 refl)) (and-then ! (load ! (from ! (stop !)) (look ! 14 refl)) (no-more !)))))))))) (λ w.
+            use1 W (later (someI (λ (r : Step). ((‵ (flft κ′ q′) ⊛ ‵ ftrue) ⊛ ‵ (S.the-row .own r (w ∷ []))) ⊛ raw (ensured 𝓤 H A step-at.ended (step-at.clauses 𝓤 H A mem run) (κ′, tt) (p, (cn, (sh, (z, (g, (c, (d, (f, (cur, tt))))))))) tt r)))) (id⊢ 𝓤 _) $ await ! tt $ pick ! (λ r.
             split ! $ move ! (1 ∷ []) $ use1 W (raw (fact 𝓤 (Said cur r))) (said cur r) $ heard ! (Said cur r) (λ e. split ! $
             move ! (1 ∷ []) $ peeks ! S.the-row (Is S.the-row) (shows 𝓤 H A S.the-row) r (w ∷ []) (λ is.
             land ! (from ! (stop !)) (init ! 6 refl (LL.lawful S.the-type S′.the-laws 𝓤 H A W .typed r _ is .0)) $
@@ -331,12 +325,12 @@ module _ {M : Type 1} (𝓤 : URA M) (H : Heap 𝓤) (A : Atoms 𝓤) (W : Given
             -- the lifetime is ended, and the list comes back with the record in it
             split ! $ lft-end ! tt $ move ! (0 ∷ 4 ∷ 2 ∷ []) $
             use3 W (later (‵ (Own (ls .0)) ⊛ ‵ (flft κ q))) (comes-back-at T.the-row κ (ν ∷ []) q γ b o 𝓤 H A W (named 0) (named 0) (zs i) (length ys) len δ (ls .0) room′ l) $ await ! tt $ split ! $
-            rewrite ! 0 (λ (z : List Verdict). ‵ (Own z)) (e′ ∙ stored-next vs ys i (r .verdict) _ (taken-verdict (p .now) (sideOf (sh .direction) (meaningOf (p .now) cn)) (moved (sh .size) (c .now) (d .now) (f .now)) (g .now) vs i cur r h good e) (omega (arith, pre .room))) refl $
+            rewrite ! 0 (λ (z : List Verdict). ‵ (Own z)) (e′ ∙ stored-next vs ys i (r .verdict) _ (taken-verdict (p .now) (sideOf (sh .direction) (meaningOf (p .now) cn)) (moved (z .now) (c .now) (d .now) (f .now)) (g .now) vs i cur r h good e) (omega (arith, pre .room))) refl $
             -- [the list; its token; …; …; the token of what is read; what is read; _12 at 6; …]
             assigns ! (of-opd ! (load ! (from ! (fld ! refl (stop !))) (look-in ! 7 (sub ! 2 refl (whole !))))) (from ! (stop !)) (store ! 16 refl (LL.lawful U.the-type U′.the-laws 𝓤 H A W .typed (r .next) _ next-is .0)) $
             assigns-last ! (bin ! (load ! (from ! (stop !)) (look ! 6 refl)) (lit ! tt) (record { fits = next-fits })) (from ! (stop !)) (store ! 6 refl (tt, record { fits = next-fits })) $
             forget ! 7 refl $ forget ! 8 refl $ forget ! 9 refl $ forget ! 10 refl $ forget ! 11 refl $ rewrite ! 6 (λ (j : ℕ). ‵ (fat fullShare word m₂ 0 (vint w64 j))) (add-one i) refl $
-            keep ! (0 ∷ 1 ∷ 5 ∷ 4 ∷ 6 ∷ 7 ∷ 8 ∷ 9 ∷ 10 ∷ 11 ∷ 12 ∷ 13 ∷ 14 ∷ 15 ∷ 16 ∷ 17 ∷ 18 ∷ 19 ∷ 20 ∷ 21 ∷ 22 ∷ 23 ∷ 24 ∷ 25 ∷ 26 ∷ 27 ∷ 28 ∷ 29 ∷ 30 ∷ 31 ∷ 32 ∷ 33 ∷ 34 ∷ 35 ∷ 36 ∷ 37 ∷ 38 ∷ 39 ∷ []) $ by ! (k (r .next) next-is (taken-next (p .now) (sideOf (sh .direction) (meaningOf (p .now) cn)) (moved (sh .size) (c .now) (d .now) (f .now)) (g .now) vs i cur r h good e))))))))))))))
+            keep ! (0 ∷ 1 ∷ 5 ∷ 4 ∷ 6 ∷ 7 ∷ 8 ∷ 9 ∷ 10 ∷ 11 ∷ 12 ∷ 13 ∷ 14 ∷ 15 ∷ 16 ∷ 17 ∷ 18 ∷ 19 ∷ 20 ∷ 21 ∷ 22 ∷ 23 ∷ 24 ∷ 25 ∷ 26 ∷ 27 ∷ 28 ∷ 29 ∷ 30 ∷ 31 ∷ 32 ∷ 33 ∷ 34 ∷ 35 ∷ 36 ∷ 37 ∷ 38 ∷ 39 ∷ 40 ∷ 41 ∷ []) $ by ! (k (r .next) next-is (taken-next (p .now) (sideOf (sh .direction) (meaningOf (p .now) cn)) (moved (z .now) (c .now) (d .now) (f .now)) (g .now) vs i cur r h good e))))))))))))))
 
         -- the turn that leaves the loop, and the rest of the body
         ends : (cur : Cursor) (X : SProp 𝓤) → ent 𝓤 (⋆ 𝓤 H A (At n cur)) (Wp 𝓤 H C Λ En code.Mir.turn-1 (afterTurn 𝓤 H X Left))
@@ -347,8 +341,8 @@ module _ {M : Type 1} (𝓤 : URA M) (H : Heap 𝓤) (A : Atoms 𝓤) (W : Given
             rewrite ! 6 (λ (t : Bool). ‵ (fat fullShare tyBool m₄ 0 (vbool t))) (fails (ltb n n) (λ w. lt-irrefl n (ltb→lt n n w))) refl $
             leaves-loop ! (load ! (from ! (stop !)) (look ! 6 refl)) $ exec ! C Λ En code.Mir.t-4 (atRet En Post) $
             assigns ! (of-opd ! (unit-lit !)) (from ! (stop !)) (init ! 13 refl (tt, tt)) $
-            returns ! (look ! 13 refl) $ forget ! 4 refl $ forget ! 6 refl $ forget ! 10 refl $ forget ! 11 refl $ forget ! 12 refl $ forget ! 13 refl $ forget ! 14 refl $ forget ! 15 refl $ forget ! 16 refl $ forget ! 17 refl $ forget ! 18 refl $ forget ! 19 refl $ forget ! 20 refl $
-            move ! (13 ∷ 21 ∷ []) $ free1 ! $ move ! (10 ∷ 20 ∷ []) $ free1 ! $ move ! (10 ∷ 19 ∷ []) $ free1 ! $ move ! (12 ∷ 18 ∷ []) $ free1 ! $ move ! (12 ∷ 17 ∷ []) $ free1 ! $ move ! (12 ∷ 16 ∷ []) $ free1 ! $ move ! (12 ∷ 15 ∷ []) $ free1 ! $ move ! (12 ∷ 14 ∷ []) $ free1 ! $ move ! (12 ∷ 13 ∷ []) $ free1 ! $ move ! (10 ∷ 12 ∷ []) $ free1 ! $ move ! (10 ∷ 11 ∷ []) $ free1 ! $ move ! (4 ∷ 10 ∷ []) $ free1 ! $ move ! (4 ∷ 9 ∷ []) $ free1 ! $ move ! (4 ∷ 8 ∷ []) $ free1 ! $ move ! (4 ∷ 7 ∷ []) $ free1 ! $ move ! (4 ∷ 6 ∷ []) $ free1 ! $ move ! (4 ∷ 5 ∷ []) $ free1 ! $ free0 ! $ by ! (exits (long n (omega arith)))
+            returns ! (look ! 13 refl) $ forget ! 4 refl $ forget ! 6 refl $ forget ! 10 refl $ forget ! 11 refl $ forget ! 12 refl $ forget ! 13 refl $ forget ! 14 refl $ forget ! 15 refl $ forget ! 16 refl $ forget ! 17 refl $ forget ! 18 refl $ forget ! 19 refl $ forget ! 20 refl $ forget ! 21 refl $
+            move ! (13 ∷ 22 ∷ []) $ free1 ! $ move ! (10 ∷ 21 ∷ []) $ free1 ! $ move ! (10 ∷ 20 ∷ []) $ free1 ! $ move ! (12 ∷ 19 ∷ []) $ free1 ! $ move ! (12 ∷ 18 ∷ []) $ free1 ! $ move ! (12 ∷ 17 ∷ []) $ free1 ! $ move ! (12 ∷ 16 ∷ []) $ free1 ! $ move ! (12 ∷ 15 ∷ []) $ free1 ! $ move ! (12 ∷ 14 ∷ []) $ free1 ! $ move ! (12 ∷ 13 ∷ []) $ free1 ! $ move ! (10 ∷ 12 ∷ []) $ free1 ! $ move ! (10 ∷ 11 ∷ []) $ free1 ! $ move ! (4 ∷ 10 ∷ []) $ free1 ! $ move ! (4 ∷ 9 ∷ []) $ free1 ! $ move ! (4 ∷ 8 ∷ []) $ free1 ! $ move ! (4 ∷ 7 ∷ []) $ free1 ! $ move ! (4 ∷ 6 ∷ []) $ free1 ! $ move ! (4 ∷ 5 ∷ []) $ free1 ! $ free0 ! $ by ! (exits (long n (omega arith)))
 
         -- the invariant at t, where n - t records are stored
         holds-at : (i : ℕ) (cur : Cursor) (t : ℕ) → Facts t (i, cur) → ent 𝓤 (⋆ 𝓤 H A (At i cur)) (Inv t)
@@ -365,64 +359,65 @@ module _ {M : Type 1} (𝓤 : URA M) (H : Heap 𝓤) (A : Atoms 𝓤) (W : Given
         turns t = exE 𝓤 (λ (y : ℕ × Cursor). guard 𝓤 (Facts t y) (⋆ 𝓤 H A (At (y .0) (y .1)))) (λ y. guardE 𝓤 (Facts t y) (⋆ 𝓤 H A (At (y .0) (y .1))) (λ e. turn-at t (y .0) (y .1) e))
 
         loops : ent 𝓤 (⋆ 𝓤 H A (At 0 startCursor)) (Wp 𝓤 H C Λ En (loop code.Mir.turn-1) Left)
-        loops = via 𝓤 (Inv n) (holds-at 0 startCursor n (zero-add n, start-is, (λ some. taken-none (p .now) cn (sh .direction) (sh .size) (g .now) (c .now) (d .now) (f .now) (pre .ready some)))) (loop-rule 𝓤 H (W .laws) 𝓣 _<_ (Nat·lt-wfRel .wf) En code.Mir.turn-1 Left Inv turns n)
+        loops = via 𝓤 (Inv n) (holds-at 0 startCursor n (zero-add n, start-is, (λ some. taken-none (p .now) cn (sh .direction) (z .now) (g .now) (c .now) (d .now) (f .now) (pre .ready some)))) (loop-rule 𝓤 H (W .laws) 𝓣 _<_ (Nat·lt-wfRel .wf) En code.Mir.turn-1 Left Inv turns n)
 
-        -- the body, from where the parameters are passed: local i is at 2 · (16 − i), then the tokens, then what the parameters own
+        -- the body, from where the parameters are passed: local i is at 2 · (17 − i), then the tokens, then what the parameters own
         abbrev Begun : List (Item 𝓤)
-        Begun = ‵ (froom lent-ty m₇ 0) ∷ ‵ (fdies lent-ty m₇) ∷ ‵ (froom elem-ty m₆ 0) ∷ ‵ (fdies elem-ty m₆) ∷ ‵ (froom tyUnit m₅ 0) ∷ ‵ (fdies tyUnit m₅) ∷ ‵ (froom tyBool m₄ 0) ∷ ‵ (fdies tyBool m₄) ∷ ‵ (froom S′.mir m₃ 0) ∷ ‵ (fdies S′.mir m₃) ∷ ‵ (froom word m₂ 0) ∷ ‵ (fdies word m₂) ∷ ‵ (froom U′.mir m₁ 0) ∷ ‵ (fdies U′.mir m₁) ∷ ‵ (fat fullShare word m₀ 0 (vint w64 n)) ∷ ‵ (fdies word m₀) ∷ ‵ (fat fullShare moves-ty l₉ 0 sf) ∷ ‵ (fdies moves-ty l₉) ∷ ‵ (fat fullShare moves-ty l₈ 0 sd) ∷ ‵ (fdies moves-ty l₈) ∷ ‵ (fat fullShare table-ty l₇ 0 sc) ∷ ‵ (fdies table-ty l₇) ∷ ‵ (fat fullShare glyphs-ty l₆ 0 sg) ∷ ‵ (fdies glyphs-ty l₆) ∷ ‵ (fat fullShare L′.mir l₄ 0 (LL.val L.the-type L′.the-laws sh)) ∷ ‵ (fdies L′.mir l₄) ∷ ‵ (fat fullShare half l₃ 0 (vint w32 cn)) ∷ ‵ (fdies half l₃) ∷ ‵ (fat fullShare table-ty l₂ 0 sp) ∷ ‵ (fdies table-ty l₂) ∷ ‵ (fat fullShare list-ty l₁ 0 s) ∷ ‵ (fdies list-ty l₁) ∷ ‵ (froom tyUnit l₀ 0) ∷ ‵ (fdies tyUnit l₀) ∷ (‵ (flft κ q) ⊛ ‵ (flft κ′ q′) ⊛ ‵ ftrue) ∷ ‵ (owns (MutSlice (named 0) κ T.the-row ∷ ShrSlice (named 1) κ′ u8 ∷ u32 ∷ L.the-row ∷ ShrSlice (named 1) κ′ u16 ∷ ShrSlice (named 1) κ′ u8 ∷ ShrSlice (named 1) κ′ i32 ∷ ShrSlice (named 1) κ′ i32 ∷ usize ∷ []) a vals) ∷ []
+        Begun = ‵ (froom lent-ty m₇ 0) ∷ ‵ (fdies lent-ty m₇) ∷ ‵ (froom elem-ty m₆ 0) ∷ ‵ (fdies elem-ty m₆) ∷ ‵ (froom tyUnit m₅ 0) ∷ ‵ (fdies tyUnit m₅) ∷ ‵ (froom tyBool m₄ 0) ∷ ‵ (fdies tyBool m₄) ∷ ‵ (froom S′.mir m₃ 0) ∷ ‵ (fdies S′.mir m₃) ∷ ‵ (froom word m₂ 0) ∷ ‵ (fdies word m₂) ∷ ‵ (froom U′.mir m₁ 0) ∷ ‵ (fdies U′.mir m₁) ∷ ‵ (fat fullShare word m₀ 0 (vint w64 n)) ∷ ‵ (fdies word m₀) ∷ ‵ (fat fullShare moves-ty l₉ 0 sf) ∷ ‵ (fdies moves-ty l₉) ∷ ‵ (fat fullShare moves-ty l₈ 0 sd) ∷ ‵ (fdies moves-ty l₈) ∷ ‵ (fat fullShare table-ty l₇ 0 sc) ∷ ‵ (fdies table-ty l₇) ∷ ‵ (fat fullShare glyphs-ty l₆ 0 sg) ∷ ‵ (fdies glyphs-ty l₆) ∷ ‵ (fat fullShare sizes-ty l₅ 0 sz) ∷ ‵ (fdies sizes-ty l₅) ∷ ‵ (fat fullShare L′.mir l₄ 0 (LL.val L.the-type L′.the-laws sh)) ∷ ‵ (fdies L′.mir l₄) ∷ ‵ (fat fullShare half l₃ 0 (vint w32 cn)) ∷ ‵ (fdies half l₃) ∷ ‵ (fat fullShare table-ty l₂ 0 sp) ∷ ‵ (fdies table-ty l₂) ∷ ‵ (fat fullShare list-ty l₁ 0 s) ∷ ‵ (fdies list-ty l₁) ∷ ‵ (froom tyUnit l₀ 0) ∷ ‵ (fdies tyUnit l₀) ∷ (‵ (flft κ q) ⊛ ‵ (flft κ′ q′) ⊛ ‵ ftrue) ∷ ‵ (owns (MutSlice (named 0) κ T.the-row ∷ ShrSlice (named 1) κ′ u8 ∷ u32 ∷ L.the-row ∷ ShrSlice (named 1) κ′ u32 ∷ ShrSlice (named 1) κ′ u16 ∷ ShrSlice (named 1) κ′ u8 ∷ ShrSlice (named 1) κ′ i32 ∷ ShrSlice (named 1) κ′ i32 ∷ usize ∷ []) a vals) ∷ []
 
         begins : ent 𝓤 (⋆ 𝓤 H A Begun) (Wp 𝓤 H C Λ En code.Mir.t-1 (atReturn 𝓤 H En Post))
         begins =
             qed W Begun ∵ exec ! C Λ En code.Mir.t-1 (atRet En Post) $
             assigns ! (agg ! (and-then ! (lit ! tt) (and-then ! (lit ! tt) (and-then ! (lit ! tt) (and-then ! (lit ! tt) (no-more !)))))) (from ! (stop !)) (init ! 12 refl (tt, (record { fits = lit< tt }, (record { fits = lit< tt }, (record { fits = lit< tt }, (record { fits = lit< tt }, tt)))))) $
             assigns ! (of-opd ! (lit ! tt)) (from ! (stop !)) (init ! 10 refl (tt, record { fits = lit< tt })) $
-            move ! (35 ∷ []) $ fsplit ! $ rewrite ! 0 (λ (z : List Verdict). ‵ (Own z)) (sym (stored-none vs ys)) refl $
-            move ! (1 ∷ []) $ fsplit ! $ move ! (1 ∷ []) $ fsplit ! $ drop ! $ fsplit ! $ drop ! $ fsplit ! $ move ! (1 ∷ []) $ fsplit ! $ move ! (1 ∷ []) $ fsplit ! $ move ! (1 ∷ []) $ fsplit ! $ move ! (1 ∷ []) $ drop ! $
-            -- [after's; before's; classes's; glyphs's; table's; list's; _17; …; the tokens]
-            move ! (1 ∷ 0 ∷ []) $ fjoin ! $ move ! (1 ∷ 0 ∷ []) $ fjoin ! $ move ! (1 ∷ 0 ∷ []) $ fjoin ! $ move ! (1 ∷ 0 ∷ []) $ fjoin ! $
-            move ! (36 ∷ []) $ split ! $
+            move ! (37 ∷ []) $ fsplit ! $ rewrite ! 0 (λ (z : List Verdict). ‵ (Own z)) (sym (stored-none vs ys)) refl $
+            move ! (1 ∷ []) $ fsplit ! $ move ! (1 ∷ []) $ fsplit ! $ drop ! $ fsplit ! $ drop ! $ fsplit ! $ move ! (1 ∷ []) $ fsplit ! $ move ! (1 ∷ []) $ fsplit ! $ move ! (1 ∷ []) $ fsplit ! $ move ! (1 ∷ []) $ fsplit ! $ move ! (1 ∷ []) $ drop ! $
+            -- [after's; before's; classes's; glyphs's; sizes's; table's; list's; _17; …; the tokens]
+            move ! (1 ∷ 0 ∷ []) $ fjoin ! $ move ! (1 ∷ 0 ∷ []) $ fjoin ! $ move ! (1 ∷ 0 ∷ []) $ fjoin ! $ move ! (1 ∷ 0 ∷ []) $ fjoin ! $ move ! (1 ∷ 0 ∷ []) $ fjoin ! $
+            move ! (38 ∷ []) $ split ! $
             -- [list's token; the other token; what is only read; list's; _17; …]
-            keep ! (3 ∷ 0 ∷ 2 ∷ 1 ∷ 14 ∷ 12 ∷ 10 ∷ 8 ∷ 6 ∷ 4 ∷ 34 ∷ 32 ∷ 18 ∷ 36 ∷ 16 ∷ 30 ∷ 28 ∷ 26 ∷ 24 ∷ 22 ∷ 20 ∷ 37 ∷ 35 ∷ 33 ∷ 31 ∷ 29 ∷ 27 ∷ 25 ∷ 23 ∷ 21 ∷ 19 ∷ 17 ∷ 15 ∷ 13 ∷ 11 ∷ 9 ∷ 7 ∷ 5 ∷ []) $ by ! loops
+            keep ! (3 ∷ 0 ∷ 2 ∷ 1 ∷ 14 ∷ 12 ∷ 10 ∷ 8 ∷ 6 ∷ 4 ∷ 36 ∷ 34 ∷ 18 ∷ 38 ∷ 16 ∷ 32 ∷ 30 ∷ 28 ∷ 26 ∷ 24 ∷ 22 ∷ 20 ∷ 39 ∷ 37 ∷ 35 ∷ 33 ∷ 31 ∷ 29 ∷ 27 ∷ 25 ∷ 23 ∷ 21 ∷ 19 ∷ 17 ∷ 15 ∷ 13 ∷ 11 ∷ 9 ∷ 7 ∷ 5 ∷ []) $ by ! loops
 
       -- the function with its locals' types spelt out
       abbrev spelt : Fn
-      spelt = record { lifetimes = 2; outlives = []; params = 9; locals = local tyUnit valueLocal ∷ local list-ty valueLocal ∷ local table-ty valueLocal ∷ local half valueLocal ∷ local L′.mir valueLocal ∷ local glyphs-ty valueLocal ∷ local table-ty valueLocal ∷ local moves-ty valueLocal ∷ local moves-ty valueLocal ∷ local word valueLocal ∷ local U′.mir valueLocal ∷ local word valueLocal ∷ local S′.mir valueLocal ∷ local tyBool valueLocal ∷ local tyUnit valueLocal ∷ local elem-ty valueLocal ∷ local lent-ty valueLocal ∷ []; body = code.Mir.t-1 }
+      spelt = record { lifetimes = 2; outlives = []; params = 10; locals = local tyUnit valueLocal ∷ local list-ty valueLocal ∷ local table-ty valueLocal ∷ local half valueLocal ∷ local L′.mir valueLocal ∷ local sizes-ty valueLocal ∷ local glyphs-ty valueLocal ∷ local table-ty valueLocal ∷ local moves-ty valueLocal ∷ local moves-ty valueLocal ∷ local word valueLocal ∷ local U′.mir valueLocal ∷ local word valueLocal ∷ local S′.mir valueLocal ∷ local tyBool valueLocal ∷ local tyUnit valueLocal ∷ local elem-ty valueLocal ∷ local lent-ty valueLocal ∷ []; body = code.Mir.t-1 }
 
       same : code.function ≡ spelt
       same = refl
 
-      walk-spelt : ent 𝓤 (onEntry 𝓤 H A fill.signature (κ, (κ′, tt)) (q, (q′, tt)) a vals) (WpFn 𝓤 H C Λ spelt (s ∷ sp ∷ vint w32 cn ∷ LL.val L.the-type L′.the-laws sh ∷ sg ∷ sc ∷ sd ∷ sf ∷ vint w64 n ∷ []) Post)
+      walk-spelt : ent 𝓤 (onEntry 𝓤 H A fill.signature (κ, (κ′, tt)) (q, (q′, tt)) a vals) (WpFn 𝓤 H C Λ spelt (s ∷ sp ∷ vint w32 cn ∷ LL.val L.the-type L′.the-laws sh ∷ sz ∷ sg ∷ sc ∷ sd ∷ sf ∷ vint w64 n ∷ []) Post)
       walk-spelt =
-          qed W ((‵ (flft κ q) ⊛ ‵ (flft κ′ q′) ⊛ ‵ ftrue) ∷ ‵ (owns (MutSlice (named 0) κ T.the-row ∷ ShrSlice (named 1) κ′ u8 ∷ u32 ∷ L.the-row ∷ ShrSlice (named 1) κ′ u16 ∷ ShrSlice (named 1) κ′ u8 ∷ ShrSlice (named 1) κ′ i32 ∷ ShrSlice (named 1) κ′ i32 ∷ usize ∷ []) a vals) ∷ []) ∵ enter ! C Λ spelt (s ∷ sp ∷ vint w32 cn ∷ LL.val L.the-type L′.the-laws sh ∷ sg ∷ sc ∷ sd ∷ sf ∷ vint w64 n ∷ []) _ $
-          alloc1 ! (λ l₀. alloc1 ! (λ l₁. alloc1 ! (λ l₂. alloc1 ! (λ l₃. alloc1 ! (λ l₄. alloc1 ! (λ l₆. alloc1 ! (λ l₇. alloc1 ! (λ l₈. alloc1 ! (λ l₉. alloc1 ! (λ m₀. alloc1 ! (λ m₁. alloc1 ! (λ m₂. alloc1 ! (λ m₃. alloc1 ! (λ m₄. alloc1 ! (λ m₅. alloc1 ! (λ m₆. alloc1 ! (λ m₇. alloc0 ! $ params1 ! $
-          pass1 ! (init ! 30 refl (tt, (tt, (record { fits = room .0 }, tt)))) $
-          pass1 ! (init ! 28 refl (tt, (tt, (record { fits = p-room .0 }, tt)))) $
-          pass1 ! (init ! 26 refl (tt, record { fits = cn-fits })) $
-          pass1 ! (init ! 24 refl (LL.lawful L.the-type L′.the-laws 𝓤 H A W .typed sh _ sh-is .0)) $
+          qed W ((‵ (flft κ q) ⊛ ‵ (flft κ′ q′) ⊛ ‵ ftrue) ∷ ‵ (owns (MutSlice (named 0) κ T.the-row ∷ ShrSlice (named 1) κ′ u8 ∷ u32 ∷ L.the-row ∷ ShrSlice (named 1) κ′ u32 ∷ ShrSlice (named 1) κ′ u16 ∷ ShrSlice (named 1) κ′ u8 ∷ ShrSlice (named 1) κ′ i32 ∷ ShrSlice (named 1) κ′ i32 ∷ usize ∷ []) a vals) ∷ []) ∵ enter ! C Λ spelt (s ∷ sp ∷ vint w32 cn ∷ LL.val L.the-type L′.the-laws sh ∷ sz ∷ sg ∷ sc ∷ sd ∷ sf ∷ vint w64 n ∷ []) _ $
+          alloc1 ! (λ l₀. alloc1 ! (λ l₁. alloc1 ! (λ l₂. alloc1 ! (λ l₃. alloc1 ! (λ l₄. alloc1 ! (λ l₅. alloc1 ! (λ l₆. alloc1 ! (λ l₇. alloc1 ! (λ l₈. alloc1 ! (λ l₉. alloc1 ! (λ m₀. alloc1 ! (λ m₁. alloc1 ! (λ m₂. alloc1 ! (λ m₃. alloc1 ! (λ m₄. alloc1 ! (λ m₅. alloc1 ! (λ m₆. alloc1 ! (λ m₇. alloc0 ! $ params1 ! $
+          pass1 ! (init ! 32 refl (tt, (tt, (record { fits = room .0 }, tt)))) $
+          pass1 ! (init ! 30 refl (tt, (tt, (record { fits = p-room .0 }, tt)))) $
+          pass1 ! (init ! 28 refl (tt, record { fits = cn-fits })) $
+          pass1 ! (init ! 26 refl (LL.lawful L.the-type L′.the-laws 𝓤 H A W .typed sh _ sh-is .0)) $
+          pass1 ! (init ! 24 refl (tt, (tt, (record { fits = z-room .0 }, tt)))) $
           pass1 ! (init ! 22 refl (tt, (tt, (record { fits = g-room .0 }, tt)))) $
           pass1 ! (init ! 20 refl (tt, (tt, (record { fits = c-room .0 }, tt)))) $
           pass1 ! (init ! 18 refl (tt, (tt, (record { fits = d-room .0 }, tt)))) $
           pass1 ! (init ! 16 refl (tt, (tt, (record { fits = f-room .0 }, tt)))) $
-          pass1 ! (init ! 14 refl (tt, record { fits = n-fits })) $ pass0 ! $ by ! (begins l₀ l₁ l₂ l₃ l₄ l₆ l₇ l₈ l₉ m₀ m₁ m₂ m₃ m₄ m₅ m₆ m₇))))))))))))))))))
+          pass1 ! (init ! 14 refl (tt, record { fits = n-fits })) $ pass0 ! $ by ! (begins l₀ l₁ l₂ l₃ l₄ l₅ l₆ l₇ l₈ l₉ m₀ m₁ m₂ m₃ m₄ m₅ m₆ m₇)))))))))))))))))))
 
-      walk : ent 𝓤 (onEntry 𝓤 H A fill.signature (κ, (κ′, tt)) (q, (q′, tt)) a vals) (WpFn 𝓤 H C Λ code.function (s ∷ sp ∷ vint w32 cn ∷ LL.val L.the-type L′.the-laws sh ∷ sg ∷ sc ∷ sd ∷ sf ∷ vint w64 n ∷ []) Post)
-      walk = subst (λ (h : Fn). ent 𝓤 (onEntry 𝓤 H A fill.signature (κ, (κ′, tt)) (q, (q′, tt)) a vals) (WpFn 𝓤 H C Λ h (s ∷ sp ∷ vint w32 cn ∷ LL.val L.the-type L′.the-laws sh ∷ sg ∷ sc ∷ sd ∷ sf ∷ vint w64 n ∷ []) Post)) (sym same) walk-spelt
+      walk : ent 𝓤 (onEntry 𝓤 H A fill.signature (κ, (κ′, tt)) (q, (q′, tt)) a vals) (WpFn 𝓤 H C Λ code.function (s ∷ sp ∷ vint w32 cn ∷ LL.val L.the-type L′.the-laws sh ∷ sz ∷ sg ∷ sc ∷ sd ∷ sf ∷ vint w64 n ∷ []) Post)
+      walk = subst (λ (h : Fn). ent 𝓤 (onEntry 𝓤 H A fill.signature (κ, (κ′, tt)) (q, (q′, tt)) a vals) (WpFn 𝓤 H C Λ h (s ∷ sp ∷ vint w32 cn ∷ LL.val L.the-type L′.the-laws sh ∷ sz ∷ sg ∷ sc ∷ sd ∷ sf ∷ vint w64 n ∷ []) Post)) (sym same) walk-spelt
 
 module _ {M : Type 1} (𝓤 : URA M) (H : Heap 𝓤) (A : Atoms 𝓤) (W : Given 𝓤 H A) (mem : Memory → SProp 𝓤) (run : Routine → Fun 𝓤) where
   fill-walks : (𝓣 : Tables 𝓤 H) → Triple 𝓤 (𝓣 .C #line-verdicts·next-verdict) (StepAt 𝓤 H A mem run) → Triple 𝓤 (𝓣 .C #line-justify·store) (Store 𝓤 H A mem run)
       → Walks 𝓤 H A fill.ended stayed (WpFn 𝓤 H (𝓣 .C) (𝓣 .Λ) code.function) (fill.clauses 𝓤 H A mem run)
   fill-walks 𝓣 known-at known-store = walked 𝓤 H A fill.ended stayed (fill.clauses 𝓤 H A mem run) (WpFn 𝓤 H (𝓣 .C) (𝓣 .Λ) code.function)
-      (λ κs. (slice-vals, (slice-vals, (uint-vals w32, (LL.vals L.the-type L′.the-laws, (slice-vals, (slice-vals, (slice-vals, (slice-vals, (uint-vals w64, tt))))))))))
-      (λ κs. (mut-slice-tells (named 0) (κs .0) T.the-row, (shr-slice-tells (named 1) (κs .1 .0) u8, (uint-tells w32, (LL.tells L.the-type L′.the-laws, (shr-slice-tells (named 1) (κs .1 .0) u16, (shr-slice-tells (named 1) (κs .1 .0) u8, (shr-slice-tells (named 1) (κs .1 .0) i32, (shr-slice-tells (named 1) (κs .1 .0) i32, (uint-tells w64, tt))))))))))
-      (λ κs qs bounds a g are. needs 𝓤 (Storable (a .1 .0 .now) (a .1 .1 .0) (a .1 .1 .1 .0 .direction) (a .1 .1 .1 .0 .size) (a .1 .1 .1 .1 .0 .now) (a .1 .1 .1 .1 .1 .0 .now) (a .1 .1 .1 .1 .1 .1 .0 .now) (a .1 .1 .1 .1 .1 .1 .1 .0 .now) (a .1 .1 .1 .1 .1 .1 .1 .1 .0) (length (a .0 .now))) _ (λ fit.
-      walk 𝓤 H A W mem run (κs .0) (κs .1 .0) (qs .0) (qs .1 .0) (a .0 .ptr .0) (a .0 .ptr .1) (a .0 .name) (a .0 .now) (a .1 .0) (a .1 .1 .0) (a .1 .1 .1 .0) (a .1 .1 .1 .1 .0) (a .1 .1 .1 .1 .1 .0) (a .1 .1 .1 .1 .1 .1 .0) (a .1 .1 .1 .1 .1 .1 .1 .0) (a .1 .1 .1 .1 .1 .1 .1 .1 .0)
-      (are .1 .1 .1 .1 .1 .1 .1 .1 .0 .1) (are .1 .1 .0 .1) (are .1 .1 .1 .0) (are .0 .0 .1) (are .1 .0 .0 .1) (are .1 .1 .1 .1 .0 .0 .1) (are .1 .1 .1 .1 .1 .0 .0 .1) (are .1 .1 .1 .1 .1 .1 .0 .0 .1) (are .1 .1 .1 .1 .1 .1 .1 .0 .0 .1) fit 𝓣 known-at known-store))
+      (λ κs. (slice-vals, (slice-vals, (uint-vals w32, (LL.vals L.the-type L′.the-laws, (slice-vals, (slice-vals, (slice-vals, (slice-vals, (slice-vals, (uint-vals w64, tt)))))))))))
+      (λ κs. (mut-slice-tells (named 0) (κs .0) T.the-row, (shr-slice-tells (named 1) (κs .1 .0) u8, (uint-tells w32, (LL.tells L.the-type L′.the-laws, (shr-slice-tells (named 1) (κs .1 .0) u32, (shr-slice-tells (named 1) (κs .1 .0) u16, (shr-slice-tells (named 1) (κs .1 .0) u8, (shr-slice-tells (named 1) (κs .1 .0) i32, (shr-slice-tells (named 1) (κs .1 .0) i32, (uint-tells w64, tt)))))))))))
+      (λ κs qs bounds a g are. needs 𝓤 (Storable (a .1 .0 .now) (a .1 .1 .0) (a .1 .1 .1 .0 .direction) (a .1 .1 .1 .1 .0 .now) (a .1 .1 .1 .1 .1 .0 .now) (a .1 .1 .1 .1 .1 .1 .0 .now) (a .1 .1 .1 .1 .1 .1 .1 .0 .now) (a .1 .1 .1 .1 .1 .1 .1 .1 .0 .now) (a .1 .1 .1 .1 .1 .1 .1 .1 .1 .0) (length (a .0 .now))) _ (λ fit.
+      walk 𝓤 H A W mem run (κs .0) (κs .1 .0) (qs .0) (qs .1 .0) (a .0 .ptr .0) (a .0 .ptr .1) (a .0 .name) (a .0 .now) (a .1 .0) (a .1 .1 .0) (a .1 .1 .1 .0) (a .1 .1 .1 .1 .0) (a .1 .1 .1 .1 .1 .0) (a .1 .1 .1 .1 .1 .1 .0) (a .1 .1 .1 .1 .1 .1 .1 .0) (a .1 .1 .1 .1 .1 .1 .1 .1 .0) (a .1 .1 .1 .1 .1 .1 .1 .1 .1 .0)
+      (are .1 .1 .1 .1 .1 .1 .1 .1 .1 .0 .1) (are .1 .1 .0 .1) (are .1 .1 .1 .0) (are .0 .0 .1) (are .1 .0 .0 .1) (are .1 .1 .1 .1 .0 .0 .1) (are .1 .1 .1 .1 .1 .0 .0 .1) (are .1 .1 .1 .1 .1 .1 .0 .0 .1) (are .1 .1 .1 .1 .1 .1 .1 .0 .0 .1) (are .1 .1 .1 .1 .1 .1 .1 .1 .0 .0 .1) fit 𝓣 known-at known-store))
 
 fill-meets : {M : Type 1} (𝓤 : URA M) (H : Heap 𝓤) (A : Atoms 𝓤) → Given 𝓤 H A → (mem : Memory → SProp 𝓤) (run : Routine → Fun 𝓤) (𝓣 : Tables 𝓤 H)
     → Triple 𝓤 (𝓣 .C #line-verdicts·next-verdict) (StepAt 𝓤 H A mem run) → Triple 𝓤 (𝓣 .C #line-justify·store) (Store 𝓤 H A mem run)
     → Meets 𝓤 H A fill.signature (WpFn 𝓤 H (𝓣 .C) (𝓣 .Λ) code.function) (fill.spec 𝓤 H A mem run)
 fill-meets 𝓤 H A W mem run 𝓣 known-at known-store =
-    walk-meets 𝓤 H A fill.ended stayed W (goes-slice 𝓤 H A W 2 0 tt (plain (λ _. T.the-row)), (goes-none-slice 𝓤 H A W 2 (1 ∷ []) tt (plain (λ _. u8)) yes, (goes-none 𝓤 H A W 2 (λ _. u32) yes (λ κs x f. refl), (goes-none 𝓤 H A W 2 (λ _. L.the-row) yes (λ κs x f. refl), (goes-none-slice 𝓤 H A W 2 (1 ∷ []) tt (plain (λ _. u16)) yes, (goes-none-slice 𝓤 H A W 2 (1 ∷ []) tt (plain (λ _. u8)) yes, (goes-none-slice 𝓤 H A W 2 (1 ∷ []) tt (plain (λ _. i32)) yes, (goes-none-slice 𝓤 H A W 2 (1 ∷ []) tt (plain (λ _. i32)) yes, (goes-none 𝓤 H A W 2 (λ _. usize) yes (λ κs x f. refl), tt))))))))) (fill.clauses 𝓤 H A mem run)
+    walk-meets 𝓤 H A fill.ended stayed W (goes-slice 𝓤 H A W 2 0 tt (plain (λ _. T.the-row)), (goes-none-slice 𝓤 H A W 2 (1 ∷ []) tt (plain (λ _. u8)) yes, (goes-none 𝓤 H A W 2 (λ _. u32) yes (λ κs x f. refl), (goes-none 𝓤 H A W 2 (λ _. L.the-row) yes (λ κs x f. refl), (goes-none-slice 𝓤 H A W 2 (1 ∷ []) tt (plain (λ _. u32)) yes, (goes-none-slice 𝓤 H A W 2 (1 ∷ []) tt (plain (λ _. u16)) yes, (goes-none-slice 𝓤 H A W 2 (1 ∷ []) tt (plain (λ _. u8)) yes, (goes-none-slice 𝓤 H A W 2 (1 ∷ []) tt (plain (λ _. i32)) yes, (goes-none-slice 𝓤 H A W 2 (1 ∷ []) tt (plain (λ _. i32)) yes, (goes-none 𝓤 H A W 2 (λ _. usize) yes (λ κs x f. refl), tt)))))))))) (fill.clauses 𝓤 H A mem run)
     (WpFn 𝓤 H (𝓣 .C) (𝓣 .Λ) code.function) (WpFn-mono 𝓤 H (W .laws) 𝓣 code.function) (fill-walks 𝓤 H A W mem run 𝓣 known-at known-store)
 
 pub fill-spec : {M : Type 1} → stated.statement M
