@@ -37,7 +37,7 @@ onePair =
 
 -- one glyph of 100 units at 1 pt
 abbrev pub oneGlyph : Line
-oneGlyph = lineBy (record { direction = Horizontal; starts = true; ends = true; size = 65536; target = pos 100 }) (0 ∷ []) (pos 100 ∷ [])
+oneGlyph = lineBy (record { direction = Horizontal; starts = true; ends = true; target = pos 100 }) (65536 ∷ []) (0 ∷ []) (pos 100 ∷ [])
 
 abbrev pub room : Lent
 room = lentBy (7 ∷ []) (pos 7 ∷ []) (pos 7 ∷ []) []

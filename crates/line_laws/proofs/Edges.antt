@@ -1,4 +1,4 @@
--- A wider column never pulls a glyph back (document 02, request 1/14): for one line, table, size and pair of flags, and any two targets that are both accepted, every
+-- A wider column never pulls a glyph back (document 02, request 1/14): for one line, table, sizes and pair of flags, and any two targets that are both accepted, every
 -- glyph's left and right edge under the wider target are at or beyond their places under the narrower.
 use Prim.Native.Nat.{ℕ}
 use mathlib.Core.Path.{_≡_, sym, ap₂, subst}

@@ -5,3 +5,5 @@ pub mod Same
 pub mod Edges
 pub mod Columns
 pub mod Placed
+pub mod AsBefore
+pub mod Sizes

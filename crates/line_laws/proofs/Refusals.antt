@@ -1,22 +1,55 @@
 -- A line is refused exactly when one of the listed faults holds, with the number and the offset of the first (document 01, "Numbers of refusal").
 use Prim.Native.Nat.{ℕ}
 use mathlib.Core.Path.{_≡_, refl, sym, ap, ap₂, _∙_}
-use mathlib.Core.Logic.{_↔_}
-use mathlib.Core.List.{List}
+use mathlib.Core.Logic.{inl, inr, _↔_}
+use mathlib.Core.Bool.{Bool, true, false, true≢false}
+use mathlib.Core.List.{List, [], _∷_, _++_}
 use native.Mathlib.Omega.{arith}
+use lib.Dec.{eqb}
 use lib.IntN.{ℤ}
+use borrow.Author.Tests.{eq-eqb}
 use Rattle.fields.specs.declared.Refusal.{Refusal}
 use Rattle.fields.specs.declared.Fault.{Fault}
 use Rattle.fields.specs.declared.Fault.the-variants.{Clear, Bad}
+use Rattle.fields.specs.Faults.{rule}
 use Rattle.fields.specs.Laws.{then-assoc, then-clear}
-use Rattle.meaning.specs.Ask.{sideOf}
-use Rattle.table.specs.Means.{meaningOf}
+use Rattle.encoding.specs.Codes.{All}
 use Rattle.table_laws.specs.Order.{First, Free}
-use Rattle.table_laws.proofs.Faults.{chain, chain-first, first-chain, chain-free, free-chain}
+use Rattle.table_laws.proofs.Faults.{clear-not-bad, rule-bad, chain, chain-first, first-chain, chain-free, free-chain}
 use Rattle.line_rule.specs.Line.{Line}
 use Rattle.fields.specs.Refusals.{numberOf, one-number}
 use Rattle.line_call.specs.Justified.{Lent, justifies, refuses, workedFault, lineFault, settled, justified}
 use Rattle.line_laws.specs.Bars.{sideFor, lineParts}
+
+-- ---- a refusal that only one of the faults gives
+
+abbrev pub Spares : Refusal → Fault → Type 0
+Spares r f = (at : ℕ) → f ≡ Bad r at → ⊥
+
+pub clear-spares : {r : Refusal} {f : Fault} → f ≡ Clear → Spares r f
+clear-spares {r} {f} e at q = clear-not-bad e q
+
+pub rule-spares : (r : Refusal) (test : Bool) {s : Refusal} → eqb (numberOf r) (numberOf s) ≡ false → Spares s (rule test r 0)
+rule-spares r test {s} h at q = true≢false (sym (eq-eqb (numberOf r) (numberOf s) (ap numberOf (rule-bad test r s 0 at q .1))) ∙ h)
+
+none-first : (fs : List Fault) (r : Refusal) (at : ℕ) → All (Spares r) fs → First fs r at → ⊥
+none-first [] r at h w = w
+none-first (f ∷ fs) r at h (inl q) = h .0 at q
+none-first (f ∷ fs) r at h (inr (c, w)) = none-first fs r at (h .1) w
+
+-- it comes first exactly where that one gives it and those ahead are clear
+pub only-first : (ahead : List Fault) (f : Fault) (behind : List Fault) {r : Refusal} {at : ℕ} → All (Spares r) ahead → All (Spares r) behind
+    → First (ahead ++ (f ∷ behind)) r at → Free ahead × (f ≡ Bad r at)
+only-first [] f behind {r} {at} a b (inl q) = (tt, q)
+only-first [] f behind {r} {at} a b (inr (c, w)) = absurd (none-first behind r at b w)
+only-first (g ∷ gs) f behind {r} {at} a b (inl q) = absurd (a .0 at q)
+only-first (g ∷ gs) f behind {r} {at} a b (inr (c, w)) = let k = only-first gs f behind (a .1) b w in ((c, k .0), k .1)
+
+pub first-after : (ahead : List Fault) (f : Fault) (behind : List Fault) {r : Refusal} {at : ℕ} → Free ahead → f ≡ Bad r at → First (ahead ++ (f ∷ behind)) r at
+first-after [] f behind {r} {at} a q = inl q
+first-after (g ∷ gs) f behind {r} {at} a q = inr (a .0, first-after gs f behind (a .1) q)
+
+-- ---- the line
 
 module _ (t : List ℕ) (n : ℕ) (l : Line) (b : Lent) where
   line-chain : lineFault t n l b ≡ chain (lineParts t n l b)

@@ -1,22 +1,21 @@
 -- The tests of a line's refusals say what their plain words say.
 use Prim.Native.Nat.{ℕ, zero, suc, _≤_, _<_}
-use mathlib.Core.Path.{_≡_, refl, sym, ap, ap₂, _∙_, subst}
+use mathlib.Core.Path.{_≡_, refl, sym, ap, ap₂, _∙_}
 use mathlib.Core.Logic.{_⊎_, inl, inr, _↔_}
 use mathlib.Core.Bool.{Bool, true, false, _&&_, _||_, false≢true}
 use mathlib.Core.List.{List, [], _∷_, map}
 use native.Mathlib.Omega.{arith}
-use native.Mathlib.Decide.{decLt}
 use lib.Dec.{leb, ltb, eqb}
 use lib.IntN.{ℤ, pos, negsuc, natAbs, _+ℤ_}
-use lib.ListN.{length, getD}
-use borrow.Author.Tests.{leb-true, le-leb, eq-eqb, lt-ltb, le-ltb}
-use Rattle.share.specs.Share.{total, ofStage, stages, most}
-use Rattle.share.specs.Line.{Glyph, sideStages, sideFactors, lineFits, sumℤ}
+use lib.ListN.{length}
+use borrow.Author.Tests.{leb-true, le-leb, eq-eqb, lt-ltb}
+use Rattle.share.specs.Share.{total, stages, most}
+use Rattle.share.specs.Line.{Glyph, lineFits, sumℤ}
 use Rattle.line_rule.specs.Line.{Line}
 use Rattle.line_moves.specs.Parts.{Known}
-use Rattle.line_call.specs.Justified.{Lent, equalLengths, lengthsOf, within, noneNegative, goodAdvances, allKnown}
+use Rattle.line_call.specs.Justified.{Lent, equalLengths, lengthsOf, goodSize, goodSizes, within, noneNegative, goodAdvances, allKnown}
 use Rattle.line_call.proofs.Tests.{and-left, and-right, lengths-hold, known-each}
-use Rattle.line_laws.specs.Bars.{OneLength, Measured, stageTotal, SmallTotals}
+use Rattle.line_laws.specs.Bars.{OneLength, Sized, Measured, stageTotal, SmallTotals}
 
 and-both : {a b : Bool} → a ≡ true → b ≡ true → (a && b) ≡ true
 and-both {a} {b} p q = ap₂ (λ (x y : Bool). x && y) p q
@@ -28,19 +27,33 @@ lengths-are l b = (holds, tested)
   where
     holds : equalLengths l (lengthsOf b) ≡ true → OneLength l b
     holds e =
-        let h = lengths-hold (length (l .glyphs)) _ _ _ _ e in
-        record { advances = h .0; classes = h .1; before = h .2; after = h .3 }
+        let h = lengths-hold (length (l .glyphs)) _ _ _ _ _ e in
+        record { sizes = h .0; advances = h .1; classes = h .2; before = h .3; after = h .4 }
 
     tested : OneLength l b → equalLengths l (lengthsOf b) ≡ true
-    tested h = and-both (eq-eqb _ _ (h .advances)) (and-both (eq-eqb _ _ (h .classes)) (and-both (eq-eqb _ _ (h .before)) (and-both (eq-eqb _ _ (h .after)) refl)))
+    tested h =
+        and-both (eq-eqb _ _ (h .sizes))
+        (and-both (eq-eqb _ _ (h .advances)) (and-both (eq-eqb _ _ (h .classes)) (and-both (eq-eqb _ _ (h .before)) (and-both (eq-eqb _ _ (h .after)) refl))))
 
 -- ---- 11
 
-pub size-is : (s : ℕ) → ((leb 1 s && leb s 67108864) ≡ true) ↔ ((1 ≤ s) × (s ≤ 67108864))
+pub size-is : (s : ℕ) → (goodSize s ≡ true) ↔ ((1 ≤ s) × (s ≤ 67108864))
 size-is s = (
   λ e. (leb-true _ _ (and-left (leb 1 s) (leb s 67108864) e), leb-true _ _ (and-right (leb 1 s) (leb s 67108864) e)),
   λ h. and-both (le-leb 1 s (h .0)) (le-leb s 67108864 (h .1)),
 )
+
+pub sizes-are : (zs : List ℕ) → (goodSizes zs ≡ true) ↔ Sized zs
+sizes-are zs = (holds zs, tested zs)
+  where
+    holds : (zs : List ℕ) → goodSizes zs ≡ true → Sized zs
+    holds [] e place h = absurd (omega arith)
+    holds (z ∷ zs) e zero h = size-is z .0 (and-left (goodSize z) (goodSizes zs) e)
+    holds (z ∷ zs) e (suc place) h = holds zs (and-right (goodSize z) (goodSizes zs) e) place (omega arith)
+
+    tested : (zs : List ℕ) → Sized zs → goodSizes zs ≡ true
+    tested [] h = refl
+    tested (z ∷ zs) h = and-both (size-is z .1 (h 0 (omega arith))) (tested zs (λ place q. h (suc place) (omega arith)))
 
 -- ---- 12
 
@@ -85,7 +98,7 @@ advances-are l = (holds, tested)
         let w = whole (l .advances) (and-left whole-ones small-sum two) in
         let aim = near (l .target) (and-right (whole-ones && small-sum) near-target e) in
         record {
-          sizes = map natAbs (l .advances);
+          widths = map natAbs (l .advances);
           advances = w;
           sum = small (total (map natAbs (l .advances))) (sym (ap within (ap sumℤ w ∙ sum-whole (map natAbs (l .advances)))) ∙ and-right whole-ones small-sum two);
           aim = aim .0;
@@ -96,7 +109,7 @@ advances-are l = (holds, tested)
     tested : Measured l → goodAdvances l ≡ true
     tested h =
         and-both
-        (and-both (ap noneNegative (h .advances) ∙ whole-back (h .sizes)) (ap within (ap sumℤ (h .advances) ∙ sum-whole (h .sizes)) ∙ small-back (total (h .sizes)) (omega (arith, h .sum))))
+        (and-both (ap noneNegative (h .advances) ∙ whole-back (h .widths)) (ap within (ap sumℤ (h .advances) ∙ sum-whole (h .widths)) ∙ small-back (total (h .widths)) (omega (arith, h .sum))))
         (ap within (h .target) ∙ small-back (h .aim) (omega (arith, h .near)))
 
 -- ---- 13

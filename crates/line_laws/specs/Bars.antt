@@ -1,10 +1,11 @@
 -- What bars a line (document 01, "Numbers of refusal", 9 to 16), each in plain words, and in their order after the table's.
-use Prim.Native.Nat.{ℕ, _+_, _*_, _≤_}
+use Prim.Native.Nat.{ℕ, _+_, _*_, _≤_, _<_}
 use mathlib.Core.Path.{_≡_}
+use mathlib.Core.Logic.{_⊎_}
 use mathlib.Core.Option.{Option, none, some}
 use mathlib.Core.List.{List, [], _∷_, _++_, map}
 use lib.IntN.{pos}
-use lib.ListN.{length, replicate}
+use lib.ListN.{length, getD, replicate}
 use Rattle.fields.specs.declared.Fault.{Fault}
 use Rattle.meaning.specs.Meaning.{Side, Machine}
 use Rattle.meaning.specs.Ask.{sideOf}
@@ -31,18 +32,29 @@ lineParts t n l b =
 
 -- ---- the tests in plain words
 
--- 9 does not bar it: an advance, a class and two movements for each glyph
+-- 9 does not bar it: a size, an advance, a class and two movements for each glyph
 pub record OneLength (l : Line) (b : Lent) : Type 0 where
+  pub sizes : length (l .sizes) ≡ length (l .glyphs)
   pub advances : length (l .advances) ≡ length (l .glyphs)
   pub classes : length (b .classes) ≡ length (l .glyphs)
   pub before : length (b .before) ≡ length (l .glyphs)
   pub after : length (b .after) ≡ length (l .glyphs)
 
+-- 11 does not bar it: each size is at least 1 and at most 67,108,864, that of a deleted glyph and of one without a record too
+abbrev pub Sized : List ℕ → Type 0
+Sized sizes = (place : ℕ) → place < length sizes → (1 ≤ getD sizes place 0) × (getD sizes place 0 ≤ 67108864)
+
+-- 11 bars it: the size at a place is too small or too great
+pub record OutOfRange (sizes : List ℕ) : Type 0 where
+  pub place : ℕ
+  pub there : place < length sizes
+  pub wrong : (getD sizes place 0 < 1) ⊎ (67108864 < getD sizes place 0)
+
 -- 12 does not bar it: the advances and the target are whole numbers of units, and the sum and the target small
 pub record Measured (l : Line) : Type 0 where
-  pub sizes : List ℕ
-  pub advances : l .advances ≡ map pos sizes
-  pub sum : total sizes ≤ 1073741823
+  pub widths : List ℕ
+  pub advances : l .advances ≡ map pos widths
+  pub sum : total widths ≤ 1073741823
   pub aim : ℕ
   pub target : l .target ≡ pos aim
   pub near : aim ≤ 1073741823
@@ -78,7 +90,6 @@ EndsWith (some m) l cs k = Ends (walkMachine m) (walkLine m l) cs k × (k ≤ m 
 pub record Walkable (n : ℕ) (l : Line) (b : Lent) : Type 0 where
   pub lengths : OneLength l b
   pub short : length (l .glyphs) ≤ 1024
-  pub some-size : 1 ≤ l .size
-  pub small-size : l .size ≤ 67108864
+  pub sizes : Sized (l .sizes)
   pub measured : Measured l
   pub known : Known n (l .glyphs)

@@ -1,2 +1,4 @@
 pub mod Bars
 pub mod Edges
+pub mod OneSize
+pub mod AsBefore

@@ -1,7 +1,7 @@
 -- Document 01, "Sample lines and tables": ALL STARRED LINES HOLD. Assumes nothing.
 use Prim.Native.Nat.{ℕ}
 use mathlib.Core.Path.{_≡_, refl, sym, ap, ap₂, _∙_}
-use mathlib.Core.Bool.{Bool, true, false, _&&_}
+use mathlib.Core.Bool.{Bool, true, false}
 use mathlib.Core.Option.{Option, none}
 use mathlib.Core.List.{List, [], _∷_, map}
 use native.Mathlib.Omega.{arith}
@@ -44,9 +44,6 @@ last s l b =
     then roomTest s l (length (b .verdicts))
 
 module _ (t : List ℕ) (n : ℕ) (l : Line) (b : Lent) (p : Proper t n l b) where
-  sized : (leb 1 (l .size) && leb (l .size) 67108864) ≡ true
-  sized = ap₂ _&&_ (le-leb 1 (l .size) (p .size-low)) (le-leb (l .size) 67108864 (p .size-high))
-
   left-to-bar : leb (length (l .glyphs)) 1024 ≡ true → lineFault t n l b ≡ last (sideFor t n l) l b
   unfolding lineFault workedFault Accepted
   left-to-bar short =
@@ -54,16 +51,16 @@ module _ (t : List ℕ) (n : ℕ) (l : Line) (b : Lent) (p : Proper t n l b) whe
       (then-go _ (p .accepted)
       ∙ then-go _ (rule-clear _ 0 (p .lengths))
       ∙ then-go _ (rule-clear _ 0 short)
-      ∙ then-go _ (rule-clear _ 0 sized)
+      ∙ then-go _ (rule-clear _ 0 (p .sizes))
       ∙ then-go _ (rule-clear _ 0 (p .advances))
       ∙ then-go _ (rule-clear _ 0 (p .known)))
 
 -- ---- the empty line
 
 -- what is worked out of a line without a glyph, where its direction has no machine
-module _ (direction : Direction) (starts ends : Bool) (size : ℕ) (s : Side) (no-machine : s .machine ≡ none) (verdicts : List Verdict) where
+module _ (direction : Direction) (starts ends : Bool) (s : Side) (no-machine : s .machine ≡ none) (verdicts : List Verdict) where
   abbrev bare : Line
-  bare = lineBy (record { direction = direction; starts = starts; ends = ends; size = size; target = pos 4 }) [] []
+  bare = lineBy (record { direction = direction; starts = starts; ends = ends; target = pos 4 }) [] [] []
 
   abbrev room : Lent
   room = lentBy [] [] [] verdicts
@@ -96,39 +93,40 @@ module _ (t : List ℕ) (n : ℕ) (l : Line) (b : Lent) (p : Proper t n l b) (e 
   none-as-long : {A : Type 0} (xs : List A) → length xs ≡ length (l .glyphs) → xs ≡ []
   none-as-long xs h = none-long xs (h ∙ ap (λ (gs : List ℕ). length gs) (e .no-glyph))
 
-  long : (length (l .advances) ≡ length (l .glyphs))
+  long : (length (l .sizes) ≡ length (l .glyphs))
+      × (length (l .advances) ≡ length (l .glyphs))
       × (length (b .classes) ≡ length (l .glyphs))
       × (length (b .before) ≡ length (l .glyphs))
       × (length (b .after) ≡ length (l .glyphs))
-  long = lengths-hold (length (l .glyphs)) _ _ _ _ (p .lengths)
+  long = lengths-hold (length (l .glyphs)) _ _ _ _ _ (p .lengths)
 
-  -- the line with other glyphs, advances and target
-  abbrev with : List ℕ → List ℤ → ℤ → Line
-  with gs xs z = lineBy (record { direction = l .direction; starts = l .starts; ends = l .ends; size = l .size; target = z }) gs xs
+  -- the line with other sizes, glyphs, advances and target
+  abbrev with : List ℕ → List ℕ → List ℤ → ℤ → Line
+  with zs gs xs z = lineBy (record { direction = l .direction; starts = l .starts; ends = l .ends; target = z }) zs gs xs
 
-  line-is : l ≡ bare (l .direction) (l .starts) (l .ends) (l .size) (sideFor t n l) (e .no-machine) (b .verdicts)
+  line-is : l ≡ bare (l .direction) (l .starts) (l .ends) (sideFor t n l) (e .no-machine) (b .verdicts)
   line-is =
-      ap₂ (λ (gs : List ℕ) (xs : List ℤ). with gs xs (l .target)) (e .no-glyph) (none-as-long (l .advances) (long .0))
-      ∙ ap (with [] []) (e .has-target)
+      ap₂ (λ (zs gs : List ℕ). with zs gs (l .advances) (l .target)) (none-as-long (l .sizes) (long .0)) (e .no-glyph)
+      ∙ ap₂ (with [] []) (none-as-long (l .advances) (long .1)) (e .has-target)
 
   lent-is : b ≡ lentBy [] [] [] (b .verdicts)
   lent-is =
-      ap (λ (cs : List ℕ). lentBy cs (b .before) (b .after) (b .verdicts)) (none-as-long (b .classes) (long .1))
-      ∙ ap₂ (λ (bs fs : List ℤ). lentBy [] bs fs (b .verdicts)) (none-as-long (b .before) (long .2)) (none-as-long (b .after) (long .3))
+      ap (λ (cs : List ℕ). lentBy cs (b .before) (b .after) (b .verdicts)) (none-as-long (b .classes) (long .2))
+      ∙ ap₂ (λ (bs fs : List ℤ). lentBy [] bs fs (b .verdicts)) (none-as-long (b .before) (long .3)) (none-as-long (b .after) (long .4))
 
   empty-clear : lineFault t n l b ≡ Clear
   empty-clear =
       let short : leb (length (l .glyphs)) 1024 ≡ true = ap (λ (gs : List ℕ). leb (length gs) 1024) (e .no-glyph) in
       left-to-bar t n l b p short
       ∙ ap₂ (last (sideFor t n l)) line-is lent-is
-      ∙ bare-clear (l .direction) (l .starts) (l .ends) (l .size) (sideFor t n l) (e .no-machine) (b .verdicts)
+      ∙ bare-clear (l .direction) (l .starts) (l .ends) (sideFor t n l) (e .no-machine) (b .verdicts)
 
   empty-holds : justified t n l b ≡ record { answer = justifies (pos 4) 0 0; lent = b }
   unfolding justified
   empty-holds =
       ap (λ (f : Fault). settled f (sideFor t n l) l b) empty-clear
       ∙ ap₂ (settled Clear (sideFor t n l)) line-is lent-is
-      ∙ bare-settled (l .direction) (l .starts) (l .ends) (l .size) (sideFor t n l) (e .no-machine) (b .verdicts)
+      ∙ bare-settled (l .direction) (l .starts) (l .ends) (sideFor t n l) (e .no-machine) (b .verdicts)
       ∙ ap (λ (c : Lent). record { answer = justifies (pos 4) 0 0; lent = c }) (sym lent-is)
 
 -- ---- the line that is stuck

@@ -1,6 +1,6 @@
 -- The starred lines of document 01, "Sample lines and tables": one list of cases, each with what is expected, and what it is for a case to hold. Each speaks of the
 -- definition that the calls' contracts speak of: the factor, the staged rule, the verdict, the outcome of a line's call.
-use Prim.Native.Nat.{ℕ, _≤_}
+use Prim.Native.Nat.{ℕ}
 use mathlib.Core.Path.{_≡_}
 use mathlib.Core.Bool.{true, false}
 use mathlib.Core.Option.{none, some}
@@ -19,7 +19,7 @@ use Rattle.verdict.specs.Verdict.{firesOf}
 use Rattle.table.specs.Table.{Accepted}
 use Rattle.table.specs.Means.{meaningOf}
 use Rattle.line_rule.specs.Line.{Line, walkMachine, columnOf, unitsOf}
-use Rattle.line_call.specs.Justified.{Lent, LineReply, justifies, refuses, lengthsOf, equalLengths, goodAdvances, allKnown, justified}
+use Rattle.line_call.specs.Justified.{Lent, LineReply, justifies, refuses, lengthsOf, equalLengths, goodSizes, goodAdvances, allKnown, justified}
 
 -- ---- a case and what is expected of it
 
@@ -146,8 +146,7 @@ Shaped stuck = Stuck
 pub record Proper (t : List ℕ) (n : ℕ) (l : Line) (b : Lent) : Type 0 where
   pub accepted : Accepted t n
   pub lengths : equalLengths l (lengthsOf b) ≡ true
-  pub size-low : 1 ≤ l .size
-  pub size-high : l .size ≤ 67108864
+  pub sizes : goodSizes (l .sizes) ≡ true
   pub advances : goodAdvances l ≡ true
   pub known : allKnown n (l .glyphs) ≡ true
 

@@ -1,0 +1,130 @@
+-- Refusal 11 of a line in which each glyph has its own size (document 02, request 5/14), and lines by which the sizes' use can be checked by eye.
+use Prim.Native.Nat.{ℕ, zero, suc, _≤_, _<_}
+use mathlib.Core.Path.{_≡_, refl, sym, ap, _∙_}
+use mathlib.Core.Logic.{_⊎_, inl, inr, _↔_}
+use mathlib.Core.Bool.{Bool, true, false, _&&_, true≢false}
+use mathlib.Core.List.{List, [], _∷_, _++_}
+use native.Mathlib.Omega.{arith}
+use native.Mathlib.Decide.{decLt}
+use lib.Dec.{leb}
+use lib.IntN.{ℤ, pos}
+use lib.ListN.{length, getD}
+use borrow.Author.Tests.{leb-true, le-leb}
+use Rattle.fields.specs.declared.Refusal.the-variants.{UnequalLengths, LongLine, PointSize, Advances, UnknownGlyph, EndlessWalk, StageTotal, ShortRoom}
+use Rattle.fields.specs.declared.Fault.{Fault}
+use Rattle.fields.specs.declared.Fault.the-variants.{Bad}
+use Rattle.fields.specs.Field.{u16At, u32At}
+use Rattle.fields.specs.Faults.{_then_, rule, inside}
+use Rattle.fields.specs.Laws.{rule-holds, rule-clear, rule-fails}
+use Rattle.fields.specs.Walk.{walk}
+use Rattle.encoding.specs.Codes.{All}
+use Rattle.encoding.specs.Upto.{from}
+use Rattle.types.specs.declared.Direction.the-variants.{Horizontal}
+use Rattle.units.specs.Fixed.{fixedSize}
+use Rattle.units.specs.Flags.{widthFlags}
+use Rattle.meaning.specs.Meaning.{emptySide}
+use Rattle.lookup.specs.Find.{valueFrom, valueOf}
+use Rattle.lookup.specs.Lookup.{formatFault, lookupFault}
+use Rattle.cluster.specs.Faults.{classAt, classFault, growFault, shrinkFault, flagsFault, pairFault, clusterFault}
+use Rattle.cluster.specs.Pairs.{pairAt, pairsAt, clusterAt}
+use Rattle.lookup_targets.specs.Values.{placeFault, glyphFault, valuesFault, clusterOf}
+use Rattle.table.specs.Table.{Accepted, present, headerFault, offsetsFault, machinePart, actionPart, directionFault, tableFault}
+use Rattle.table.specs.Means.{machineOf, listsOf, sideAt, directionOf, meaningOf}
+use Rattle.table_laws.specs.Order.{Free}
+use Rattle.table_laws.proofs.Faults.{rule-bad}
+use Rattle.share.specs.Share.{stages, goesBack, shares, stageMoves, stageLeft, movesBy, leftBy}
+use Rattle.share.specs.Line.{lineFits, lineMoves, lineLeft}
+use Rattle.line_rule.specs.Line.{Line, gapOf, walkOf, partsOf, beforeOf, afterOf, remainderOf, firings, verdictsFrom, verdictsOf}
+use Rattle.line_call.specs.Justified.{Lent, lengthsOf, equalLengths, goodSize, goodSizes, workTests, roomTest, justifies, refuses, workedFault, lineFault, justified}
+use Rattle.line_call.specs.Settle.{lineBy, lentBy}
+use Rattle.line_laws.specs.Bars.{sideFor, OneLength, OutOfRange}
+use Rattle.line_laws.proofs.Tests.{lengths-are, size-is, sizes-are}
+use Rattle.line_laws.proofs.Refusals.{Spares, clear-spares, rule-spares, only-first, first-after, call-refused}
+use Rattle.line_laws.proofs.Columns.{onePair}
+
+-- ---- refusal 11
+
+wrong-size : (z : ℕ) → goodSize z ≡ false → (z < 1) ⊎ (67108864 < z)
+wrong-size zero e = inl (omega arith)
+wrong-size (suc z) e = go (decLt 67108864 (suc z))
+  where
+    go : Dec (67108864 < suc z) → (suc z < 1) ⊎ (67108864 < suc z)
+    go (yes h) = inr h
+    go (no h) = absurd (true≢false (sym (size-is (suc z) .1 (omega arith, omega arith)) ∙ e))
+
+wrong-place : (zs : List ℕ) → goodSizes zs ≡ false → OutOfRange zs
+wrong-place [] e = absurd (true≢false e)
+wrong-place (z ∷ zs) e = go (goodSize z) refl e (wrong-place zs)
+  where
+    go : (b : Bool) → goodSize z ≡ b → (b && goodSizes zs) ≡ false → (goodSizes zs ≡ false → OutOfRange zs) → OutOfRange (z ∷ zs)
+    go true q w ih = let r = ih w in record { place = suc (r .place); there = omega (arith, r .there); wrong = r .wrong }
+    go false q w ih = record { place = 0; there = omega arith; wrong = wrong-size z q }
+
+wrong-sizes : (zs : List ℕ) → OutOfRange zs → goodSizes zs ≡ false
+wrong-sizes zs r = go (goodSizes zs) refl
+  where
+    go : (b : Bool) → goodSizes zs ≡ b → b ≡ false
+    go false q = refl
+    go true q = absurd (against (r .wrong))
+      where
+        against : (getD zs (r .place) 0 < 1) ⊎ (67108864 < getD zs (r .place) 0) → ⊥
+        against (inl h) = let w = sizes-are zs .0 q (r .place) (r .there) .0 in omega arith
+        against (inr h) = let w = sizes-are zs .0 q (r .place) (r .there) .1 in omega arith
+
+module _ (t : List ℕ) (n : ℕ) (l : Line) (b : Lent) where
+  -- REFUSAL 11 exactly when nothing before it bars the line and the size of some glyph is out of range
+  pub sizes-barred : Accepted t n → (justified t n l b .answer ≡ refuses 11 0) ↔ (OneLength l b × (length (l .glyphs) ≤ 1024) × OutOfRange (l .sizes))
+  unfolding Accepted
+  sizes-barred ok = (
+    λ e. refused (only-first ahead sized behind spared spared-behind (call-refused t n l b PointSize 0 .0 e)),
+    λ h. call-refused t n l b PointSize 0 .1 (first-after ahead sized behind (free (h .0) (h .1)) (rule-fails PointSize 0 (wrong-sizes (l .sizes) (h .2)))),
+  )
+    where
+      ahead : List Fault
+      ahead = tableFault t n ∷ rule (equalLengths l (lengthsOf b)) UnequalLengths 0 ∷ rule (leb (length (l .glyphs)) 1024) LongLine 0 ∷ []
+
+      sized : Fault
+      sized = rule (goodSizes (l .sizes)) PointSize 0
+
+      behind : List Fault
+      behind = workTests (sideFor t n l) n l ++ (roomTest (sideFor t n l) l (length (b .verdicts)) ∷ [])
+
+      spared : All (Spares PointSize) ahead
+      spared = (clear-spares ok, (rule-spares UnequalLengths _ refl, (rule-spares LongLine _ refl, tt)))
+
+      spared-behind : All (Spares PointSize) behind
+      spared-behind = (rule-spares Advances _ refl, (rule-spares UnknownGlyph _ refl, (rule-spares EndlessWalk _ refl, (rule-spares StageTotal _ refl, (rule-spares ShortRoom _ refl, tt)))))
+
+      free : OneLength l b → length (l .glyphs) ≤ 1024 → Free ahead
+      free one short = (ok, (rule-clear UnequalLengths 0 (lengths-are l b .1 one), (rule-clear LongLine 0 (le-leb _ _ short), tt)))
+
+      refused : Free ahead × (sized ≡ Bad PointSize 0) → OneLength l b × (length (l .glyphs) ≤ 1024) × OutOfRange (l .sizes)
+      refused ((_, (p9, (p10, _))), q) = (
+        lengths-are l b .0 (rule-holds _ UnequalLengths 0 p9),
+        leb-true _ _ (rule-holds _ LongLine 0 p10),
+        wrong-place (l .sizes) (rule-bad _ PointSize PointSize 0 0 q .0),
+      )
+
+  -- so NEVER FOR AN EMPTY LINE
+  pub empty-unbarred : Accepted t n → l .glyphs ≡ [] → justified t n l b .answer ≡ refuses 11 0 → ⊥
+  empty-unbarred ok none e =
+      let h = sizes-barred ok .0 e in
+      let long : length (l .sizes) ≡ 0 = h .0 .sizes ∙ ap (λ (gs : List ℕ). length gs) none in
+      let there = h .2 .there in
+      omega arith
+
+-- ---- lines of one table, whose glyph 0 has one record: 10 and 20 units at 1 pt for growing
+
+abbrev lineAt : List ℕ → List ℕ → List ℤ → ℤ → Line
+lineAt sizes glyphs advances target = lineBy (record { direction = Horizontal; starts = true; ends = true; target = target }) sizes glyphs advances
+
+abbrev lentTwo : Lent
+lentTwo = lentBy (7 ∷ 7 ∷ []) (pos 7 ∷ pos 7 ∷ []) (pos 7 ∷ pos 7 ∷ []) []
+
+-- at 1 and 2 pt, by as much as all sides may grow, the second glyph's move twice as far; a size of 0 is refused under a deleted glyph too
+pub in-two-sizes :
+    (justified onePair 1 (lineAt (65536 ∷ 131072 ∷ []) (0 ∷ 0 ∷ []) (pos 100 ∷ pos 100 ∷ []) (pos 290)) lentTwo
+    ≡ record { answer = justifies (pos 0) 0 0; lent = lentBy (0 ∷ 0 ∷ []) (pos 10 ∷ pos 20 ∷ []) (pos 20 ∷ pos 40 ∷ []) [] })
+    × (justified onePair 1 (lineAt (65536 ∷ 0 ∷ []) (0 ∷ 0xFFFF ∷ []) (pos 100 ∷ pos 0 ∷ []) (pos 100)) lentTwo ≡ record { answer = refuses 11 0; lent = lentTwo })
+unfolding onePair justified lineFault workedFault tableFault headerFault directionFault present offsetsFault machinePart actionPart u16At u32At inside rule _then_ walk valuesFault lookupFault formatFault placeFault glyphFault valueOf valueFrom clusterFault pairFault classAt classFault growFault shrinkFault flagsFault fixedSize widthFlags pairAt pairsAt clusterAt clusterOf machineOf listsOf sideAt directionOf meaningOf emptySide from stages goesBack shares stageMoves stageLeft movesBy leftBy lineFits lineMoves lineLeft gapOf walkOf partsOf beforeOf afterOf remainderOf verdictsFrom verdictsOf firings
+in-two-sizes = (refl, refl)
