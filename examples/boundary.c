@@ -92,19 +92,21 @@ static void ask_sheet(const uint8_t *sheet, size_t length) {
 
 /* A line of so many glyphs, with room for each number of verdicts; answers how many fired in all. */
 static uint32_t justify(const uint8_t *table, size_t length, size_t places) {
+    uint32_t *sizes = lend(4 * places);
     uint16_t *glyphs = lend(2 * places);
     int32_t *advances = lend(4 * places), *before = lend(4 * places), *after = lend(4 * places);
     uint8_t *classes = lend(places);
     uint32_t fired = 0;
     for (size_t i = 0; i < places; i++) {
+        sizes[i] = i % 3 == 0 ? 917504 : 589824;
         glyphs[i] = (uint16_t)(i * 37 % GLYPHS);
         advances[i] = 65536;
     }
     for (size_t room = 0; room <= places; room++) {
         struct just_verdict *verdicts = lend(room * sizeof *verdicts);
         struct just_line_answer answer =
-            just_justify(table, length, GLYPHS, 0, true, true, 786432, glyphs, places, advances, places, 90000 * PLACES,
-                         classes, places, before, places, after, places, verdicts, room);
+            just_justify(table, length, GLYPHS, 0, true, true, sizes, places, glyphs, places, advances, places,
+                         90000 * PLACES, classes, places, before, places, after, places, verdicts, room);
         for (uint32_t i = 0; i < answer.verdicts; i++)
             fired += verdicts[i].substitutes ? 2 : 1;
     }

@@ -1,4 +1,5 @@
-/* Reads a small table, says how long its sheet is, and stretches a line of three glyphs: letter, space, letter. */
+/* Reads a small table, says how long its sheet is, and stretches a line of three glyphs: letter and space in one size,
+ * then a letter in a smaller one. */
 #include "just.h"
 
 #include <stdio.h>
@@ -25,17 +26,18 @@ static const uint8_t table[] = {
 };
 
 static const uint16_t glyphs[GLYPHS] = {0, 1, 0};
-static const int32_t advances[GLYPHS] = {6 * POINT, 3 * POINT, 6 * POINT};
+static const uint32_t sizes[GLYPHS] = {12 * POINT, 12 * POINT, 8 * POINT};
+static const int32_t advances[GLYPHS] = {6 * POINT, 3 * POINT, 4 * POINT};
 
 /* What the call fills. */
 static uint8_t classes[GLYPHS];
 static int32_t before[GLYPHS], after[GLYPHS];
 static struct just_verdict verdicts[GLYPHS];
 
-/* The line at 12 pt, to be 24 pt wide, with room for some verdicts. */
+/* The line, to be 24 pt wide, with room for some verdicts. */
 static struct just_line_answer justify(size_t room) {
-    return just_justify(table, sizeof table, 2, JUST_HORIZONTAL, true, true, 12 * POINT, glyphs, GLYPHS, advances, GLYPHS,
-                        24 * POINT, classes, GLYPHS, before, GLYPHS, after, GLYPHS, verdicts, room);
+    return just_justify(table, sizeof table, 2, JUST_HORIZONTAL, true, true, sizes, GLYPHS, glyphs, GLYPHS, advances,
+                        GLYPHS, 24 * POINT, classes, GLYPHS, before, GLYPHS, after, GLYPHS, verdicts, room);
 }
 
 static double points(int32_t units) { return (double)units / POINT; }

@@ -30,7 +30,7 @@
 #include <stdint.h>
 
 /* Rises when a call or a struct changes, or a refusal is added. */
-#define JUST_VERSION 3
+#define JUST_VERSION 4
 
 #ifdef __cplusplus
 extern "C" {
@@ -46,9 +46,9 @@ enum just_refusal {
     JUST_BAD_CLUSTER = 6,     /* a cluster breaks its rule */
     JUST_BAD_MACHINE = 7,     /* a machine breaks its rule */
     JUST_BAD_ACTIONS = 8,     /* an action list breaks its rule */
-    JUST_UNEQUAL_LENGTHS = 9, /* glyphs, advances, classes or movements lent in differing lengths */
+    JUST_UNEQUAL_LENGTHS = 9, /* sizes, glyphs, advances, classes or movements lent in differing lengths */
     JUST_LONG_LINE = 10,      /* more than 1,024 glyphs */
-    JUST_POINT_SIZE = 11,     /* the point size is outside 1 to 67,108,864 units */
+    JUST_POINT_SIZE = 11,     /* a point size is outside 1 to 67,108,864 units */
     JUST_ADVANCES = 12,       /* an advance, their sum or the target is outside 0 to 1,073,741,823 units */
     JUST_UNKNOWN_GLYPH = 13,  /* a glyph of N or more, not deleted */
     JUST_ENDLESS_WALK = 14,   /* the class walk never ends */
@@ -231,22 +231,23 @@ struct just_length_answer just_table_write_sheet(const uint8_t *table, size_t le
 
 /* Justifies one line.
  *
- * `starts` and `ends` say whether the line starts and ends the text, `size` is the point size in units (1 to
- * 67,108,864). `glyphs` names at most 1,024 glyphs, 0xFFFF being a deleted one; `advances` are their widths,
- * `target` is the width wanted, in units.
+ * `starts` and `ends` say whether the line starts and ends the text. `glyphs` names at most 1,024 glyphs, 0xFFFF being
+ * a deleted one; `sizes` are their point sizes, `advances` their widths, `target` is the width wanted, all in units. A
+ * glyph's limits and actions are measured at its own size. Each size is 1 to 67,108,864, a deleted glyph's too (else
+ * 11); an empty line has none that could be wrong. A line in one size lends that size once for each glyph.
  *
- * `glyphs`, `advances`, `classes`, `before` and `after` have one length (else 9). On success `classes` has each
- * glyph's class, `before` and `after` the movements on its two sides in units, signed as the gap is: together with
- * the remainder they sum to `target` less the advances. The first `verdicts` records of the list are filled, by
+ * `sizes`, `glyphs`, `advances`, `classes`, `before` and `after` have one length (else 9). On success `classes` has
+ * each glyph's class, `before` and `after` the movements on its two sides in units, signed as the gap is: together
+ * with the remainder they sum to `target` less the advances. The first `verdicts` records of the list are filled, by
  * place and then by number, and the rest of the list stays as it was; 16 where it is too short for them. At most 64
  * actions of a glyph fire, so a list of 64 times the glyphs is never too short.
  *
  * Refuses with the table's 1 to 8, then 9 to 16 in that order. */
 struct just_line_answer just_justify(const uint8_t *table, size_t length, uint32_t glyph_count, uint32_t direction,
-                                     bool starts, bool ends, uint32_t size, const uint16_t *glyphs,
-                                     size_t glyphs_length, const int32_t *advances, size_t advances_length,
-                                     int32_t target, uint8_t *classes, size_t classes_length, int32_t *before,
-                                     size_t before_length, int32_t *after, size_t after_length,
+                                     bool starts, bool ends, const uint32_t *sizes, size_t sizes_length,
+                                     const uint16_t *glyphs, size_t glyphs_length, const int32_t *advances,
+                                     size_t advances_length, int32_t target, uint8_t *classes, size_t classes_length,
+                                     int32_t *before, size_t before_length, int32_t *after, size_t after_length,
                                      struct just_verdict *verdicts, size_t verdicts_length);
 
 /* Whether bytes are a sheet: refusal 0, or 17. */

@@ -9,7 +9,7 @@
 //! - Whatever is refused is refused with a [`Refusal`], which has document 01's number and, for faults in a table, the
 //!   byte; [`Field::of`] says which field stands there. A refusal changes no lent buffer.
 //!
-//! One unit is 1/65,536 point; limits are in ems, 65,536 to the em.
+//! One unit is 1/65,536 point, so [`POINT`] units are a point; limits are in ems, 65,536 to the em.
 //!
 //! ```
 //! use just::{Reason, Refusal, Table};
@@ -33,7 +33,7 @@ mod sheet;
 mod table;
 
 pub use field::{Field, Place};
-pub use line::{Answer, Justified, Lent, Line, Verdict, VerdictRecord, DELETED};
+pub use line::{one_size, Answer, Justified, Lent, Line, Verdict, VerdictRecord, DELETED, POINT};
 pub use parts::{Act, Action, Direction, Entry, Limits, Meaning, Pair, Rule, Sizes};
 pub use refusal::{Reason, Refusal};
 pub use sections::{Machine, Run, Side};

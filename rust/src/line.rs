@@ -13,7 +13,10 @@ pub const DELETED: u16 = 0xFFFF;
 /// The most actions of a glyph's list, all of which may fire.
 const MOST_ACTIONS: usize = 64;
 
-/// A line to be justified. Size, advances and target are in units.
+/// The units in a point.
+pub const POINT: u32 = 65_536;
+
+/// A line to be justified. Sizes, advances and target are in units; there are as many sizes and advances as glyphs.
 #[derive(Clone, Copy, Debug)]
 pub struct Line<'a> {
     pub direction: Direction,
@@ -21,13 +24,35 @@ pub struct Line<'a> {
     pub starts: bool,
     /// Whether the line ends the text.
     pub ends: bool,
-    /// The point size, 1 to 67,108,864.
-    pub size: u32,
+    /// The point size of each glyph, 1 to 67,108,864, also of a deleted one; [`one_size`] makes those of a line in one size.
+    pub sizes: &'a [u32],
     /// At most 1,024 glyphs; [`DELETED`] stands for a deleted one.
     pub glyphs: &'a [u16],
     pub advances: &'a [i32],
     /// The width wanted.
     pub target: i32,
+}
+
+/// The sizes of a line that is in one size: that size, once for each glyph.
+///
+/// ```
+/// use just::{one_size, Direction, Line, POINT};
+///
+/// let glyphs = [7, 8, 9];
+/// let sizes = one_size(12 * POINT, &glyphs);
+/// assert_eq!(sizes, [786_432; 3]);
+/// let line = Line {
+///     direction: Direction::Horizontal,
+///     starts: true,
+///     ends: true,
+///     sizes: &sizes,
+///     glyphs: &glyphs,
+///     advances: &[400_000; 3],
+///     target: 1_300_000,
+/// };
+/// ```
+pub fn one_size(size: u32, glyphs: &[u16]) -> Vec<u32> {
+    vec![size; glyphs.len()]
 }
 
 /// What is said of a line whose buffers were filled.
@@ -73,7 +98,7 @@ impl Table<'_> {
     /// Justifies a line into lent buffers. A refusal changes none of them. [`Verdict::from`] reads a record of the list.
     ///
     /// ```
-    /// use just::{Answer, Direction, Lent, Line, Table};
+    /// use just::{Answer, Direction, Lent, Line, Table, POINT};
     ///
     /// let bytes = [0, 1, 0, 0, 0, 0, 0, 0, 0, 0];
     /// let table = Table::new(&bytes, 1)?;
@@ -81,7 +106,7 @@ impl Table<'_> {
     ///     direction: Direction::Horizontal,
     ///     starts: true,
     ///     ends: true,
-    ///     size: 12 << 16,
+    ///     sizes: &[14 * POINT, 9 * POINT],
     ///     glyphs: &[0, 0],
     ///     advances: &[500, 500],
     ///     target: 1_004,
@@ -94,8 +119,8 @@ impl Table<'_> {
     /// # Ok::<(), just::Refusal>(())
     /// ```
     pub fn justify_into(&self, line: &Line, lent: Lent) -> Result<Answer, Refusal> {
-        let Line { direction, starts, ends, size, glyphs, advances, target } = *line;
-        let line = raw::Line { direction: direction as u32, starts, ends, size, glyphs, advances, target };
+        let Line { direction, starts, ends, sizes, glyphs, advances, target } = *line;
+        let line = raw::Line { direction: direction as u32, starts, ends, sizes, glyphs, advances, target };
         let raw::Said { remainder, entries, verdicts } = Refusal::or(self.lent.justify(&line, lent))?;
         Ok(Answer { remainder, entries, verdicts: verdicts as usize })
     }
@@ -103,9 +128,9 @@ impl Table<'_> {
     /// Justifies a line.
     ///
     /// ```
-    /// use just::{Direction, Line, Reason, Refusal, Table};
+    /// use just::{Direction, Line, Reason, Refusal, Table, POINT};
     ///
-    /// // Glyph 0 grows by up to half an em after it.
+    /// // Glyph 0 grows by up to half an em after it: at 14 pt by 7 points, at 9 pt by 4.5.
     /// let bytes = [
     ///     0, 1, 0, 0, 0, 0, 0, 10, 0, 0, 0, 0, 0, 24, 0, 0, 0, 8, 0, 0, 0, 1, 0, 0,
     ///     0, 0, 0, 1, 0, 0, 0, 0, 0, 0, 0, 0, 0, 0, 0, 0, 0, 0, 0x80, 0, 0, 0, 0, 0, 0, 0, 0, 0,
@@ -115,14 +140,15 @@ impl Table<'_> {
     ///     direction: Direction::Horizontal,
     ///     starts: true,
     ///     ends: true,
-    ///     size: 12 << 16,
+    ///     sizes: &[14 * POINT, 9 * POINT, 9 * POINT],
     ///     glyphs: &[0, 1, 0],
     ///     advances: &[100, 100, 100],
-    ///     target: 305,
+    ///     target: 323,
     /// };
     /// let justified = table.justify(&line)?;
-    /// assert_eq!(justified.after, [2, 0, 3]);
-    /// assert_eq!(table.justify(&Line { size: 0, ..line }), Err(Refusal { reason: Reason::PointSize, offset: 0 }));
+    /// assert_eq!(justified.after, [14, 0, 9]);
+    /// let refused = table.justify(&Line { sizes: &[14 * POINT, 0, 9 * POINT], ..line });
+    /// assert_eq!(refused, Err(Refusal { reason: Reason::PointSize, offset: 0 }));
     /// # Ok::<(), Refusal>(())
     /// ```
     pub fn justify(&self, line: &Line) -> Result<Justified, Refusal> {

@@ -6,7 +6,7 @@ mod common;
 use common::{complex, simple, GLYPHS};
 use just::{
     Act, Action, Direction, Entry, Found, Justified, Limits, Line, Lookup, Meaning, Pair, Reason, Refusal, Rule, Sheet,
-    Sizes, Table, Units, Verdict, DELETED,
+    Sizes, Table, Units, Verdict, DELETED, POINT,
 };
 
 const WAY: Direction = Direction::Horizontal;
@@ -64,7 +64,7 @@ fn a_line_of_letters_takes_a_kashida() {
         direction: WAY,
         starts: true,
         ends: true,
-        size: 1 << 16,
+        sizes: &[POINT; 3],
         glyphs: &[3, 4, 2],
         advances: &[0; 3],
         target: 100,
@@ -100,7 +100,7 @@ fn more_verdicts_than_glyphs_are_all_given() {
     let bytes = common::with_actions(3);
     let table = Table::new(&bytes, 1).expect("a table");
     let line =
-        Line { direction: WAY, starts: true, ends: true, size: 1 << 16, glyphs: &[0], advances: &[0], target: 5 };
+        Line { direction: WAY, starts: true, ends: true, sizes: &[POINT], glyphs: &[0], advances: &[0], target: 5 };
     let verdicts = table.justify(&line).expect("a justified line").verdicts;
     assert_eq!(verdicts.iter().map(|verdict| verdict.action).collect::<Vec<_>>(), [0, 1, 2]);
 }

@@ -20,7 +20,7 @@ pub use sheet::Sheet;
 pub use table::Table;
 
 /// The version of the C header that these functions follow.
-pub const VERSION: u32 = 3;
+pub const VERSION: u32 = 4;
 
 /// What is asked for the parts of its meaning: a table or a sheet. It is judged first each time.
 ///

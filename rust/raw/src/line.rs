@@ -10,7 +10,8 @@ extern "C" {
         direction: u32,
         starts: bool,
         ends: bool,
-        size: u32,
+        sizes: *const u32,
+        sizes_length: usize,
         glyphs: *const u16,
         glyphs_length: usize,
         advances: *const i32,
@@ -27,14 +28,14 @@ extern "C" {
     ) -> Answer<Said>;
 }
 
-/// A line. Size, advances and target are in units.
+/// A line. Sizes, advances and target are in units.
 #[derive(Clone, Copy, Debug)]
 pub struct Line<'a> {
     /// 0 for horizontal, any other number for vertical.
     pub direction: u32,
     pub starts: bool,
     pub ends: bool,
-    pub size: u32,
+    pub sizes: &'a [u32],
     pub glyphs: &'a [u16],
     pub advances: &'a [i32],
     pub target: i32,
@@ -87,7 +88,8 @@ impl Table<'_> {
                 line.direction,
                 line.starts,
                 line.ends,
-                line.size,
+                line.sizes.as_ptr(),
+                line.sizes.len(),
                 line.glyphs.as_ptr(),
                 line.glyphs.len(),
                 line.advances.as_ptr(),
