@@ -29,13 +29,27 @@ fn record(limits: (u32, u32), flags: u16, grow: bool, asked: &mut Questions) -> 
     WidthRecord { before_grow, before_shrink, after_grow, after_shrink, grow_flags, shrink_flags }
 }
 
-/// A size, and how many glyphs of 16 em on each side, with one glyph of what limits, give the total.
-fn shape(total: u64, asked: &mut Questions) -> (u32, u64, (u32, u32)) {
-    loop {
-        let size = (1 << 19) + asked.below(MOST_SIZE as u64 - (1 << 19) + 1) as u32;
-        let full = 2 * factor(LIMIT, size);
-        if let Some(limits) = limits_for(total % full, size) {
-            return (size, total / full, limits);
+fn size(asked: &mut Questions) -> u32 {
+    (1 << 19) + asked.below(MOST_SIZE as u64 - (1 << 19) + 1) as u32
+}
+
+/// How many glyphs of 16 em on each side at one size, with one glyph of what limits at another, or the same, give the total.
+struct Shape {
+    full: u32,
+    copies: u64,
+    rest: u32,
+    limits: (u32, u32),
+}
+
+impl Shape {
+    fn of(total: u64, asked: &mut Questions) -> Shape {
+        loop {
+            let full = size(asked);
+            let rest = if asked.below(2) == 0 { full } else { size(asked) };
+            let most = 2 * factor(LIMIT, full);
+            if let Some(limits) = limits_for(total % most, rest) {
+                return Shape { full, copies: total / most, rest, limits };
+            }
         }
     }
 }
@@ -58,7 +72,7 @@ fn widths(places: usize, grow: bool, asked: &mut Questions) -> (Vec<i64>, i64) {
 
 /// A line whose total in one stage is within one of the cap.
 pub fn draw(asked: &mut Questions) -> LineCase {
-    let (size, copies, limits) = shape(MOST_TOTAL - 1 + asked.below(3), asked);
+    let Shape { full, copies, rest, limits } = Shape::of(MOST_TOTAL - 1 + asked.below(3), asked);
     let stages = STAGES as u64;
     let (stage, grow) = (asked.below(stages), asked.below(2) == 0);
     let unlimited = [0, 0x1000][asked.below(2) as usize];
@@ -71,6 +85,12 @@ pub fn draw(asked: &mut Questions) -> LineCase {
     for end in (1..glyphs.len()).rev() {
         glyphs.swap(end, asked.below(end as u64 + 1) as usize);
     }
+    let mut size_of = |&glyph: &u16| match glyph {
+        0 => full.into(),
+        1 => rest.into(),
+        _ => 1 + asked.below(MOST_SIZE as u64) as i64,
+    };
+    let sizes = glyphs.iter().map(&mut size_of).collect();
     let (advances, target) = widths(glyphs.len(), grow, asked);
-    LineCase { size: size.into(), advances, target, ..drafts::line(drafts::table(&records, &[], &[]), 3, glyphs) }
+    LineCase { sizes, advances, target, ..drafts::line(drafts::table(&records, &[], &[]), 3, glyphs) }
 }

@@ -4,7 +4,7 @@ use crate::drafts;
 use crate::questions::Questions;
 use reference::examples::Fields;
 use reference::generate::LineCase;
-use reference::{sheet_of, Action, Cell, Direction, Parts, Sizes, WidthRecord};
+use reference::{one_size, sheet_of, Action, Cell, Direction, Parts, Sizes, WidthRecord};
 
 /// A cluster of one pair for class 0, in 28 bytes.
 pub fn cluster(fields: Fields, grow: u32) -> Fields {
@@ -290,7 +290,7 @@ pub fn without_machine() -> Vec<u8> {
 pub fn line(table: Vec<u8>, n: u32, count: usize) -> LineCase {
     let glyphs = (0..count as u32).map(|place| (place * 7_919 % n) as u16).collect();
     LineCase {
-        size: 12 * 65_536,
+        sizes: one_size(12 * 65_536, count),
         advances: vec![6 * 65_536; count],
         target: 8 * 65_536 * count as i64,
         room: 64 * count,

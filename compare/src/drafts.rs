@@ -2,7 +2,7 @@
 
 use reference::examples::Fields;
 use reference::generate::LineCase;
-use reference::{cluster, Direction, WidthRecord};
+use reference::{cluster, one_size, Direction, WidthRecord};
 
 /// The smallest table: both directions absent.
 pub fn empty() -> Vec<u8> {
@@ -60,7 +60,7 @@ pub fn line(table: Vec<u8>, n: u32, glyphs: Vec<u16>) -> LineCase {
         direction: Direction::Horizontal,
         starts: true,
         ends: true,
-        size: 65_536,
+        sizes: one_size(65_536, count),
         glyphs,
         advances: vec![0; count],
         target: 0,

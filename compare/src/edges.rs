@@ -3,7 +3,7 @@
 use crate::questions::Questions;
 use crate::refused::said;
 use crate::tally::Tally;
-use crate::{lines, Outcome};
+use crate::{lines, lines::Inputs, Outcome};
 use just_raw::{Lent, Line, Verdict};
 use reference::generate::LineCase;
 use reference::line::MOST_WIDTH;
@@ -31,15 +31,15 @@ fn targets(sum: i64, asked: &mut Questions) -> Vec<i64> {
 }
 
 /// The edges that the library's answer shows; none where it refuses.
-fn edges(case: &LineCase, advances: &[i32], target: i64) -> Option<Edges> {
+fn edges(case: &LineCase, inputs: &Inputs, target: i64) -> Option<Edges> {
     let count = case.glyphs.len();
     let (mut classes, mut before, mut after) = (vec![0; count], vec![0; count], vec![0; count]);
     let mut verdicts = vec![Verdict::default(); count * MOST_ACTIONS];
     let lent = Lent { classes: &mut classes, before: &mut before, after: &mut after, verdicts: &mut verdicts };
-    let line = Line { target: target as i32, ..lines::line(case, advances) };
+    let line = Line { target: target as i32, ..inputs.line(case) };
     said(lines::table(case).justify(&line, lent)).ok()?;
     let mut ahead = 0;
-    let sides = before.iter().zip(&after).zip(advances);
+    let sides = before.iter().zip(&after).zip(line.advances);
     Some(
         sides
             .map(|((&before, &after), &advance)| {
@@ -70,9 +70,9 @@ pub fn compare(case: &LineCase, asked: &mut Questions, tally: &mut Tally) -> Out
     if case.advances.len() != case.glyphs.len() || !(0..=MOST_WIDTH).contains(&sum) {
         return Ok(());
     }
-    let advances = lines::advances(case);
+    let inputs = Inputs::new(case, asked);
     let shown: Vec<(i64, Edges)> =
-        targets(sum, asked).into_iter().filter_map(|target| Some((target, edges(case, &advances, target)?))).collect();
+        targets(sum, asked).into_iter().filter_map(|target| Some((target, edges(case, &inputs, target)?))).collect();
     for pair in shown.windows(2) {
         let [(narrow, narrow_edges), (wide, wide_edges)] = pair else { continue };
         tally.note(mark(*narrow, *wide, sum).into());

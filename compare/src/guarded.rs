@@ -15,7 +15,17 @@ impl<T: Copy + PartialEq + Debug> Guarded<T> {
         Guarded(std::iter::repeat_with(noise).take(length + 2 * GUARD).collect())
     }
 
-    /// What is lent.
+    /// A buffer that holds these, to be read.
+    pub fn holding(values: Vec<T>, noise: impl FnMut() -> T) -> Guarded<T> {
+        Guarded::new(values.len(), noise).filled(values)
+    }
+
+    /// What is lent to be read.
+    pub fn held(&self) -> &[T] {
+        &self.0[GUARD..self.0.len() - GUARD]
+    }
+
+    /// What is lent to be written.
     pub fn room(&mut self) -> &mut [T] {
         let end = self.0.len() - GUARD;
         &mut self.0[GUARD..end]

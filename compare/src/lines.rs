@@ -15,7 +15,7 @@ pub fn draw(seed: u64, index: u64) -> LineCase {
         39 => caps::draw(&mut Questions::new(seed, index)),
         _ => generate::line(seed, index),
     };
-    case.size = i64::from(case.size as u32);
+    case.sizes.iter_mut().for_each(|size| *size = i64::from(*size as u32));
     case
 }
 
@@ -79,21 +79,42 @@ pub fn table(case: &LineCase) -> Table<'_> {
     Table { bytes: &case.table, glyph_count: case.n }
 }
 
-/// The advances of a case, as the library takes them.
-pub fn advances(case: &LineCase) -> Vec<i32> {
-    case.advances.iter().map(|&advance| advance as i32).collect()
+/// The three buffers that the call reads, as the library takes them.
+#[derive(Clone)]
+pub struct Inputs {
+    sizes: Guarded<u32>,
+    glyphs: Guarded<u16>,
+    advances: Guarded<i32>,
 }
 
-/// The line of a case, with its advances.
-pub fn line<'a>(case: &'a LineCase, advances: &'a [i32]) -> Line<'a> {
-    Line {
-        direction: library::number(case.direction),
-        starts: case.starts,
-        ends: case.ends,
-        size: case.size as u32,
-        glyphs: &case.glyphs,
-        advances,
-        target: case.target as i32,
+impl Inputs {
+    pub fn new(case: &LineCase, asked: &mut Questions) -> Inputs {
+        let sizes = case.sizes.iter().map(|&size| size as u32).collect();
+        let advances = case.advances.iter().map(|&advance| advance as i32).collect();
+        Inputs {
+            sizes: Guarded::holding(sizes, || asked.number() as u32),
+            glyphs: Guarded::holding(case.glyphs.clone(), || asked.number() as u16),
+            advances: Guarded::holding(advances, || asked.number() as i32),
+        }
+    }
+
+    /// The line of the case that they are of.
+    pub fn line(&self, case: &LineCase) -> Line<'_> {
+        Line {
+            direction: library::number(case.direction),
+            starts: case.starts,
+            ends: case.ends,
+            sizes: self.sizes.held(),
+            glyphs: self.glyphs.held(),
+            advances: self.advances.held(),
+            target: case.target as i32,
+        }
+    }
+
+    fn compare(&self, wanted: &Inputs) -> Outcome {
+        self.sizes.compare("sizes", &wanted.sizes)?;
+        self.glyphs.compare("glyphs", &wanted.glyphs)?;
+        self.advances.compare("advances", &wanted.advances)
     }
 }
 
@@ -116,9 +137,11 @@ pub fn compare(case: &LineCase, second: &Result<Justified, Fault>, asked: &mut Q
         Ok(answer) => lent.clone().filled(answer),
         Err(_) => lent.clone(),
     };
-    let advances = advances(case);
-    let line = Line { direction: direction(case, asked), ..line(case, &advances) };
+    let inputs = Inputs::new(case, asked);
+    let untouched = inputs.clone();
+    let line = Line { direction: direction(case, asked), ..inputs.line(case) };
     let answer = table(case).justify(&line, lent.lend());
     same("justify", refused::said(answer), second.as_ref().map(said).map_err(|&fault| Refused::fault(fault)))?;
+    inputs.compare(&untouched)?;
     lent.compare(&wanted)
 }

@@ -15,14 +15,16 @@ const SIZES: [i64; 4] = [0, 1, 67_108_864, 67_108_865];
 const PLACES: [usize; 3] = [0, 1_024, 1_025];
 const WAYS: [&str; 2] = ["growing", "shrinking"];
 const BESIDE: [&str; 3] = ["one below", "at", "one above"];
-const BUFFERS: [&str; 4] = ["advances", "classes", "before", "after"];
+const BUFFERS: [&str; 5] = ["sizes", "advances", "classes", "before", "after"];
 const FULL_FACTOR: &str = "a factor of 16 em at 1,024 pt";
 const ROOMS: [&str; 3] = ["one short", "exact", "long"];
 
 /// What an accepted line may show, and the test for it.
 type Shown = (&'static str, fn(&LineCase, &Justified) -> bool);
 
-const SHOWN: [Shown; 4] = [
+const SHOWN: [Shown; 6] = [
+    ("a line in one size", |case, _| case.sizes.len() > 1 && !in_two_sizes(case)),
+    ("a line in two sizes", |case, _| in_two_sizes(case)),
     ("a walk that stays and ends", |case, answer| answer.entries > case.glyphs.len() as u64 + 1),
     ("a deleted glyph with a class", |case, answer| {
         case.glyphs.iter().zip(&answer.classes).any(|(&glyph, &class)| glyph == DELETED && class > 0)
@@ -30,6 +32,19 @@ const SHOWN: [Shown; 4] = [
     ("a remainder", |_, answer| answer.remainder != 0),
     ("a substituting verdict", |_, answer| answer.verdicts.iter().any(|verdict| verdict.substituting)),
 ];
+
+fn in_two_sizes(case: &LineCase) -> bool {
+    case.sizes.windows(2).any(|two| two[0] != two[1])
+}
+
+/// The sizes at and beside their limits, of glyphs that are not deleted and of deleted ones.
+fn sizes() -> impl Iterator<Item = (i64, bool)> {
+    SIZES.into_iter().flat_map(|size| [(size, false), (size, true)])
+}
+
+fn size_mark(size: i64, deleted: bool) -> String {
+    format!("size {size}{}", if deleted { " of a deleted glyph" } else { "" })
+}
 
 fn widest_mark(way: &str, at_cap: bool) -> String {
     format!("the widest gap, {way}{}", if at_cap { ", and a total at the cap" } else { "" })
@@ -51,7 +66,7 @@ fn length_mark(buffer: &str, longer: bool) -> String {
 pub fn wanted() -> Vec<(String, u64)> {
     let mut wanted: Vec<(String, u64)> = (9..=16).map(|number| (format!("refusal {number}"), 100)).collect();
     let mut want = |mark: String| wanted.push((mark, 20));
-    SIZES.iter().for_each(|size| want(format!("size {size}")));
+    sizes().for_each(|(size, deleted)| want(size_mark(size, deleted)));
     PLACES.iter().for_each(|count| want(format!("{count} glyphs")));
     ROOMS.iter().for_each(|room| want(format!("room {room}")));
     SHOWN.iter().for_each(|(shown, _)| want(shown.to_string()));
@@ -82,8 +97,11 @@ pub fn note(case: &LineCase, second: &Result<Justified, Fault>, tally: &mut Tall
         }
         Err(fault) => tally.note(format!("refusal {}", fault.number)),
     }
-    if SIZES.contains(&case.size) {
-        tally.note(format!("size {}", case.size));
+    for (size, deleted) in sizes() {
+        let mut places = case.sizes.iter().zip(&case.glyphs);
+        if places.any(|(&own, &glyph)| own == size && (glyph == DELETED) == deleted) {
+            tally.note(size_mark(size, deleted));
+        }
     }
     if PLACES.contains(&case.glyphs.len()) {
         tally.note(format!("{} glyphs", case.glyphs.len()));
@@ -99,7 +117,7 @@ pub fn note(case: &LineCase, second: &Result<Justified, Fault>, tally: &mut Tall
 }
 
 fn note_lengths(case: &LineCase, tally: &mut Tally) {
-    let lengths = [case.advances.len(), case.classes_len, case.before_len, case.after_len];
+    let lengths = [case.sizes.len(), case.advances.len(), case.classes_len, case.before_len, case.after_len];
     for (buffer, length) in BUFFERS.iter().zip(lengths) {
         if length != case.glyphs.len() {
             tally.note(length_mark(buffer, length > case.glyphs.len()));

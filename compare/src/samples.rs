@@ -5,6 +5,7 @@ use crate::{lines, questions::Questions, Outcome};
 use reference::examples::Fields;
 use reference::generate::LineCase;
 use reference::meaning::LIMIT;
+use reference::one_size;
 use std::sync::LazyLock;
 
 const POINT: i64 = 65_536;
@@ -26,7 +27,7 @@ pub struct Sample {
 
 /// A line of advances 0 with ample room for verdicts.
 fn line(table: Vec<u8>, n: u32, glyphs: &[u16], target: i64, size: i64) -> LineCase {
-    LineCase { target, size, room: 8, ..drafts::line(table, n, glyphs.to_vec()) }
+    LineCase { target, sizes: one_size(size, glyphs.len()), room: 8, ..drafts::line(table, n, glyphs.to_vec()) }
 }
 
 fn with(mut case: LineCase, change: impl FnOnce(&mut LineCase)) -> LineCase {
@@ -44,10 +45,19 @@ fn threes(priority: u16, gap: i64) -> LineCase {
     line(table(&[grows(3, 3, priority), grows(3, 0, priority)], &[], &[]), 2, &[0, 1], gap, POINT)
 }
 
-/// One unlimited glyph with a ligature that breaks outside 0 to 0.5 em, at 12 pt.
-fn ligature(gap: i64) -> LineCase {
+/// The line with other sizes.
+fn sized(case: LineCase, sizes: &[i64]) -> LineCase {
+    LineCase { sizes: sizes.to_vec(), ..case }
+}
+
+/// Unlimited glyphs of these sizes, ligatures that break outside 0 to 0.5 em.
+fn ligatures(sizes: &[i64], gap: i64) -> LineCase {
     let list = Fields::new().l(1).ws(&[0, 0]).l(24).l(0).l(32_768).ws(&[0, 1, 0, 0]).done();
-    line(table(&[grows(0, 0, 0x1000)], &list, &[]), 1, &[0], gap, 12 * POINT)
+    sized(line(table(&[grows(0, 0, 0x1000)], &list, &[]), 1, &vec![0; sizes.len()], gap, POINT), sizes)
+}
+
+fn ligature(gap: i64) -> LineCase {
+    ligatures(&[12 * POINT], gap)
 }
 
 /// Eight sides of 16 em at 1,024 pt are the cap of a stage's total; one unit of an em more is above it.
@@ -80,8 +90,8 @@ fn sharing() -> Vec<(&'static str, LineCase, Says)> {
         ("the walk starts elsewhere", endless(true), moves(&[0], &[0])),
         ("a total at the cap", cap(2, false), moves(&[0; 4], &[0; 4])),
         ("room for just that verdict", with(ligature(HALF_EM + 1), |case| case.room = 1), breaks),
-        ("the smallest size", with(bare(), |case| case.size = 1), moves(&[0], &[0])),
-        ("the greatest size", with(bare(), |case| case.size = 67_108_864), moves(&[0], &[0])),
+        ("the smallest size", with(bare(), |case| case.sizes[0] = 1), moves(&[0], &[0])),
+        ("the greatest size", with(bare(), |case| case.sizes[0] = 67_108_864), moves(&[0], &[0])),
         ("1,024 glyphs", line(empty(), 1, &[0; 1_024], 0, POINT), moves(&[0; 1_024], &[0; 1_024])),
         ("a deleted glyph", with(bare(), |case| case.glyphs[0] = 0xFFFF), moves(&[0], &[0])),
         ("the widest line", with(bare(), |case| (case.advances[0], case.target) = (WIDEST, WIDEST)), moves(&[0], &[0])),
@@ -101,6 +111,19 @@ fn null_priority() -> Vec<(&'static str, LineCase, Says)> {
     ]
 }
 
+/// Lines of document 02, request 5/14. Half an em is 458,752 at 14 pt and 294,912 at 9 pt.
+fn two_sizes() -> Vec<(&'static str, LineCase, Says)> {
+    let (headword, gloss) = (14 * POINT, 9 * POINT);
+    let halves = |sizes| sized(line(table(&[grows(0, 32_768, 0)], &[], &[]), 1, &[0, 0], 23, POINT), sizes);
+    let broken = Says::Moves(vec![0, 0], vec![300_000, 300_000], 0, 1);
+    vec![
+        ("half an em at 14 and at 9 pt", halves(&[headword, gloss]), moves(&[0, 0], &[14, 9])),
+        ("half an em at 9 and at 14 pt", halves(&[gloss, headword]), moves(&[0, 0], &[9, 14])),
+        ("of two ligatures that at 9 pt breaks", ligatures(&[headword, gloss], 600_000), broken),
+        ("an empty line has no size", line(empty(), 1, &[], 0, 0), moves(&[], &[])),
+    ]
+}
+
 /// Movements with no remainder and no verdict.
 fn moves(before: &[i64], after: &[i64]) -> Says {
     Says::Moves(before.to_vec(), after.to_vec(), 0, 0)
@@ -114,8 +137,12 @@ fn refusals() -> Vec<(&'static str, LineCase, u32)> {
         ("more movements before", with(bare(), |case| case.before_len = 2), 9),
         ("fewer movements after", with(bare(), |case| case.after_len = 0), 9),
         ("1,025 glyphs", line(empty(), 1, &[0; 1_025], 0, POINT), 10),
-        ("size 0", with(bare(), |case| case.size = 0), 11),
-        ("size 67,108,865", with(bare(), |case| case.size = 67_108_865), 11),
+        ("size 0", with(bare(), |case| case.sizes[0] = 0), 11),
+        ("size 67,108,865", with(bare(), |case| case.sizes[0] = 67_108_865), 11),
+        ("size 0 at the second glyph", with(pair.clone(), |case| case.sizes[1] = 0), 11),
+        ("size 0 of a deleted glyph", with(pair.clone(), |case| (case.sizes[1], case.glyphs[1]) = (0, 0xFFFF)), 11),
+        ("fewer sizes, one of them 0", with(pair.clone(), |case| case.sizes = vec![0]), 9),
+        ("a size more", with(line(empty(), 1, &[], 0, POINT), |case| case.sizes = vec![POINT]), 9),
         ("advances 5 and -5", with(pair.clone(), |case| case.advances = vec![5, -5]), 12),
         ("a sum of 2^30", with(pair, |case| case.advances = vec![WIDEST, 1]), 12),
         ("target -1", with(bare(), |case| case.target = -1), 12),
@@ -124,14 +151,14 @@ fn refusals() -> Vec<(&'static str, LineCase, u32)> {
         ("a total above the cap", cap(2, true), 15),
         ("a total of stage 3 above the cap", cap(3, true), 15),
         ("no room for the verdict", with(ligature(HALF_EM + 1), |case| case.room = 0), 16),
-        ("size before advances", with(bare(), |case| (case.size, case.target) = (0, -1)), 11),
+        ("size before advances", with(bare(), |case| (case.sizes[0], case.target) = (0, -1)), 11),
     ]
 }
 
 /// All samples, in a fixed order.
 pub static ALL: LazyLock<Vec<Sample>> = LazyLock::new(|| {
     let refused = refusals().into_iter().map(|(name, case, number)| (name, case, Says::Refused(number)));
-    let answered = sharing().into_iter().chain(null_priority());
+    let answered = sharing().into_iter().chain(null_priority()).chain(two_sizes());
     answered.chain(refused).map(|(name, case, says)| Sample { name, case, says }).collect()
 });
 

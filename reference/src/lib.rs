@@ -21,7 +21,7 @@ pub mod verdict;
 pub mod walk;
 
 pub use bytes::Fault;
-pub use line::{justify, justify_with, Justified, Line, LineInput};
+pub use line::{justify, justify_with, one_size, Justified, Line, LineInput};
 pub use lookup::Found;
 pub use machine::Machine;
 pub use meaning::{Action, Cell, Direction, Parts, Sizes, Stretch, WidthRecord};

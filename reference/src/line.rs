@@ -23,10 +23,16 @@ pub struct Line<'a> {
     pub starts: bool,
     /// The line ends the text.
     pub ends: bool,
-    pub size: i64,
+    /// Each glyph's own point size (document 02, request 5/14).
+    pub sizes: &'a [i64],
     pub glyphs: &'a [u16],
     pub advances: &'a [i64],
     pub target: i64,
+}
+
+/// The sizes of a line that is in one size throughout.
+pub fn one_size(size: i64, count: usize) -> Vec<i64> {
+    vec![size; count]
 }
 
 /// A table, its glyph count, and a line.
@@ -70,7 +76,7 @@ pub fn justify_with(
     after_len: usize,
     room: usize,
 ) -> Result<Justified, Fault> {
-    let lent = [line.advances.len(), classes_len, before_len, after_len];
+    let lent = [line.advances.len(), line.sizes.len(), classes_len, before_len, after_len];
     refuse(lent.iter().any(|&length| length != line.glyphs.len()), 9)?;
     let gap = check_line(table.glyph_count(), line)?;
     let (classes, entries) = classes_of(table, line).ok_or(Fault::plain(14))?;
@@ -83,10 +89,11 @@ pub fn justify_with(
     Ok(Justified { classes, before, after, remainder, entries, verdicts })
 }
 
-/// Refusals 10 to 13; gives the gap.
+/// Refusals 10 to 13; gives the gap. A deleted glyph's size is judged like any
+/// other, and an empty line has none.
 fn check_line(n: u32, line: &Line) -> Result<i64, Fault> {
     refuse(line.glyphs.len() > MOST_PLACES, 10)?;
-    refuse(!(1..=MOST_SIZE).contains(&line.size), 11)?;
+    refuse(line.sizes.iter().any(|size| !(1..=MOST_SIZE).contains(size)), 11)?;
     let width = 0..=MOST_WIDTH;
     refuse(line.advances.iter().any(|advance| !width.contains(advance)), 12)?;
     let sum: i64 = line.advances.iter().sum();
@@ -106,17 +113,17 @@ pub fn classes_of(table: &Table, line: &Line) -> Option<(Vec<u8>, u64)> {
     walk(machine, &glyph_classes, line.starts, line.ends)
 }
 
-/// What each glyph brings to the sharing, in the gap's direction; only one
-/// without a record for its class takes no part.
+/// What each glyph brings to the sharing at its own size, in the gap's
+/// direction; only one without a record for its class takes no part.
 pub fn rooms_of(table: &Table, line: &Line, classes: &[u8], grow: bool) -> Vec<Option<Room>> {
-    let room = |(&glyph, &class): (&u16, &u8)| {
+    let room = |((&glyph, &size), &class): ((&u16, &i64), &u8)| {
         if glyph == DELETED {
             return None;
         }
         let record = table.width_record(line.direction, glyph as u32, class as u32)?;
-        Some(room_of(&record, line.size as u32, grow))
+        Some(room_of(&record, size as u32, grow))
     };
-    line.glyphs.iter().zip(classes).map(room).collect()
+    line.glyphs.iter().zip(line.sizes).zip(classes).map(room).collect()
 }
 
 /// A record's part in the sharing: every priority has a stage (document 02,
@@ -142,7 +149,7 @@ fn signed(shares: Shares, negative: bool) -> (Vec<i64>, Vec<i64>, i64) {
     (all(shares.before), all(shares.after), sign(shares.remainder))
 }
 
-/// The firings by place, then in list order.
+/// The firings by place, then in list order, each judged at its glyph's size.
 fn verdicts_of(table: &Table, line: &Line, classes: &[u8], before: &[i64], after: &[i64]) -> Vec<VerdictRecord> {
     let mut verdicts = Vec::new();
     for (place, &glyph) in line.glyphs.iter().enumerate() {
@@ -155,7 +162,7 @@ fn verdicts_of(table: &Table, line: &Line, classes: &[u8], before: &[i64], after
             if action.class != classes[place] as u16 {
                 continue;
             }
-            let fires = decide(action.kind, action.data, growth, line.size);
+            let fires = decide(action.kind, action.data, growth, line.sizes[place]);
             if fires != Fires::No {
                 let substituting = fires == Fires::Substituting;
                 verdicts.push(VerdictRecord { place: place as u32, number: number as u32, substituting });

@@ -280,6 +280,41 @@ fn stages_past_the_cap(case: &generate::LineCase) -> Vec<usize> {
     (0..sums.len()).filter(|&stage| sums[stage] > 1 << 33).collect()
 }
 
+#[test]
+fn lines_have_sizes_of_every_kind() {
+    let mut kinds = Kinds::new();
+    for index in 0..DRAWS {
+        let case = generate::line(SEED, index);
+        let mut note = |kind: &str, met: bool| *kinds.entry(kind.into()).or_default() += met as usize;
+        let count = case.glyphs.len();
+        let mut distinct = case.sizes.clone();
+        distinct.sort();
+        distinct.dedup();
+        note("fewer sizes than glyphs", case.sizes.len() < count);
+        note("more sizes than glyphs", case.sizes.len() > count);
+        for (name, size) in [("0", 0), ("1", 1), ("the greatest", 67_108_864), ("one past", 67_108_865)] {
+            note(&format!("size {name}"), case.sizes.contains(&size));
+        }
+        let answer = case.justify();
+        let good = |size: &i64| (1..=67_108_864).contains(size);
+        if answer.clone().is_err_and(|fault| fault.number == 11) {
+            let places = (0..count).filter(|&place| !good(&case.sizes[place]));
+            note("a deleted glyph's size alone refused", places.into_iter().all(|place| case.glyphs[place] == 0xFFFF));
+        }
+        if let Ok(answer) = answer {
+            note("accepted, empty", count == 0);
+            note("accepted, one size", distinct.len() == 1 && count > 1);
+            note("accepted, two sizes", distinct.len() == 2);
+            note("accepted, more sizes", distinct.len() > 2);
+            let fired: Vec<i64> = answer.verdicts.iter().map(|verdict| case.sizes[verdict.place as usize]).collect();
+            note("accepted, verdicts at two sizes", fired.iter().any(|&size| size != fired[0]));
+        }
+    }
+    println!("{kinds:?}");
+    assert_eq!(kinds.len(), 12);
+    assert!(kinds.values().all(|&met| met >= 15), "{kinds:?}");
+}
+
 /// What the greatest numbers of a line are; document 02, request 3/14.
 const GREATEST: [&str; 8] = [
     "a factor of 2^30",

@@ -394,7 +394,7 @@ fn from_sheet(meaning: &Meaning, line: &Line) -> Justified {
             false => (record.before_grow, record.after_grow, record.grow_flags),
             true => (record.before_shrink, record.after_shrink, record.shrink_flags),
         };
-        let factor = |limit: u32| (limit as u128 * line.size as u128 / 65_536) as u64;
+        let factor = |limit: u32| (limit as u128 * line.sizes[place] as u128 / 65_536) as u64;
         let stage = (flags % 16) as u8;
         Some(Room { stage, unlimited: flags & 0x1000 != 0, before: factor(before), after: factor(after) })
     };
@@ -407,7 +407,7 @@ fn from_sheet(meaning: &Meaning, line: &Line) -> Justified {
     for (place, &glyph) in line.glyphs.iter().enumerate() {
         for number in 0..64 {
             let Some(action) = meaning.action(direction, glyph as u32, number) else { break };
-            let fired = fires(&action, before[place] + after[place], line.size);
+            let fired = fires(&action, before[place] + after[place], line.sizes[place]);
             if action.class == classes[place] as u16 && fired != Fires::No && !deleted(glyph) {
                 let substituting = fired == Fires::Substituting;
                 verdicts.push(VerdictRecord { place: place as u32, number, substituting });
@@ -439,16 +439,39 @@ fn lines_agree_with_their_sheets() {
 }
 
 #[test]
+fn a_size_that_no_factor_uses_changes_nothing() {
+    // Places without a record and without a list may have any size.
+    let mut rng = Rng::new(SEED, 5, 0);
+    let mut changed = 0;
+    for index in 0..2_000 {
+        let case = generate::line(SEED, index);
+        let Ok(answer) = case.justify() else { continue };
+        let table = read_table(&case.table, case.n).unwrap();
+        let mut other = case.clone();
+        for place in 0..case.glyphs.len() {
+            let (glyph, class) = (case.glyphs[place] as u32, answer.classes[place] as u32);
+            let record = table.width_record(case.direction, glyph, class);
+            if record.is_none() && table.list_at(case.direction, glyph).is_none() {
+                other.sizes[place] = rng.between(1, 67_108_864) as i64;
+                changed += 1;
+            }
+        }
+        assert_eq!(other.justify(), Ok(answer), "draw {index}");
+    }
+    assert!(changed > 500, "{changed}");
+}
+
+#[test]
 fn lines_are_refused_for_their_first_fault() {
     for index in 0..3_000 {
         let case = generate::line(SEED, index);
         let mut faults = Vec::new();
         let mut note = |faulty: bool, number: u32| faults.extend(faulty.then_some(number));
         let count = case.glyphs.len();
-        let lent = [case.advances.len(), case.classes_len, case.before_len, case.after_len];
-        note(lent != [count; 4], 9);
+        let lent = [case.advances.len(), case.sizes.len(), case.classes_len, case.before_len, case.after_len];
+        note(lent != [count; 5], 9);
         note(count > 1_024, 10);
-        note(case.size < 1 || case.size > 67_108_864, 11);
+        note(case.sizes.iter().any(|&size| size < 1 || size > 67_108_864), 11);
         let sum: i64 = case.advances.iter().sum();
         let negative = case.advances.iter().any(|&advance| advance < 0) || case.target < 0;
         note(negative || sum > 1_073_741_823 || case.target > 1_073_741_823, 12);

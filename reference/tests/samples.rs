@@ -182,7 +182,7 @@ fn marks() {
 
 #[test]
 fn point_sizes() {
-    let at = |size| run(&empty_table(), 1, line(&[], &[], 0, size), 0).map(|_| ());
+    let at = |size| run(&empty_table(), 1, line(&[0], &[0], 0, size), 0).map(|_| ());
     assert_eq!(at(0), Err(11));
     assert_eq!(at(1), Ok(()));
     assert_eq!(at(67_108_864), Ok(()));
@@ -345,4 +345,98 @@ fn what_is_left_goes_to_the_first_stage_with_room() {
     // floor(20/6) = 3 and 10 - 3 = 7.
     let rooms = [side(2, 0, 3), side(1, 2, 4)];
     assert_eq!(share(&rooms, 19), Shares { before: vec![0, 5], after: vec![3, 11], remainder: 0 });
+}
+
+// Document 02, request 5/14.
+
+/// A line with a size for each glyph.
+fn sized<'a>(sizes: &'a [i64], glyphs: &'a [u16], advances: &'a [i64], target: i64) -> Line<'a> {
+    Line { sizes, ..line(glyphs, advances, target, 1) }
+}
+
+#[test]
+fn every_size_is_judged() {
+    let table = empty_table();
+    let of = |sizes: &[i64], glyphs: &[u16]| {
+        let advances = vec![0; glyphs.len()];
+        run(&table, 1, sized(sizes, glyphs, &advances, 0), 0).map(|_| ())
+    };
+    assert_eq!(of(&[1, 67_108_864], &[0, 0]), Ok(()));
+    for bad in [0, 67_108_865, -1, i64::MAX, i64::MIN] {
+        assert_eq!(of(&[bad, 1], &[0, 0]), Err(11));
+        assert_eq!(of(&[1, bad], &[0, 0]), Err(11));
+        // A deleted glyph's size too.
+        assert_eq!(of(&[1, bad], &[0, 0xFFFF]), Err(11));
+    }
+    // An empty line has no size that could be wrong.
+    assert_eq!(of(&[], &[]), Ok(()));
+    // As many sizes as glyphs, also where the sizes are wrong.
+    assert_eq!(of(&[1], &[0, 0]), Err(9));
+    assert_eq!(of(&[1, 1, 0], &[0, 0]), Err(9));
+    assert_eq!(of(&[], &[0]), Err(9));
+    assert_eq!(of(&[1], &[]), Err(9));
+    // 10 before 11 before 12 before 13.
+    assert_eq!(of(&[0; 1_025], &[0; 1_025]), Err(10));
+    assert_eq!(run(&table, 1, sized(&[0], &[1], &[-1], 0), 0).map(|_| ()), Err(11));
+    assert_eq!(run(&table, 1, sized(&[1], &[1], &[-1], 0), 0).map(|_| ()), Err(12));
+}
+
+#[test]
+fn factors_are_at_the_glyphs_own_size() {
+    // A limit of 0.5 em: at 14 pt a factor of 458,752, at 9 pt of 294,912.
+    let (fourteen, nine) = (14 * 65_536, 9 * 65_536);
+    let table = table_with_records(&[([0, 32_768, 0, 32_768], [0, 0])]);
+    let (glyphs, advances) = ([0, 0, 0], [600_000, 600_000, 600_000]);
+    let sizes = [fourteen, nine, nine];
+    let total = 458_752 + 2 * 294_912;
+    let of = |gap: i64| run(&table, 1, sized(&sizes, &glyphs, &advances, 1_800_000 + gap), 0).unwrap();
+    assert_eq!(of(total).after, [458_752, 294_912, 294_912]);
+    assert_eq!(of(-total).after, [-458_752, -294_912, -294_912]);
+    // 14 : 9 : 9 of a gap of 32 units.
+    assert_eq!(of(32).after, [14, 9, 9]);
+    // 3 units: floor(3 x 14 / 32) = 1, floor(3 x 23 / 32) = 2, 3.
+    assert_eq!(of(3).after, [1, 1, 1]);
+    // One past the total goes back: floor(14/32) = 0, floor(23/32) = 0, 1.
+    assert_eq!(of(total + 1).after, [458_752, 294_912, 294_913]);
+    // The deleted glyph's size is of no account.
+    let sizes = [fourteen, 1, nine];
+    let answer = run(&table, 1, sized(&sizes, &[0, 0xFFFF, 0], &advances, 1_800_023), 0).unwrap();
+    assert_eq!(answer.after, [14, 0, 9]);
+    // A factor is rounded down by itself: 0.5 em at 1 unit is 0, at 3 is 1.
+    let answer = run(&table, 1, sized(&[1, 3, 2], &[0, 0, 0], &advances, 1_800_002), 0).unwrap();
+    assert_eq!(answer.after, [0, 1, 1]);
+}
+
+#[test]
+fn totals_over_sizes_at_their_limit() {
+    // 16 em at 1,024 pt is 2^30 a side, at 512 pt 2^29: seven of the first and
+    // two of the second are 2^33. A last side of 1 unit is one too many.
+    let table = table_with_records(&[([0, 16 << 16, 0, 0], [1, 1]), ([0, 65_536, 0, 0], [1, 1])]);
+    let (full, half) = (67_108_864, 33_554_432);
+    let mut sizes = vec![full; 7];
+    sizes.extend([half, half]);
+    let glyphs = [0; 9];
+    assert!(run(&table, 2, sized(&sizes, &glyphs, &[0; 9], 5), 0).is_ok());
+    sizes.push(1);
+    let glyphs = [0, 0, 0, 0, 0, 0, 0, 0, 0, 1];
+    assert_eq!(run(&table, 2, sized(&sizes, &glyphs, &[0; 10], 5), 0), Err(15));
+}
+
+#[test]
+fn verdicts_are_at_the_glyphs_own_size() {
+    // Glyph 0 is unlimited and has a ligature of 0 to 0.5 em and a threshold of
+    // 0.5 em. Two glyphs get 300,000 units each: 0.5 em is 458,752 at 14 pt and
+    // 294,912 at 9 pt.
+    let cluster = Fields::new().l(1).l(0).ls(&[0; 4]).ws(&[0x1000, 0x1000]);
+    let list = Fields::new().l(2).ws(&[0, 0]).l(24).ls(&[0, 32_768]).ws(&[0, 1, 0, 0]);
+    let list = list.ws(&[0, 2]).l(16).l(32_768).ws(&[0xFFFF, 0]);
+    let head = Fields::new().l(0x0001_0000).ws(&[0, 10, 0]).ws(&[0, 32, 24]).ws(&[8, 0, 1, 0]);
+    let table = head.ws(&[8, 0, 1, 36]).bs(&cluster.done()).bs(&list.done()).done();
+    let (fourteen, nine) = (14 * 65_536, 9 * 65_536);
+    let of = |sizes: [i64; 2]| run(&table, 1, sized(&sizes, &[0, 0], &[0, 0], 600_000), 4).unwrap();
+    let verdict = |place, number, substituting| VerdictRecord { place, number, substituting };
+    assert_eq!(of([fourteen, nine]).after, [300_000, 300_000]);
+    assert_eq!(of([fourteen, nine]).verdicts, [verdict(0, 1, false), verdict(1, 0, false), verdict(1, 1, true)]);
+    assert_eq!(of([nine, fourteen]).verdicts, [verdict(0, 0, false), verdict(0, 1, true), verdict(1, 1, false)]);
+    assert_eq!(of([fourteen, fourteen]).verdicts, [verdict(0, 1, false), verdict(1, 1, false)]);
 }

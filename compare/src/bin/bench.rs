@@ -3,6 +3,7 @@
 //! each byte of table and sheet; for hostile tables and sheets also how many times that of an ordinary one of about as
 //! many bytes it is, of several the one that costs least. With words, only cases whose name has them are run.
 
+use compare::questions::Questions;
 use compare::{cases, clock, drafts, letters, library, lines, peers};
 use just_raw::{Lent, Sheet, Table, Verdict};
 use reference::examples::{complex, simple};
@@ -139,13 +140,13 @@ fn line(name: &str, table: Vec<u8>, n: u32, count: usize) -> Case {
     let ours = cases::line(table, n, count);
     let theirs = ours.clone();
     assert!(ours.justify().is_ok(), "{name} is refused");
-    let advances = lines::advances(&ours);
+    let inputs = lines::Inputs::new(&ours, &mut Questions::new(1, 1));
     let (mut classes, mut before, mut after) = (vec![0; count], vec![0; count], vec![0; count]);
     let mut verdicts = vec![Verdict::default(); ours.room];
     let library = move || {
         let lent = Lent { classes: &mut classes, before: &mut before, after: &mut after, verdicts: &mut verdicts };
         let ours = black_box(&ours);
-        lines::table(ours).justify(&lines::line(ours, &advances), lent)
+        lines::table(ours).justify(&inputs.line(ours), lent)
     };
     let second = move || black_box(&theirs).justify();
     Case::new(format!("justify: {name}, {count} glyphs"), bytes, library, second)

@@ -8,7 +8,7 @@ use super::lines::LineCase;
 use super::rng::Rng;
 use crate::cluster::write_record;
 use crate::examples::Fields;
-use crate::line::{MOST_PLACES, MOST_SIZE, MOST_WIDTH};
+use crate::line::{one_size, MOST_PLACES, MOST_SIZE, MOST_WIDTH};
 use crate::meaning::{Direction, WidthRecord, DELETED, LIMIT, UNLIMITED};
 use crate::share::STAGES;
 
@@ -34,11 +34,23 @@ const CAPS: [Cap; 6] = [
 /// gap.
 type Sides = ([u32; 2], u16);
 
-/// A point size, what each glyph has, and the glyphs.
+/// What each glyph has, at which point size, and the glyphs.
 struct Plan {
-    size: i64,
     records: Vec<Sides>,
+    sizes: Vec<i64>,
     glyphs: Vec<u16>,
+}
+
+impl Plan {
+    fn new(size: i64, records: Vec<Sides>, glyphs: Vec<u16>) -> Plan {
+        Plan { sizes: one_size(size, records.len()), records, glyphs }
+    }
+
+    fn add(&mut self, record: Sides, size: i64) -> u16 {
+        self.records.push(record);
+        self.sizes.push(size);
+        (self.records.len() - 1) as u16
+    }
 }
 
 /// A line.
@@ -50,6 +62,9 @@ pub fn draw(rng: &mut Rng) -> LineCase {
         2 => capped(rng, stage),
         _ => low(rng),
     };
+    if rng.chance(40) {
+        halve_sizes(rng, &mut plan);
+    }
     add_others(rng, &mut plan, stage);
     rng.shuffle(&mut plan.glyphs);
     let count = plan.glyphs.len();
@@ -60,7 +75,7 @@ pub fn draw(rng: &mut Rng) -> LineCase {
         direction: rng.pick(&Direction::BOTH),
         starts: rng.chance(50),
         ends: rng.chance(50),
-        size: plan.size,
+        sizes: sizes_of(rng, &plan),
         glyphs: plan.glyphs,
         advances,
         target,
@@ -78,7 +93,7 @@ fn full(rng: &mut Rng, stage: u16) -> Plan {
     for _ in 0..rng.below(3) {
         glyphs.push(rng.between(1, 4) as u16);
     }
-    Plan { size: MOST_SIZE, records: records.map(|limits| (limits, stage)).into(), glyphs }
+    Plan::new(MOST_SIZE, records.map(|limits| (limits, stage)).into(), glyphs)
 }
 
 /// Many equal sides that come up to the cap together, or nearly so.
@@ -86,7 +101,7 @@ fn many(rng: &mut Rng, stage: u16) -> Plan {
     let any = rng.between(5, 1_000) as usize;
     let count = rng.pick(&[8, 64, 512, MOST_PLACES, any, any]);
     let limit = 4 * LIMIT / count as u32;
-    Plan { size: MOST_SIZE, records: vec![([limit, limit], stage)], glyphs: vec![0; count] }
+    Plan::new(MOST_SIZE, vec![([limit, limit], stage)], vec![0; count])
 }
 
 /// A total at the cap or one past it.
@@ -95,7 +110,7 @@ fn capped(rng: &mut Rng, stage: u16) -> Plan {
     let last = if rng.chance(60) { cap.at } else { cap.past };
     let mut glyphs = vec![0; cap.copies];
     glyphs.push(1);
-    Plan { size: cap.size, records: vec![([LIMIT, LIMIT], stage), (last, stage)], glyphs }
+    Plan::new(cap.size, vec![([LIMIT, LIMIT], stage), (last, stage)], glyphs)
 }
 
 /// Small totals, so that nearly all goes back to the first stage or to
@@ -106,7 +121,30 @@ fn low(rng: &mut Rng) -> Plan {
     let some = rng.between(1, 40) as usize;
     let count = rng.pick(&[some, some, some, MOST_PLACES - 4]);
     let glyphs = (0..count).map(|_| rng.below(records.len() as u64) as u16).collect();
-    Plan { size: 65_536, records, glyphs }
+    Plan::new(65_536, records, glyphs)
+}
+
+/// Puts some glyphs at half the size with twice the limits: every factor stays
+/// as it is, and the line is in two sizes (document 02, request 5/14).
+fn halve_sizes(rng: &mut Rng, plan: &mut Plan) {
+    for number in 0..plan.records.len() {
+        let (limits, flags) = plan.records[number];
+        let size = plan.sizes[number];
+        if size % 2 == 0 && limits.iter().all(|&limit| 2 * limit <= LIMIT) {
+            let twin = plan.add((limits.map(|limit| 2 * limit), flags), size / 2);
+            let own = plan.glyphs.iter_mut().filter(|glyph| **glyph as usize == number);
+            own.for_each(|glyph| *glyph = if rng.chance(50) { twin } else { *glyph });
+        }
+    }
+}
+
+/// The size of each glyph's record; a deleted glyph has any size.
+fn sizes_of(rng: &mut Rng, plan: &Plan) -> Vec<i64> {
+    let size = |&glyph: &u16| match plan.sizes.get(glyph as usize) {
+        Some(&size) => size,
+        None => rng.pick(&[1, 65_536, MOST_SIZE]),
+    };
+    plan.glyphs.iter().map(size).collect()
 }
 
 /// Brings in a few glyphs of another stage with small limits, a deleted glyph,
@@ -115,8 +153,8 @@ fn add_others(rng: &mut Rng, plan: &mut Plan, stage: u16) {
     if plan.glyphs.len() + 3 <= MOST_PLACES && rng.chance(60) {
         let other = (stage + rng.between(1, STAGES as u64 - 1) as u16) % STAGES as u16;
         let limits = [rng.below(3) as u32, rng.below(3) as u32];
-        let number = plan.records.len() as u16;
-        plan.records.push((limits, other));
+        let size = plan.sizes[0];
+        let number = plan.add((limits, other), size);
         plan.glyphs.extend([number, number, DELETED]);
     }
     for (_, flags) in &mut plan.records {

@@ -6,7 +6,7 @@ use super::rng::Rng;
 use super::tables;
 use crate::actions;
 use crate::bytes::Fault;
-use crate::line::{classes_of, justify, rooms_of, Justified, Line, LineInput, MOST_SIZE, MOST_WIDTH};
+use crate::line::{classes_of, justify, one_size, rooms_of, Justified, Line, LineInput, MOST_SIZE, MOST_WIDTH};
 use crate::meaning::{Direction, DELETED};
 use crate::share::totals;
 use crate::table::read_table;
@@ -19,7 +19,7 @@ pub struct LineCase {
     pub direction: Direction,
     pub starts: bool,
     pub ends: bool,
-    pub size: i64,
+    pub sizes: Vec<i64>,
     pub glyphs: Vec<u16>,
     pub advances: Vec<i64>,
     pub target: i64,
@@ -35,7 +35,7 @@ impl LineCase {
             direction: self.direction,
             starts: self.starts,
             ends: self.ends,
-            size: self.size,
+            sizes: &self.sizes,
             glyphs: &self.glyphs,
             advances: &self.advances,
             target: self.target,
@@ -148,7 +148,7 @@ fn plain(rng: &mut Rng, aim: Aim) -> LineCase {
         direction: rng.pick(&Direction::BOTH),
         starts: rng.chance(50),
         ends: rng.chance(50),
-        size: size(rng, aim),
+        sizes: sizes(rng, aim, count),
         glyphs,
         advances,
         target: 0,
@@ -195,6 +195,21 @@ fn glyph(rng: &mut Rng, n: u32) -> u16 {
         0 => DELETED,
         1 => (n - 1) as u16,
         _ => rng.below(n as u64) as u16,
+    }
+}
+
+/// One size for the whole line, two sizes in stretches or mixed, or a size of
+/// its own for each glyph.
+fn sizes(rng: &mut Rng, aim: Aim, count: usize) -> Vec<i64> {
+    let two = [size(rng, aim), size(rng, aim)];
+    match rng.weighted(&[40, 25, 20, 15]) {
+        0 => one_size(two[0], count),
+        1 => {
+            let turn = rng.below(count as u64 + 1) as usize;
+            (0..count).map(|place| two[(place >= turn) as usize]).collect()
+        }
+        2 => (0..count).map(|_| rng.pick(&two)).collect(),
+        _ => (0..count).map(|_| size(rng, aim)).collect(),
     }
 }
 
@@ -270,16 +285,16 @@ fn sharpen(rng: &mut Rng, case: &mut LineCase) {
         let own = actions::list(table.bytes(), list).filter(|a| a.class == answer.classes[place] as u16);
         for action in own.filter(|a| a.kind == 0 || a.kind == 2) {
             let growth = answer.before[place] + answer.after[place];
-            found.push((action.at as usize, action.kind, growth));
+            found.push((action.at as usize, action.kind, growth, case.sizes[place]));
         }
     }
     if found.is_empty() {
         return;
     }
-    let growing: Vec<_> = found.iter().copied().filter(|&(_, kind, growth)| kind == 2 && growth > 0).collect();
-    let (at, kind, growth) = rng.pick(if growing.is_empty() { &found } else { &growing });
+    let growing: Vec<_> = found.iter().copied().filter(|&(_, kind, growth, _)| kind == 2 && growth > 0).collect();
+    let (at, kind, growth, size) = rng.pick(if growing.is_empty() { &found } else { &growing });
     let at = if kind == 0 && rng.chance(50) { at + 4 } else { at };
-    let ems = (growth as i128 * 65_536).div_euclid(case.size as i128) + rng.pick(&[0, 0, 0, 1, -1]);
+    let ems = (growth as i128 * 65_536).div_euclid(size as i128) + rng.pick(&[0, 0, 0, 1, -1]);
     if let Ok(ems) = i32::try_from(ems) {
         case.table[at..at + 4].copy_from_slice(&ems.to_be_bytes());
     }
@@ -289,7 +304,7 @@ fn sharpen(rng: &mut Rng, case: &mut LineCase) {
 fn spoil(rng: &mut Rng, case: &mut LineCase, aim: Aim, fired: usize) {
     match aim {
         Aim::Lengths => spoil_lengths(rng, case),
-        Aim::Size => case.size = rng.pick(&[0, 67_108_865, -1, i64::from(i32::MAX), i64::from(i32::MIN)]),
+        Aim::Size => spoil_size(rng, case),
         Aim::Width => spoil_width(rng, case),
         Aim::Glyph => spoil_glyph(rng, case),
         Aim::Room => case.room = fired.saturating_sub(rng.between(1, 2) as usize),
@@ -297,13 +312,31 @@ fn spoil(rng: &mut Rng, case: &mut LineCase, aim: Aim, fired: usize) {
     }
 }
 
+/// Gives one glyph, often a deleted one, a size at or past its limits; an empty
+/// line has none to spoil.
+fn spoil_size(rng: &mut Rng, case: &mut LineCase) {
+    let deleted: Vec<usize> = (0..case.glyphs.len()).filter(|&place| case.glyphs[place] == DELETED).collect();
+    let place = if !deleted.is_empty() && rng.chance(40) {
+        rng.pick(&deleted)
+    } else {
+        rng.below(case.sizes.len().max(1) as u64) as usize
+    };
+    let bad = rng.pick(&[0, MOST_SIZE + 1, 0, MOST_SIZE + 1, -1, i64::from(i32::MAX), i64::from(i32::MIN)]);
+    let value = if rng.chance(90) { bad } else { rng.pick(&[1, MOST_SIZE]) };
+    if let Some(size) = case.sizes.get_mut(place) {
+        *size = value;
+    }
+}
+
 fn spoil_lengths(rng: &mut Rng, case: &mut LineCase) {
     let off = |rng: &mut Rng, length: usize| if length > 0 && rng.chance(50) { length - 1 } else { length + 1 };
-    match rng.below(5) {
+    match rng.below(7) {
         0 => case.classes_len = off(rng, case.classes_len),
         1 => case.before_len = off(rng, case.before_len),
         2 => case.after_len = off(rng, case.after_len),
         3 => case.advances.push(0),
+        4 => case.sizes.push(65_536),
+        5 => drop(case.sizes.pop()),
         _ => case.glyphs.push(0),
     }
 }

@@ -1,7 +1,7 @@
 //! Lines and their answers, for tests.
 #![allow(dead_code)]
 
-use reference::{Fault, Justified, Line, LineInput};
+use reference::{one_size, Fault, Justified, Line, LineInput};
 
 pub use reference::examples::Fields;
 
@@ -34,9 +34,11 @@ pub fn table_with_records(records: &[([u32; 4], [u16; 2])]) -> Vec<u8> {
     fields.done()
 }
 
-/// A plain horizontal line that starts and ends the text.
+/// A plain horizontal line that starts and ends the text, in one size. Its
+/// sizes are never given back, which tests can bear.
 pub fn line<'a>(glyphs: &'a [u16], advances: &'a [i64], target: i64, size: i64) -> Line<'a> {
-    Line { direction: reference::Direction::Horizontal, starts: true, ends: true, size, glyphs, advances, target }
+    let sizes = one_size(size, glyphs.len()).leak();
+    Line { direction: reference::Direction::Horizontal, starts: true, ends: true, sizes, glyphs, advances, target }
 }
 
 /// The number of a refusal that has no offset.
