@@ -1,10 +1,10 @@
--- The number that document 01, "Numbers of refusal", gives each refusal.
+-- The number that document 01, "Numbers of refusal", and the requests of document 02 give each refusal.
 use Prim.Native.Nat.{ℕ, _-_}
 use mathlib.Core.List.{List, [], _∷_}
 use lib.ListN.{getD}
 use mathlib.Core.Path.{_≡_, refl, sym, _∙_, ap}
 use Rattle.fields.specs.declared.Refusal.{Refusal}
-use Rattle.fields.specs.declared.Refusal.the-variants.{TableLength, GlyphCount, Version, Outside, BadLookup, BadCluster, BadMachine, BadActions, UnequalLengths, LongLine, PointSize, Advances, UnknownGlyph, EndlessWalk, StageTotal, ShortRoom, NotSheet}
+use Rattle.fields.specs.declared.Refusal.the-variants.{TableLength, GlyphCount, Version, Outside, BadLookup, BadCluster, BadMachine, BadActions, UnequalLengths, LongLine, PointSize, Advances, UnknownGlyph, EndlessWalk, StageTotal, ShortRoom, NotSheet, UnknownEdition}
 
 abbrev pub numberOf : Refusal → ℕ
 numberOf TableLength = 1
@@ -24,12 +24,14 @@ numberOf EndlessWalk = 14
 numberOf StageTotal = 15
 numberOf ShortRoom = 16
 numberOf NotSheet = 17
+numberOf UnknownEdition = 18
 
 -- the refusals in the order of their numbers
 inOrder : List Refusal
 inOrder =
     TableLength ∷ GlyphCount ∷ Version ∷ Outside ∷ BadLookup ∷ BadCluster ∷ BadMachine ∷ BadActions ∷ UnequalLengths ∷ LongLine
-    ∷ PointSize ∷ Advances ∷ UnknownGlyph ∷ EndlessWalk ∷ StageTotal ∷ ShortRoom ∷ NotSheet ∷ []
+    ∷ PointSize ∷ Advances ∷ UnknownGlyph ∷ EndlessWalk ∷ StageTotal ∷ ShortRoom ∷ NotSheet
+    ∷ UnknownEdition ∷ []
 
 withNumber : ℕ → Refusal
 unfolding inOrder
@@ -54,6 +56,7 @@ withNumber-of EndlessWalk = refl
 withNumber-of StageTotal = refl
 withNumber-of ShortRoom = refl
 withNumber-of NotSheet = refl
+withNumber-of UnknownEdition = refl
 
 -- no two refusals have one number
 pub one-number : (r s : Refusal) → numberOf r ≡ numberOf s → r ≡ s

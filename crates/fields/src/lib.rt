@@ -10,7 +10,7 @@ ghost use Rattle.fields.specs.Field.{u16At, u32At, be16, be32};
 ghost use Rattle.fields.specs.Refusals.{numberOf};
 ghost use Rattle.fields.specs.Faults.{_then_, rule, inside};
 
-// The refusals, each named by what is wrong, in the order of their numbers, 1 to 17.
+// The refusals, each named by what is wrong, in the order of their numbers, 1 to 18.
 pub enum Refusal {
     TableLength,
     GlyphCount,
@@ -29,6 +29,7 @@ pub enum Refusal {
     StageTotal,
     ShortRoom,
     NotSheet,
+    UnknownEdition,
 }
 
 // No fault, or a refusal and, for 4 to 8, the offset of the first byte of the field that was found or judged; 0 for
@@ -38,7 +39,7 @@ pub enum Fault {
     Bad { refusal: Refusal, at: usize },
 }
 
-// The number that document 01 gives a refusal.
+// The number that documents 01 and 02 give a refusal.
 pub fn number_of(refusal: Refusal) -> u32
     ensures { λ r. ⌜ r ≡ numberOf refusal ⌝ }
 {
@@ -60,6 +61,7 @@ pub fn number_of(refusal: Refusal) -> u32
         Refusal::StageTotal => 15,
         Refusal::ShortRoom => 16,
         Refusal::NotSheet => 17,
+        Refusal::UnknownEdition => 18,
     }
 }
 
