@@ -10,11 +10,11 @@ use lib.Dec.{leb}
 use lib.IntN.{ℤ, pos, negℤ, _+ℤ_, negℤ-+ℤ}
 use lib.ListN.{length, drop, take, getD, replicate}
 use borrow.Author.Tests.{leb-true}
-use Rattle.share.specs.Share.{total, still, plus, stages, goesBack, noPart, movements, remainder, most, within}
-use Rattle.share.specs.Line.{Glyph, apart, sideStages, sideFactors, sideExtras, evens, odds, lineMoves, beforeMoves, afterMoves, lineLeft, lineFits, signedOf, glyphsOf, Parts, Lent, nothingMoves, sumℤ}
+use Rattle.share.specs.Share.{total, still, plus, stages, noPart, movements, remainder, most, within}
+use Rattle.share.specs.Line.{Glyph, apart, sideStages, sideFactors, sideExtras, evens, odds, lineMoves, beforeMoves, afterMoves, lineLeft, lineFits, signedOf, glyphsOf, Parts, Lent, nothingMoves, noneUnlimited, fullMoves, fullTotal, sumℤ}
 use Rattle.share.specs.Inner.{weave, factorsAt, lineOf, Moved, stageCount}
 use Rattle.share.proofs.Lists.{length-still}
-use Rattle.share.proofs.Theory.{sum-is-gap, length-movesBy, no-part-still, both, remainder-is}
+use Rattle.share.proofs.Theory.{sum-is-gap, length-movesBy, no-part-still, both, remainder-is, stopped-remainder, stopped-full}
 use Rattle.share.proofs.Halves.{total-halves, length-halves, getD-evens, getD-odds, length-weave}
 use Rattle.share.proofs.Stages.{at-stage}
 
@@ -45,21 +45,21 @@ pub glyphsOf-parts : (gs : List Glyph) → glyphsOf (map (λ (g : Glyph). g .sta
 glyphsOf-parts [] = refl
 glyphsOf-parts (g ∷ gs) = ap (λ (l : List Glyph). g ∷ l) (glyphsOf-parts gs)
 
-module _ {n : ℕ} {ks us bs cs : List ℕ} (p : Lent n ks us bs cs) (gap : ℕ) where
+module _ (back : Bool) {n : ℕ} {ks us bs cs : List ℕ} (p : Lent n ks us bs cs) (gap : ℕ) where
   s : SidesOf ks us bs cs
   s = sides-of ks us bs cs (omega (arith, p .stages, p .extras)) (omega (arith, p .stages, p .first)) (omega (arith, p .stages, p .second))
 
-  pub line-left : lineOf remainder ks us bs cs gap ≡ lineLeft (glyphsOf ks us bs cs) gap
+  pub line-left : lineOf (remainder back) ks us bs cs gap ≡ lineLeft back (glyphsOf ks us bs cs) gap
   unfolding lineLeft
-  line-left = sym (ap (λ (l : List ℕ). remainder l (sideFactors (glyphsOf ks us bs cs)) (sideExtras (glyphsOf ks us bs cs)) gap) (s .stages)
-      ∙ ap (λ (l : List ℕ). remainder (weave ks ks) l (sideExtras (glyphsOf ks us bs cs)) gap) (s .factors)
-      ∙ ap (λ (l : List ℕ). remainder (weave ks ks) (weave bs cs) l gap) (s .extras))
+  line-left = sym (ap (λ (l : List ℕ). remainder back l (sideFactors (glyphsOf ks us bs cs)) (sideExtras (glyphsOf ks us bs cs)) gap) (s .stages)
+      ∙ ap (λ (l : List ℕ). remainder back (weave ks ks) l (sideExtras (glyphsOf ks us bs cs)) gap) (s .factors)
+      ∙ ap (λ (l : List ℕ). remainder back (weave ks ks) (weave bs cs) l gap) (s .extras))
 
-  pub line-moves : lineOf movements ks us bs cs gap ≡ lineMoves (glyphsOf ks us bs cs) gap
+  pub line-moves : lineOf (movements back) ks us bs cs gap ≡ lineMoves back (glyphsOf ks us bs cs) gap
   unfolding lineMoves
-  line-moves = sym (ap (λ (l : List ℕ). movements l (sideFactors (glyphsOf ks us bs cs)) (sideExtras (glyphsOf ks us bs cs)) gap) (s .stages)
-      ∙ ap (λ (l : List ℕ). movements (weave ks ks) l (sideExtras (glyphsOf ks us bs cs)) gap) (s .factors)
-      ∙ ap (λ (l : List ℕ). movements (weave ks ks) (weave bs cs) l gap) (s .extras))
+  line-moves = sym (ap (λ (l : List ℕ). movements back l (sideFactors (glyphsOf ks us bs cs)) (sideExtras (glyphsOf ks us bs cs)) gap) (s .stages)
+      ∙ ap (λ (l : List ℕ). movements back (weave ks ks) l (sideExtras (glyphsOf ks us bs cs)) gap) (s .factors)
+      ∙ ap (λ (l : List ℕ). movements back (weave ks ks) (weave bs cs) l gap) (s .extras))
 
 -- ---- refusal 15's test
 
@@ -110,26 +110,26 @@ zeros-take m zero h = refl
 zeros-take zero (suc n) h = absurd (omega arith)
 zeros-take (suc m) (suc n) h = ap (λ (l : List ℕ). 0 ∷ l) (zeros-take m n (omega arith))
 
-module _ {n : ℕ} {ks us bs cs : List ℕ} (p : Lent n ks us bs cs) (gap : ℕ) where
-  pub length-line : length (lineOf movements ks us bs cs gap) ≡ n + n
+module _ (back : Bool) {n : ℕ} {ks us bs cs : List ℕ} (p : Lent n ks us bs cs) (gap : ℕ) where
+  pub length-line : length (lineOf (movements back) ks us bs cs gap) ≡ n + n
   length-line =
-      length-movesBy stages goesBack (n + n) (weave ks ks) (weave bs cs) (weave (still us) us) gap
+      length-movesBy stages back (n + n) (weave ks ks) (weave bs cs) (weave (still us) us) gap
       (length-weave n ks ks (p .stages) (p .stages)) (length-weave n bs cs (p .first) (p .second)) (length-weave n (still us) us (length-still us ∙ p .extras) (p .extras))
 
-  pub from-zeros : {xs ys xs' ys' : List ℕ} → xs ≡ replicate n 0 → ys ≡ replicate n 0 → Moved (lineOf movements ks us bs cs gap) xs ys xs' ys'
-      → (xs' ≡ evens (lineOf movements ks us bs cs gap)) × (ys' ≡ odds (lineOf movements ks us bs cs gap))
+  pub from-zeros : {xs ys xs' ys' : List ℕ} → xs ≡ replicate n 0 → ys ≡ replicate n 0 → Moved (lineOf (movements back) ks us bs cs gap) xs ys xs' ys'
+      → (xs' ≡ evens (lineOf (movements back) ks us bs cs gap)) × (ys' ≡ odds (lineOf (movements back) ks us bs cs gap))
   from-zeros {xs} {ys} {xs'} {ys'} e f m =
-      let w = lineOf movements ks us bs cs gap in
+      let w = lineOf (movements back) ks us bs cs gap in
       let l = length-halves n w length-line in (
         m .before ∙ ap (λ (l : List ℕ). plus l (evens w)) e ∙ plus-zeros n (evens w) (omega arith),
         m .after ∙ ap (λ (l : List ℕ). plus l (odds w)) f ∙ plus-zeros n (odds w) (omega arith),
       )
 
 -- no more than the gap on either side
-pub sides-small : (ks us bs cs : List ℕ) (gap : ℕ) → (total (evens (lineOf movements ks us bs cs gap)) ≤ gap) × (total (odds (lineOf movements ks us bs cs gap)) ≤ gap)
-sides-small ks us bs cs gap =
-    let h = total-halves (lineOf movements ks us bs cs gap) in
-    let s = sum-is-gap (weave ks ks) (weave bs cs) (weave (still us) us) gap in
+pub sides-small : (back : Bool) (ks us bs cs : List ℕ) (gap : ℕ) → (total (evens (lineOf (movements back) ks us bs cs gap)) ≤ gap) × (total (odds (lineOf (movements back) ks us bs cs gap)) ≤ gap)
+sides-small back ks us bs cs gap =
+    let h = total-halves (lineOf (movements back) ks us bs cs gap) in
+    let s = sum-is-gap back (weave ks ks) (weave bs cs) (weave (still us) us) gap in
     (omega arith, omega arith)
 
 -- ---- the theorems on a line
@@ -139,16 +139,16 @@ length-sides [] = (refl, refl, refl)
 length-sides (g ∷ gs) = let i = length-sides gs in (omega arith, omega arith, omega arith)
 
 -- a movement for each side of each glyph
-pub line-lengths : (gs : List Glyph) (gap : ℕ) → (length (beforeMoves gs gap) ≡ length gs) × (length (afterMoves gs gap) ≡ length gs)
+pub line-lengths : (back : Bool) (gs : List Glyph) (gap : ℕ) → (length (beforeMoves back gs gap) ≡ length gs) × (length (afterMoves back gs gap) ≡ length gs)
 unfolding lineMoves
-line-lengths gs gap =
+line-lengths back gs gap =
     let i = length-sides gs in
-    length-halves (length gs) (lineMoves gs gap) (length-movesBy stages goesBack (length gs + length gs) (sideStages gs) (sideFactors gs) (sideExtras gs) gap (i .0) (i .1) (i .2))
+    length-halves (length gs) (lineMoves back gs gap) (length-movesBy stages back (length gs + length gs) (sideStages gs) (sideFactors gs) (sideExtras gs) gap (i .0) (i .1) (i .2))
 
--- THE SUM: movements and remainder are the gap, to the unit
-pub line-sum : (gs : List Glyph) (gap : ℕ) → total (beforeMoves gs gap) + total (afterMoves gs gap) + lineLeft gs gap ≡ gap
+-- THE SUM: movements and remainder are the gap, to the unit, in both editions
+pub line-sum : (back : Bool) (gs : List Glyph) (gap : ℕ) → total (beforeMoves back gs gap) + total (afterMoves back gs gap) + lineLeft back gs gap ≡ gap
 unfolding lineMoves lineLeft
-line-sum gs gap = omega (arith, total-halves (lineMoves gs gap), sum-is-gap (sideStages gs) (sideFactors gs) (sideExtras gs) gap)
+line-sum back gs gap = omega (arith, total-halves (lineMoves back gs gap), sum-is-gap back (sideStages gs) (sideFactors gs) (sideExtras gs) gap)
 
 -- NOTHING MOVES: of a gap of 0 every glyph's movements are 0, and nothing is left
 all-zero : (xs : List ℕ) → total xs ≡ 0 → xs ≡ replicate (length xs) 0
@@ -158,20 +158,30 @@ all-zero (x ∷ xs) e =
     let i : xs ≡ replicate (length xs) 0 = all-zero xs (omega arith) in
     ap (λ (y : ℕ). y ∷ xs) z ∙ ap (λ (l : List ℕ). 0 ∷ l) i
 
-pub line-unmoved : (gs : List Glyph) → (beforeMoves gs 0 ≡ replicate (length gs) 0) × (afterMoves gs 0 ≡ replicate (length gs) 0) × (lineLeft gs 0 ≡ 0)
-line-unmoved gs =
-    let s = line-sum gs 0 in
-    let n = line-lengths gs 0 in (
-      all-zero (beforeMoves gs 0) (omega arith) ∙ ap (λ (k : ℕ). replicate k 0) (n .0),
-      all-zero (afterMoves gs 0) (omega arith) ∙ ap (λ (k : ℕ). replicate k 0) (n .1),
+pub line-unmoved : (back : Bool) (gs : List Glyph) → (beforeMoves back gs 0 ≡ replicate (length gs) 0) × (afterMoves back gs 0 ≡ replicate (length gs) 0) × (lineLeft back gs 0 ≡ 0)
+line-unmoved back gs =
+    let s = line-sum back gs 0 in
+    let n = line-lengths back gs 0 in (
+      all-zero (beforeMoves back gs 0) (omega arith) ∙ ap (λ (k : ℕ). replicate k 0) (n .0),
+      all-zero (afterMoves back gs 0) (omega arith) ∙ ap (λ (k : ℕ). replicate k 0) (n .1),
       omega arith,
     )
 
--- WHEN THERE IS A REMAINDER
-pub line-remainder : (gs : List Glyph) (gap : ℕ)
-    → lineLeft gs gap ≡ cond (nothingMoves gs) gap 0
+-- WHEN THERE IS A REMAINDER in edition 1, and in edition 2
+pub line-remainder : (gs : List Glyph) (gap : ℕ) → lineLeft true gs gap ≡ cond (nothingMoves gs) gap 0
 unfolding lineLeft
 line-remainder gs gap = remainder-is (sideStages gs) (sideFactors gs) (sideExtras gs) gap
+
+pub line-stopped : (gs : List Glyph) (gap : ℕ) → lineLeft false gs gap ≡ cond (noneUnlimited gs) (gap - fullTotal gs) 0
+unfolding lineLeft
+line-stopped gs gap = stopped-remainder (sideStages gs) (sideFactors gs) (sideExtras gs) stages gap
+
+-- FULL FACTORS: in edition 2 a remainder other than 0 means that every side taking part has its full factor and that no stage has an unlimited glyph
+pub line-full : (gs : List Glyph) (gap : ℕ) → 0 < lineLeft false gs gap → (lineMoves false gs gap ≡ fullMoves gs) × (noneUnlimited gs ≡ true)
+unfolding lineLeft lineMoves
+line-full gs gap h =
+    let i = length-sides gs in
+    stopped-full (length gs + length gs) (sideStages gs) (sideFactors gs) (sideExtras gs) (i .0) (i .1) (i .2) gap h
 
 -- STAYS STILL: a glyph that takes no part does not move
 stage-at : (gs : List Glyph) (i : ℕ) → (getD (sideStages gs) (i + i) noPart ≡ getD gs i apart .stage) × (getD (sideStages gs) (i + i + 1) noPart ≡ getD gs i apart .stage)
@@ -182,12 +192,12 @@ stage-at (g ∷ gs) (suc i) =
     let f : suc i + suc i + 1 ≡ suc (suc (i + i + 1)) = omega arith in
     (rw e (stage-at gs i .0), rw f (stage-at gs i .1))
 
-pub line-still : (gs : List Glyph) (gap i : ℕ) → getD gs i apart .stage ≡ noPart → (getD (beforeMoves gs gap) i 0 ≡ 0) × (getD (afterMoves gs gap) i 0 ≡ 0)
+pub line-still : (back : Bool) (gs : List Glyph) (gap i : ℕ) → getD gs i apart .stage ≡ noPart → (getD (beforeMoves back gs gap) i 0 ≡ 0) × (getD (afterMoves back gs gap) i 0 ≡ 0)
 unfolding lineMoves
-line-still gs gap i e =
+line-still back gs gap i e =
     let s = stage-at gs i in (
-      getD-evens i (lineMoves gs gap) ∙ no-part-still (i + i) (sideStages gs) (sideFactors gs) (sideExtras gs) gap (s .0 ∙ e),
-      getD-odds i (lineMoves gs gap) ∙ no-part-still (i + i + 1) (sideStages gs) (sideFactors gs) (sideExtras gs) gap (s .1 ∙ e),
+      getD-evens i (lineMoves back gs gap) ∙ no-part-still back (i + i) (sideStages gs) (sideFactors gs) (sideExtras gs) gap (s .0 ∙ e),
+      getD-odds i (lineMoves back gs gap) ∙ no-part-still back (i + i + 1) (sideStages gs) (sideFactors gs) (sideExtras gs) gap (s .1 ∙ e),
     )
 
 -- ---- with signs
@@ -199,16 +209,16 @@ sum-signed false [] = refl
 sum-signed true (x ∷ l) = ap (λ (z : ℤ). negℤ (pos x) +ℤ z) (sum-signed true l) ∙ sym (negℤ-+ℤ (pos x) (pos (total l)))
 sum-signed false (x ∷ l) = ap (λ (z : ℤ). pos x +ℤ z) (sum-signed false l)
 
-add-signed : (b : Bool) (x y : ℕ) → signedOf b x +ℤ signedOf b y ≡ signedOf b (x + y)
+pub add-signed : (b : Bool) (x y : ℕ) → signedOf b x +ℤ signedOf b y ≡ signedOf b (x + y)
 add-signed true x y = sym (negℤ-+ℤ (pos x) (pos y))
 add-signed false x y = refl
 
 -- THE SUM, with signs
-pub line-sum-signed : (b : Bool) (gs : List Glyph) (gap : ℕ)
-    → (sumℤ (map (signedOf b) (beforeMoves gs gap)) +ℤ sumℤ (map (signedOf b) (afterMoves gs gap))) +ℤ signedOf b (lineLeft gs gap) ≡ signedOf b gap
-line-sum-signed b gs gap =
-    ap (λ (z : ℤ). (z +ℤ sumℤ (map (signedOf b) (afterMoves gs gap))) +ℤ signedOf b (lineLeft gs gap)) (sum-signed b (beforeMoves gs gap))
-    ∙ ap (λ (z : ℤ). (signedOf b (total (beforeMoves gs gap)) +ℤ z) +ℤ signedOf b (lineLeft gs gap)) (sum-signed b (afterMoves gs gap))
-    ∙ ap (λ (z : ℤ). z +ℤ signedOf b (lineLeft gs gap)) (add-signed b (total (beforeMoves gs gap)) (total (afterMoves gs gap)))
-    ∙ add-signed b (total (beforeMoves gs gap) + total (afterMoves gs gap)) (lineLeft gs gap)
-    ∙ ap (signedOf b) (line-sum gs gap)
+pub line-sum-signed : (back b : Bool) (gs : List Glyph) (gap : ℕ)
+    → (sumℤ (map (signedOf b) (beforeMoves back gs gap)) +ℤ sumℤ (map (signedOf b) (afterMoves back gs gap))) +ℤ signedOf b (lineLeft back gs gap) ≡ signedOf b gap
+line-sum-signed back b gs gap =
+    ap (λ (z : ℤ). (z +ℤ sumℤ (map (signedOf b) (afterMoves back gs gap))) +ℤ signedOf b (lineLeft back gs gap)) (sum-signed b (beforeMoves back gs gap))
+    ∙ ap (λ (z : ℤ). (signedOf b (total (beforeMoves back gs gap)) +ℤ z) +ℤ signedOf b (lineLeft back gs gap)) (sum-signed b (afterMoves back gs gap))
+    ∙ ap (λ (z : ℤ). z +ℤ signedOf b (lineLeft back gs gap)) (add-signed b (total (beforeMoves back gs gap)) (total (afterMoves back gs gap)))
+    ∙ add-signed b (total (beforeMoves back gs gap) + total (afterMoves back gs gap)) (lineLeft back gs gap)
+    ∙ ap (signedOf b) (line-sum back gs gap)

@@ -8,7 +8,7 @@ use native.Mathlib.Nat.{le-refl, mul-le-mul-right, mul-comm, div-zero}
 use lib.Dec.{leb, ltb}
 use lib.ListN.{getD}
 use borrow.Author.Tests.{leb-true, leb-false}
-use Rattle.share.specs.Share.{total, still, plus, ofStage, shares, stageMoves, stageLeft, stagesMoves, stagesLeft, backMoves, backLeft, movesBy, stages, goesBack}
+use Rattle.share.specs.Share.{total, still, plus, ofStage, shares, stageMoves, stageLeft, stagesMoves, stagesLeft, backMoves, backLeft, movesBy, stages}
 use Rattle.share.specs.Line.{Glyph, sideStages, sideFactors, sideExtras, evens, odds, lineMoves}
 use Rattle.share.proofs.Lists.{upto, plus-upto, shares-upto, div-mono, part-le}
 
@@ -97,10 +97,10 @@ rises-by ss true ks fs us k {r} {q} h =
 rises-by ss false ks fs us k {r} {q} h =
     omega (arith, stages-rise ks fs us k ss h, plus-upto k (stagesMoves ks fs us ss r) (still ks), plus-upto k (stagesMoves ks fs us ss q) (still ks))
 
--- on a line of glyphs
-pub line-rises : (gs : List Glyph) (k : ℕ) {r q : ℕ} → r ≤ q → upto k (lineMoves gs r) ≤ upto k (lineMoves gs q)
+-- on a line of glyphs, in both editions
+pub line-rises : (back : Bool) (gs : List Glyph) (k : ℕ) {r q : ℕ} → r ≤ q → upto k (lineMoves back gs r) ≤ upto k (lineMoves back gs q)
 unfolding lineMoves
-line-rises gs k h = rises-by stages goesBack (sideStages gs) (sideFactors gs) (sideExtras gs) k h
+line-rises back gs k h = rises-by stages back (sideStages gs) (sideFactors gs) (sideExtras gs) k h
 
 -- ---- the sides up to a glyph's own
 

@@ -1,13 +1,13 @@
 -- The loops over the stages: what holds at each turn.
 use mathlib.Core.Path.{_≡_, refl, sym, ap, _∙_}
 use mathlib.Core.List.{List, [], _∷_}
-use mathlib.Core.Bool.{Bool, true, false, cond}
+use mathlib.Core.Bool.{Bool, true, false, cond, false≢true}
 use Prim.Native.Nat.{ℕ, zero, suc, _+_, _-_, _≤_, _<_}
 use native.Mathlib.Omega.{arith}
 use lib.Dec.{ltb}
 use lib.ListN.{length, drop}
 use borrow.Author.Tests.{lt-ltb, le-ltb}
-use Rattle.share.specs.Share.{total, still, plus, shares, stageMoves, stageLeft, stages, goesBack, stagesMoves, stagesLeft, backMoves, backLeft, movements, remainder, movesBy, leftBy}
+use Rattle.share.specs.Share.{total, still, plus, shares, stageMoves, stageLeft, stages, stagesMoves, stagesLeft, backMoves, backLeft, movements, remainder, movesBy, leftBy}
 use Rattle.share.specs.Line.{evens, odds, Parts}
 use Rattle.share.specs.Inner.{weave, factorsAt, extrasAt, lineOf, Moved, Holds, Sides, stageCount}
 use Rattle.share.proofs.Lists.{total-still, length-still}
@@ -143,15 +143,27 @@ back-none {n} {left} ks bs cs xs ys p d z =
 
 -- ---- the whole
 
-pub whole : {q r : ℕ} (ks us bs cs : List ℕ) (gap : ℕ) {xs ys xs₁ ys₁ xs₂ ys₂ : List ℕ} → q ≡ lineOf stagesLeft ks us bs cs stages gap
-    → Moved (lineOf stagesMoves ks us bs cs stages gap) xs ys xs₁ ys₁ → r ≡ backLeft (weave ks ks) (weave bs cs) stages q
-    → Moved (backMoves (weave ks ks) (weave bs cs) stages q) xs₁ ys₁ xs₂ ys₂
-    → (r ≡ lineOf remainder ks us bs cs gap) × Moved (lineOf movements ks us bs cs gap) xs ys xs₂ ys₂
-unfolding goesBack movesBy leftBy
-whole {q} {r} ks us bs cs gap e m f k = (
-  f ∙ ap (backLeft (weave ks ks) (weave bs cs) stages) e,
-  moved-as (ap (λ (n : ℕ). plus (lineOf stagesMoves ks us bs cs stages gap) (backMoves (weave ks ks) (weave bs cs) stages n)) e) (moved-both m k),
-)
+module _ (ks us bs cs : List ℕ) (gap : ℕ) {xs ys xs₁ ys₁ : List ℕ} where
+  -- edition 1
+  pub whole : (back : Bool) {q r : ℕ} {xs₂ ys₂ : List ℕ} → back ≡ true → q ≡ lineOf stagesLeft ks us bs cs stages gap
+      → Moved (lineOf stagesMoves ks us bs cs stages gap) xs ys xs₁ ys₁ → r ≡ backLeft (weave ks ks) (weave bs cs) stages q
+      → Moved (backMoves (weave ks ks) (weave bs cs) stages q) xs₁ ys₁ xs₂ ys₂
+      → (r ≡ lineOf (remainder back) ks us bs cs gap) × Moved (lineOf (movements back) ks us bs cs gap) xs ys xs₂ ys₂
+  unfolding movesBy leftBy
+  whole false b e m f k = absurd (false≢true b)
+  whole true b e m f k = (
+    f ∙ ap (backLeft (weave ks ks) (weave bs cs) stages) e,
+    moved-as (ap (λ (n : ℕ). plus (lineOf stagesMoves ks us bs cs stages gap) (backMoves (weave ks ks) (weave bs cs) stages n)) e) (moved-both m k),
+  )
+
+  -- edition 2
+  pub whole-stopped : (back : Bool) {n q : ℕ} → back ≡ false → length ks ≡ n → Sides n xs₁ ys₁ → q ≡ lineOf stagesLeft ks us bs cs stages gap
+      → Moved (lineOf stagesMoves ks us bs cs stages gap) xs ys xs₁ ys₁
+      → (q ≡ lineOf (remainder back) ks us bs cs gap) × Moved (lineOf (movements back) ks us bs cs gap) xs ys xs₁ ys₁
+  unfolding movesBy leftBy
+  whole-stopped true b k d e m = absurd (false≢true (sym b))
+  whole-stopped false {n} b k d e m =
+      (e, moved-both m (moved-nothing n (still (weave ks ks)) xs₁ ys₁ (total-still (weave ks ks)) (length-still (weave ks ks) ∙ length-weave n ks ks k k) (d .before) (d .after)))
 
 -- what is left can still be added
 pub staged-holds : {q : ℕ} (ks us bs cs : List ℕ) (gap : ℕ) (xs ys : List ℕ) {xs₁ ys₁ : List ℕ} → q ≡ lineOf stagesLeft ks us bs cs stages gap

@@ -6,7 +6,7 @@ use mathlib.Core.Bool.{Bool, true, false, _&&_}
 use mathlib.Core.List.{List, [], _∷_}
 use lib.ListN.{length, getD}
 use lib.IntN.{ℤ, pos, negℤ, _+ℤ_}
-use Rattle.share.specs.Share.{stages, noPart, movements, remainder, within, empty}
+use Rattle.share.specs.Share.{stages, noPart, movements, remainder, within, empty, full, allTotal}
 use Rattle.share.specs.Carry.{widest}
 
 -- a glyph's part: its stage priority, 1 where it is unlimited and else 0, and the factors of its two sides
@@ -47,17 +47,18 @@ odds (x ∷ y ∷ l) = y ∷ odds l
 
 -- ---- the rule
 
-unfoldable pub lineMoves : List Glyph → ℕ → List ℕ
-lineMoves gs gap = movements (sideStages gs) (sideFactors gs) (sideExtras gs) gap
+-- by an edition that goes back (edition 1) or does not (edition 2)
+unfoldable pub lineMoves : Bool → List Glyph → ℕ → List ℕ
+lineMoves back gs gap = movements back (sideStages gs) (sideFactors gs) (sideExtras gs) gap
 
-abbrev pub beforeMoves : List Glyph → ℕ → List ℕ
-beforeMoves gs gap = evens (lineMoves gs gap)
+abbrev pub beforeMoves : Bool → List Glyph → ℕ → List ℕ
+beforeMoves back gs gap = evens (lineMoves back gs gap)
 
-abbrev pub afterMoves : List Glyph → ℕ → List ℕ
-afterMoves gs gap = odds (lineMoves gs gap)
+abbrev pub afterMoves : Bool → List Glyph → ℕ → List ℕ
+afterMoves back gs gap = odds (lineMoves back gs gap)
 
-unfoldable pub lineLeft : List Glyph → ℕ → ℕ
-lineLeft gs gap = remainder (sideStages gs) (sideFactors gs) (sideExtras gs) gap
+unfoldable pub lineLeft : Bool → List Glyph → ℕ → ℕ
+lineLeft back gs gap = remainder back (sideStages gs) (sideFactors gs) (sideExtras gs) gap
 
 -- refusal 15 does not bar the line
 unfoldable pub lineFits : List Glyph → Bool
@@ -68,9 +69,20 @@ abbrev pub signedOf : Bool → ℕ → ℤ
 signedOf true x = negℤ (pos x)
 signedOf false x = pos x
 
+-- no stage has an unlimited glyph
+abbrev pub noneUnlimited : List Glyph → Bool
+noneUnlimited gs = empty (sideStages gs) (sideExtras gs) stages
+
 -- no stage has a factor total above 0, and none an unlimited glyph
 abbrev pub nothingMoves : List Glyph → Bool
-nothingMoves gs = empty (sideStages gs) (sideFactors gs) stages && empty (sideStages gs) (sideExtras gs) stages
+nothingMoves gs = empty (sideStages gs) (sideFactors gs) stages && noneUnlimited gs
+
+-- every side that takes part at its full factor, of each glyph's before side and of its after side; and all these factors together
+abbrev pub fullMoves : List Glyph → List ℕ
+fullMoves gs = full stages (sideStages gs) (sideFactors gs)
+
+abbrev pub fullTotal : List Glyph → ℕ
+fullTotal gs = allTotal (sideStages gs) (sideFactors gs) stages
 
 -- the sum of numbers with signs
 abbrev pub sumℤ : List ℤ → ℤ

@@ -1,17 +1,15 @@
 -- The staged rule (document 01, "Sharing the gap", and refusal 15; stage 3 by document 02, request 2/14), on sizes: numbers of units without signs.
+-- Edition 1 of the rule has step 3; edition 2 stops at the limits, without it (document 02, request 7/14).
 -- The sides of a line stand in line order, a glyph's before side ahead of its after side. Three lists say of each side its stage priority, its factor, and
 -- its extra weight: 1 on the after side of an unlimited glyph, else 0.
 use Prim.Native.Nat.{ℕ, _+_, _-_, _*_, _/_}
-use mathlib.Core.Bool.{Bool, true, cond, _&&_}
+use mathlib.Core.Bool.{Bool, true, false, cond, _&&_, _||_}
 use mathlib.Core.List.{List, [], _∷_, map}
 use lib.Dec.{leb, ltb, eqb}
 
--- the stages in their order, and whether what they leave goes back, by step 3
+-- the stages in their order
 unfoldable pub stages : List ℕ
 stages = 0 ∷ 1 ∷ 2 ∷ 3 ∷ []
-
-unfoldable pub goesBack : Bool
-goesBack = true
 
 -- the stage priority of a side that takes no part; no stage
 abbrev pub noPart : ℕ
@@ -91,12 +89,12 @@ module _ (ss : List ℕ) (back : Bool) (ks fs us : List ℕ) where
   unfoldable pub leftBy : ℕ → ℕ
   leftBy gap = cond back (backLeft ks fs ss (stagesLeft ks fs us ss gap)) (stagesLeft ks fs us ss gap)
 
--- the movements of the sides, and what no side takes
-abbrev pub movements : List ℕ → List ℕ → List ℕ → ℕ → List ℕ
-movements = movesBy stages goesBack
+-- the movements of the sides, and what no side takes; `back` says whether what the stages leave goes back, by step 3
+abbrev pub movements : Bool → List ℕ → List ℕ → List ℕ → ℕ → List ℕ
+movements = movesBy stages
 
-abbrev pub remainder : List ℕ → List ℕ → List ℕ → ℕ → ℕ
-remainder = leftBy stages goesBack
+abbrev pub remainder : Bool → List ℕ → List ℕ → List ℕ → ℕ → ℕ
+remainder = leftBy stages
 
 -- ---- refusal 15
 
@@ -110,6 +108,22 @@ within ks fs [] = true
 within ks fs (s ∷ ss) = leb (total (ofStage s ks fs)) most && within ks fs ss
 
 -- ---- when there is a remainder
+
+-- the totals of these stages together
+abbrev pub allTotal : List ℕ → List ℕ → List ℕ → ℕ
+allTotal ks fs [] = 0
+allTotal ks fs (s ∷ ss) = total (ofStage s ks fs) + allTotal ks fs ss
+
+-- the priority is one of these stages
+abbrev pub among : ℕ → List ℕ → Bool
+among k [] = false
+among k (s ∷ ss) = eqb k s || among k ss
+
+-- every side of these stages at its full factor, the others at 0
+abbrev pub full : List ℕ → List ℕ → List ℕ → List ℕ
+full ss [] fs = []
+full ss (k ∷ ks) [] = []
+full ss (k ∷ ks) (f ∷ fs) = cond (among k ss) f 0 ∷ full ss ks fs
 
 -- the total of each of these stages is 0
 abbrev pub empty : List ℕ → List ℕ → List ℕ → Bool

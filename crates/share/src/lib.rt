@@ -358,8 +358,9 @@ fn go_back(
     left
 }
 
-// The whole rule on sizes: adds the movements; answers the remainder.
+// The whole rule on sizes, in an edition that goes back or not: adds the movements; answers the remainder.
 fn share_sizes(
+    back: bool,
     gap: u64,
     totals: Totals,
     priorities: &[u8],
@@ -371,8 +372,8 @@ fn share_sizes(
 ) -> u64
     requires { ⌜ Lent (length (now priorities)) (now priorities) (now extras) (now first) (now second) × Sides (length (now priorities)) (now before) (now after) ⌝ }
     requires { ⌜ Holds gap (now before) (now after) × Fit totals (now priorities) (now first) (now second) ⌝ }
-    ensures { λ r. ⌜ r ≡ lineOf remainder (now (priorities .entry)) (now (extras .entry)) (now (first .entry)) (now (second .entry)) gap ⌝ }
-    ensures { λ r. ⌜ Moved (lineOf movements (now (priorities .entry)) (now (extras .entry)) (now (first .entry)) (now (second .entry)) gap) (now (before .entry)) (now (after .entry)) (now (before .exit)) (now (after .exit)) ⌝ }
+    ensures { λ r. ⌜ r ≡ lineOf (remainder back) (now (priorities .entry)) (now (extras .entry)) (now (first .entry)) (now (second .entry)) gap ⌝ }
+    ensures { λ r. ⌜ Moved (lineOf (movements back) (now (priorities .entry)) (now (extras .entry)) (now (first .entry)) (now (second .entry)) gap) (now (before .entry)) (now (after .entry)) (now (before .exit)) (now (after .exit)) ⌝ }
 {
     let left = share_stages(
         gap,
@@ -384,7 +385,10 @@ fn share_sizes(
         before,
         after,
     );
-    go_back(left, totals, priorities, first, second, before, after)
+    if back {
+        return go_back(left, totals, priorities, first, second, before, after);
+    }
+    left
 }
 
 // A size with the gap's sign.
@@ -411,6 +415,7 @@ fn copy_signed(shrink: bool, from: &[u64], to: &mut [i32])
 // The whole rule with its sign; `befores` and `afters` are room, all 0.
 fn share_in(
     shrink: bool,
+    back: bool,
     gap: u64,
     totals: Totals,
     priorities: &[u8],
@@ -425,11 +430,12 @@ fn share_in(
     requires { ⌜ Lent (length (now priorities)) (now priorities) (now extras) (now first) (now second) × (gap ≤ 1073741823) × Fit totals (now priorities) (now first) (now second) ⌝ }
     requires { ⌜ (now befores ≡ replicate (length (now priorities)) 0) × (now afters ≡ replicate (length (now priorities)) 0) ⌝ }
     requires { ⌜ (length (now before) ≡ length (now priorities)) × (length (now after) ≡ length (now priorities)) ⌝ }
-    ensures { λ r. ⌜ r ≡ lineOf remainder (now (priorities .entry)) (now (extras .entry)) (now (first .entry)) (now (second .entry)) gap ⌝ }
-    ensures { λ r. ⌜ now (before .exit) ≡ map (signedOf shrink) (evens (lineOf movements (now (priorities .entry)) (now (extras .entry)) (now (first .entry)) (now (second .entry)) gap)) ⌝ }
-    ensures { λ r. ⌜ now (after .exit) ≡ map (signedOf shrink) (odds (lineOf movements (now (priorities .entry)) (now (extras .entry)) (now (first .entry)) (now (second .entry)) gap)) ⌝ }
+    ensures { λ r. ⌜ r ≡ lineOf (remainder back) (now (priorities .entry)) (now (extras .entry)) (now (first .entry)) (now (second .entry)) gap ⌝ }
+    ensures { λ r. ⌜ now (before .exit) ≡ map (signedOf shrink) (evens (lineOf (movements back) (now (priorities .entry)) (now (extras .entry)) (now (first .entry)) (now (second .entry)) gap)) ⌝ }
+    ensures { λ r. ⌜ now (after .exit) ≡ map (signedOf shrink) (odds (lineOf (movements back) (now (priorities .entry)) (now (extras .entry)) (now (first .entry)) (now (second .entry)) gap)) ⌝ }
 {
     let left = share_sizes(
+        back,
         gap,
         totals,
         priorities,
@@ -445,10 +451,11 @@ fn share_in(
 }
 
 // A line's gap, given as its size, shared over the sides of its glyphs: the signed movements of each glyph into `before` and
-// `after`; answers the size of the remainder. The totals are the line's, see `line_totals`, and none is above the most that it
-// may be: see `totals_fit`.
+// `after`; answers the size of the remainder. Edition 1 of the rule goes back, by step 3; edition 2 does not. The totals are
+// the line's, see `line_totals`, and none is above the most that it may be: see `totals_fit`.
 pub fn share_line(
     shrink: bool,
+    back: bool,
     gap: u64,
     totals: Totals,
     priorities: &[u8],
@@ -461,9 +468,9 @@ pub fn share_line(
     requires { ⌜ Lent (length (now priorities)) (now priorities) (now extras) (now first) (now second) ⌝ }
     requires { ⌜ (length (now before) ≡ length (now priorities)) × (length (now after) ≡ length (now priorities)) ⌝ }
     requires { ⌜ (gap ≤ 1073741823) × TotalsOf totals (now priorities) (now first) (now second) × (lineFits (glyphsOf (now priorities) (now extras) (now first) (now second)) ≡ true) ⌝ }
-    ensures { λ r. ⌜ r ≡ lineLeft (glyphsOf (now (priorities .entry)) (now (extras .entry)) (now (first .entry)) (now (second .entry))) gap ⌝ }
-    ensures { λ r. ⌜ now (before .exit) ≡ map (signedOf shrink) (beforeMoves (glyphsOf (now (priorities .entry)) (now (extras .entry)) (now (first .entry)) (now (second .entry))) gap) ⌝ }
-    ensures { λ r. ⌜ now (after .exit) ≡ map (signedOf shrink) (afterMoves (glyphsOf (now (priorities .entry)) (now (extras .entry)) (now (first .entry)) (now (second .entry))) gap) ⌝ }
+    ensures { λ r. ⌜ r ≡ lineLeft back (glyphsOf (now (priorities .entry)) (now (extras .entry)) (now (first .entry)) (now (second .entry))) gap ⌝ }
+    ensures { λ r. ⌜ now (before .exit) ≡ map (signedOf shrink) (beforeMoves back (glyphsOf (now (priorities .entry)) (now (extras .entry)) (now (first .entry)) (now (second .entry))) gap) ⌝ }
+    ensures { λ r. ⌜ now (after .exit) ≡ map (signedOf shrink) (afterMoves back (glyphsOf (now (priorities .entry)) (now (extras .entry)) (now (first .entry)) (now (second .entry))) gap) ⌝ }
 {
     let n = priorities.len();
     // Most lines are short, and less room is sooner cleared.
@@ -472,6 +479,7 @@ pub fn share_line(
         let mut afters = [0u64; 128];
         return share_in(
             shrink,
+            back,
             gap,
             totals,
             priorities,
@@ -488,6 +496,7 @@ pub fn share_line(
     let mut afters = [0u64; 1024];
     share_in(
         shrink,
+        back,
         gap,
         totals,
         priorities,

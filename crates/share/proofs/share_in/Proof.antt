@@ -23,8 +23,8 @@ copy-signed-requires : tie.Need-copy-signed-requires
 copy-signed-requires c κs = let a = c .before .before .before .before .before .before .before .before .before .before .before .before .before .before .before .args in
     let p = c .before .before .before .before .before .before .before .before .before .before .before .before .before .before .before .pre in
     let n = length (a .priorities .now) in
-    let z = from-zeros (p .0 .0) (a .gap) (p .1 .0 .0) (p .1 .0 .1) (c .before .before .before .before .before .before .share-sizes .ensures .1) in
-    let s = sides-small (a .priorities .now) (a .extras .now) (a .first .now) (a .second .now) (a .gap) in
+    let z = from-zeros (a .back) (p .0 .0) (a .gap) (p .1 .0 .0) (p .1 .0 .1) (c .before .before .before .before .before .before .share-sizes .ensures .1) in
+    let s = sides-small (a .back) (a .priorities .now) (a .extras .now) (a .first .now) (a .second .now) (a .gap) in
     let k = c .before .before .before .before .before .before .share-sizes .kept in
     let xl = ap length (p .1 .0 .0) ∙ length-replicate n 0 in
     let t = ap total (z .0) in
@@ -34,8 +34,8 @@ copy-signed-requires-2 : tie.Need-copy-signed-requires-2
 copy-signed-requires-2 c κs = let a = c .before .before .before .before .before .before .before .before .before .before .before .before .before .before .before .before .before .before .before .args in
     let p = c .before .before .before .before .before .before .before .before .before .before .before .before .before .before .before .before .before .before .before .pre in
     let n = length (a .priorities .now) in
-    let z = from-zeros (p .0 .0) (a .gap) (p .1 .0 .0) (p .1 .0 .1) (c .before .before .before .before .before .before .before .before .before .before .share-sizes .ensures .1) in
-    let s = sides-small (a .priorities .now) (a .extras .now) (a .first .now) (a .second .now) (a .gap) in
+    let z = from-zeros (a .back) (p .0 .0) (a .gap) (p .1 .0 .0) (p .1 .0 .1) (c .before .before .before .before .before .before .before .before .before .before .share-sizes .ensures .1) in
+    let s = sides-small (a .back) (a .priorities .now) (a .extras .now) (a .first .now) (a .second .now) (a .gap) in
     let k = c .before .before .before .before .before .before .before .before .before .before .share-sizes .kept in
     let yl = ap length (p .1 .0 .1) ∙ length-replicate n 0 in
     let t = ap total (z .1) in
@@ -56,7 +56,7 @@ same-length-4 c = search needs
 returns : tie.Need-returns
 returns c = let a = c .before .before .before .before .before .before .before .before .before .before .before .before .before .before .before .before .before .before .before .before .before .args in
     let p = c .before .before .before .before .before .before .before .before .before .before .before .before .before .before .before .before .before .before .before .before .before .pre in
-    let z = from-zeros (p .0 .0) (a .gap) (p .1 .0 .0) (p .1 .0 .1) (c .before .before .before .before .before .before .before .before .before .before .before .before .share-sizes .ensures .1) in
+    let z = from-zeros (a .back) (p .0 .0) (a .gap) (p .1 .0 .0) (p .1 .0 .1) (c .before .before .before .before .before .before .before .before .before .before .before .before .share-sizes .ensures .1) in
     (c .before .before .before .before .before .before .before .before .before .before .before .before .share-sizes .ensures .0, (c .before .before .before .before .before .copy-signed .ensures ∙ ap (map (signedOf (a .shrink))) (z .0), c .before .copy-signed2 .ensures ∙ ap (map (signedOf (a .shrink))) (z .1)))
 
 pub share-in-spec : {M : Type 1} → statement M

@@ -43,8 +43,8 @@ returns c =
     let a = c .before .before .before .before .before .before .before .before .before .before .before .before .before .before .args in
     let p = c .before .before .before .before .before .before .before .before .before .before .before .before .before .before .pre in
     let e = c .before .before .before .before .share-in .ensures in
-    let m = line-moves (p .0) (a .gap) in
-    (e .0 ∙ line-left (p .0) (a .gap), (e .1 .0 ∙ ap (λ (l : List ℕ). map (signedOf (a .shrink)) (evens l)) m, e .1 .1 ∙ ap (λ (l : List ℕ). map (signedOf (a .shrink)) (odds l)) m))
+    let m = line-moves (a .back) (p .0) (a .gap) in
+    (e .0 ∙ line-left (a .back) (p .0) (a .gap), (e .1 .0 ∙ ap (λ (l : List ℕ). map (signedOf (a .shrink)) (evens l)) m, e .1 .1 ∙ ap (λ (l : List ℕ). map (signedOf (a .shrink)) (odds l)) m))
 
 array-borrow-prefix-befores-2 : tie.Need-array-borrow-prefix-befores-2
 array-borrow-prefix-befores-2 c = search needs
@@ -78,8 +78,8 @@ returns-2 c =
     let a = c .before .before .before .before .before .before .before .before .before .before .before .before .before .before .args in
     let p = c .before .before .before .before .before .before .before .before .before .before .before .before .before .before .pre in
     let e = c .before .before .before .before .share-in2 .ensures in
-    let m = line-moves (p .0) (a .gap) in
-    (e .0 ∙ line-left (p .0) (a .gap), (e .1 .0 ∙ ap (λ (l : List ℕ). map (signedOf (a .shrink)) (evens l)) m, e .1 .1 ∙ ap (λ (l : List ℕ). map (signedOf (a .shrink)) (odds l)) m))
+    let m = line-moves (a .back) (p .0) (a .gap) in
+    (e .0 ∙ line-left (a .back) (p .0) (a .gap), (e .1 .0 ∙ ap (λ (l : List ℕ). map (signedOf (a .shrink)) (evens l)) m, e .1 .1 ∙ ap (λ (l : List ℕ). map (signedOf (a .shrink)) (odds l)) m))
 
 pub share-line-spec : {M : Type 1} → statement M
 share-line-spec =
