@@ -6,16 +6,16 @@ use mathlib.Core.Option.{Option, none, some}
 use mathlib.Core.List.{List, [], _∷_, map}
 use native.Mathlib.Omega.{arith}
 use lib.Dec.{T, ltb, leb→le, le→leb}
-use lib.IntN.{ℤ, pos, negsuc, negℤ, natAbs, _+ℤ_, _-ℤ_, +ℤ-assoc, +ℤ-comm, negℤ-+ℤ}
+use lib.IntN.{ℤ, pos, negsuc, negℤ, natAbs, _+ℤ_, _-ℤ_, +ℤ-assoc, +ℤ-comm}
 use lib.Signed.{ltZ, leZ, _≤ℤ_}
 use lib.ListN.{take, getD}
 use borrow.Author.Tests.{lt-ltb, le-ltb, ltb-true, ltb-false}
 use Rattle.meaning.specs.Meaning.{Machine, Side}
 use Rattle.share.specs.Line.{Glyph, evens, odds, lineMoves, signedOf, sumℤ}
 use Rattle.share.proofs.Lists.{upto}
-use Rattle.share.proofs.Lines.{sum-signed}
+use Rattle.share.proofs.Lines.{sum-signed, add-signed}
 use Rattle.share.proofs.Rising.{line-rises, upto-left, upto-right}
-use Rattle.line_rule.specs.Line.{Line, gapOf, shrinks, gapSize, walkOf, classesOf, partsOf, partsFor, beforeOf, afterOf}
+use Rattle.line_rule.specs.Line.{Line, goesBack, gapOf, shrinks, gapSize, walkOf, classesOf, partsOf, partsFor, beforeOf, afterOf}
 use Rattle.line_rule.specs.Edges.{leftEdge, rightEdge, aimed}
 
 -- ---- the order of numbers with signs
@@ -69,20 +69,20 @@ falls (suc x) (suc y) h = record { le = le→leb y x (omega arith) }
 
 -- ---- movements with signs
 
--- the movements of the first sides, from the gap: by grow parts where it is 0 or more, else by shrink parts, with a minus
-abbrev movedBy : (Bool → List Glyph) → ℕ → ℤ → ℤ
-movedBy parts k gap = signedOf (ltZ gap (pos 0)) (upto k (lineMoves (parts (ltZ gap (pos 0))) (natAbs gap)))
+-- the movements of the first sides, from the gap, going back or not: by grow parts where it is 0 or more, else by shrink parts, with a minus
+abbrev movedBy : Bool → (Bool → List Glyph) → ℕ → ℤ → ℤ
+movedBy back parts k gap = signedOf (ltZ gap (pos 0)) (upto k (lineMoves back (parts (ltZ gap (pos 0))) (natAbs gap)))
 
-moved-rises : (parts : Bool → List Glyph) (k : ℕ) (g h : ℤ) → g ≤ℤ h → movedBy parts k g ≤ℤ movedBy parts k h
-moved-rises parts k (pos a) (pos b) w =
+moved-rises : (back : Bool) (parts : Bool → List Glyph) (k : ℕ) (g h : ℤ) → g ≤ℤ h → movedBy back parts k g ≤ℤ movedBy back parts k h
+moved-rises back parts k (pos a) (pos b) w =
     let l = leb→le a b (w .le) in
-    rw (le-ltb a 0 (omega arith), le-ltb b 0 (omega arith)) (grows (line-rises (parts false) k l))
-moved-rises parts k (pos a) (negsuc b) w = absurd (w .le)
-moved-rises parts k (negsuc a) (pos b) w = rw (le-ltb b 0 (omega arith)) (crosses (upto k (lineMoves (parts true) (suc a))) (upto k (lineMoves (parts false) b)))
-moved-rises parts k (negsuc a) (negsuc b) w =
+    rw (le-ltb a 0 (omega arith), le-ltb b 0 (omega arith)) (grows (line-rises back (parts false) k l))
+moved-rises back parts k (pos a) (negsuc b) w = absurd (w .le)
+moved-rises back parts k (negsuc a) (pos b) w = rw (le-ltb b 0 (omega arith)) (crosses (upto k (lineMoves back (parts true) (suc a))) (upto k (lineMoves back (parts false) b)))
+moved-rises back parts k (negsuc a) (negsuc b) w =
     let l = leb→le b a (w .le) in
     let m : suc b ≤ suc a = omega arith in
-    falls (upto k (lineMoves (parts true) (suc a))) (upto k (lineMoves (parts true) (suc b))) (line-rises (parts true) k m)
+    falls (upto k (lineMoves back (parts true) (suc a))) (upto k (lineMoves back (parts true) (suc b))) (line-rises back (parts true) k m)
 
 -- ---- sums of the first movements
 
@@ -99,10 +99,6 @@ own-signed true i [] = refl
 own-signed false i [] = refl
 own-signed b zero (x ∷ l) = refl
 own-signed b (suc i) (x ∷ l) = own-signed b i l
-
-add-signed : (b : Bool) (x y : ℕ) → signedOf b x +ℤ signedOf b y ≡ signedOf b (x + y)
-add-signed true x y = sym (negℤ-+ℤ (pos x) (pos y))
-add-signed false x y = refl
 
 collect : (a : ℤ) (b : Bool) (x y : ℕ) → a +ℤ signedOf b x +ℤ signedOf b y ≡ a +ℤ signedOf b (x + y)
 collect a b x y = +ℤ-assoc a (signedOf b x) (signedOf b y) ∙ ap (λ (z : ℤ). a +ℤ z) (add-signed b x y)
@@ -165,28 +161,28 @@ module _ (s : Side) (l : Line) where
   abbrev right : ℤ → ℕ → ℤ
   right u i = rightEdge (l .advances) (beforeOf s (aimed l u)) (afterOf s (aimed l u)) i
 
-  left-moved : (u : ℤ) (i : ℕ) → left u i ≡ sumℤ (take i (l .advances)) +ℤ movedBy parts (i + i + 1) (gapOf (aimed l u))
+  left-moved : (u : ℤ) (i : ℕ) → left u i ≡ sumℤ (take i (l .advances)) +ℤ movedBy (goesBack (l .edition)) parts (i + i + 1) (gapOf (aimed l u))
   unfolding beforeOf afterOf
   left-moved u i =
-      left-is (shrinks (aimed l u)) (l .advances) (lineMoves (partsFor s (aimed l u)) (gapSize (aimed l u))) i
-      ∙ ap (λ (gs : List Glyph). sumℤ (take i (l .advances)) +ℤ signedOf (shrinks (aimed l u)) (upto (i + i + 1) (lineMoves gs (gapSize (aimed l u))))) (parts-aimed u)
+      left-is (shrinks (aimed l u)) (l .advances) (lineMoves (goesBack (l .edition)) (partsFor s (aimed l u)) (gapSize (aimed l u))) i
+      ∙ ap (λ (gs : List Glyph). sumℤ (take i (l .advances)) +ℤ signedOf (shrinks (aimed l u)) (upto (i + i + 1) (lineMoves (goesBack (l .edition)) gs (gapSize (aimed l u))))) (parts-aimed u)
 
-  right-moved : (u : ℤ) (i : ℕ) → right u i ≡ sumℤ (take i (l .advances)) +ℤ getD (l .advances) i (pos 0) +ℤ movedBy parts (i + i + 2) (gapOf (aimed l u))
+  right-moved : (u : ℤ) (i : ℕ) → right u i ≡ sumℤ (take i (l .advances)) +ℤ getD (l .advances) i (pos 0) +ℤ movedBy (goesBack (l .edition)) parts (i + i + 2) (gapOf (aimed l u))
   unfolding beforeOf afterOf
   right-moved u i =
-      right-is (shrinks (aimed l u)) (l .advances) (lineMoves (partsFor s (aimed l u)) (gapSize (aimed l u))) i
-      ∙ ap (λ (gs : List Glyph). sumℤ (take i (l .advances)) +ℤ getD (l .advances) i (pos 0) +ℤ signedOf (shrinks (aimed l u)) (upto (i + i + 2) (lineMoves gs (gapSize (aimed l u))))) (parts-aimed u)
+      right-is (shrinks (aimed l u)) (l .advances) (lineMoves (goesBack (l .edition)) (partsFor s (aimed l u)) (gapSize (aimed l u))) i
+      ∙ ap (λ (gs : List Glyph). sumℤ (take i (l .advances)) +ℤ getD (l .advances) i (pos 0) +ℤ signedOf (shrinks (aimed l u)) (upto (i + i + 2) (lineMoves (goesBack (l .edition)) gs (gapSize (aimed l u))))) (parts-aimed u)
 
   -- a wider target has a wider gap
   gap-rises : {u w : ℤ} → u ≤ℤ w → gapOf (aimed l u) ≤ℤ gapOf (aimed l w)
   unfolding gapOf
   gap-rises h = behind (negℤ (sumℤ (l .advances))) h
 
-  -- NEVER BACK, on the movements of any line under any two targets
+  -- NEVER BACK, on the movements of any line under any two targets, in both editions
   pub edges-rise : {u w : ℤ} → u ≤ℤ w → (i : ℕ) → (left u i ≤ℤ left w i) × (right u i ≤ℤ right w i)
   edges-rise {u} {w} h i =
       let g = gap-rises h in (
-        rw (left-moved u i, left-moved w i) (ahead (sumℤ (take i (l .advances))) (moved-rises parts (i + i + 1) (gapOf (aimed l u)) (gapOf (aimed l w)) g)),
+        rw (left-moved u i, left-moved w i) (ahead (sumℤ (take i (l .advances))) (moved-rises (goesBack (l .edition)) parts (i + i + 1) (gapOf (aimed l u)) (gapOf (aimed l w)) g)),
         rw (right-moved u i, right-moved w i)
-            (ahead (sumℤ (take i (l .advances)) +ℤ getD (l .advances) i (pos 0)) (moved-rises parts (i + i + 2) (gapOf (aimed l u)) (gapOf (aimed l w)) g)),
+            (ahead (sumℤ (take i (l .advances)) +ℤ getD (l .advances) i (pos 0)) (moved-rises (goesBack (l .edition)) parts (i + i + 2) (gapOf (aimed l u)) (gapOf (aimed l w)) g)),
       )

@@ -12,7 +12,7 @@ use Rattle.types.specs.declared.Verdict.{Verdict}
 use Rattle.meaning.specs.Meaning.{Machine, Action, Side}
 use Rattle.share.specs.Line.{Glyph}
 use Rattle.verdict.specs.Verdict.{breaks, adds, substitutes, stretches, typeFires, firesOf}
-use Rattle.line_rule.specs.Line.{Line, gapOf, shrinks, gapSize, columnOf, stageOf, partOf, partsOf, firings, verdictsFrom}
+use Rattle.line_rule.specs.Line.{Line, goesBack, knownEdition, gapOf, shrinks, gapSize, columnOf, stageOf, partOf, partsOf, firings, verdictsFrom}
 use Rattle.line_rule.specs.Edges.{leftEdge, rightEdge}
 
 -- two glyphs of 10 units each, with a target
@@ -26,12 +26,17 @@ line target =
       glyphs = 3 ∷ 4 ∷ [];
       advances = pos 10 ∷ pos 10 ∷ [];
       target = target;
+      edition = 1;
     }
 
 -- a line that is as long as its target does not shrink; one unit less and it does, by one unit
 pub gaps : (shrinks (line (pos 20)) ≡ false) × (shrinks (line (pos 19)) ≡ true) × (gapSize (line (pos 19)) ≡ 1) × (gapSize (line (pos 23)) ≡ 3)
 unfolding gapOf
 gaps = (refl, refl, refl, refl)
+
+-- of the editions 1 and 2 the first goes back; there is no edition 0, and none past 2
+pub editions : (map knownEdition (0 ∷ 1 ∷ 2 ∷ 3 ∷ []) ≡ false ∷ true ∷ true ∷ false ∷ []) × (map goesBack (1 ∷ 2 ∷ []) ≡ true ∷ false ∷ [])
+editions = (refl, refl)
 
 -- a deleted glyph is of class 2 whatever the machine's classes say; a glyph that has none is of class 1
 abbrev machine : Machine

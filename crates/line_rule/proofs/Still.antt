@@ -8,9 +8,9 @@ use lib.ListN.{length, replicate}
 use Rattle.share.specs.Line.{beforeMoves, afterMoves, lineLeft, signedOf}
 use Rattle.share.proofs.Lines.{line-unmoved}
 use Rattle.meaning.specs.Meaning.{Side}
-use Rattle.line_rule.specs.Line.{Line, gapOf, gapSize, shrinks, partsFor, beforeOf, afterOf, remainderOf}
+use Rattle.line_rule.specs.Line.{Line, goesBack, gapOf, gapSize, shrinks, partsFor, beforeOf, afterOf, remainderOf}
 
-none-signed : (b : Bool) → signedOf b 0 ≡ pos 0
+pub none-signed : (b : Bool) → signedOf b 0 ≡ pos 0
 none-signed true = refl
 none-signed false = refl
 
@@ -25,20 +25,20 @@ module _ (s : Side) (l : Line) (e : gapOf l ≡ pos 0) where
   pub before-none : beforeOf s l ≡ replicate (length (partsFor s l)) (pos 0)
   unfolding beforeOf
   before-none =
-      ap (λ (g : ℕ). map (signedOf (shrinks l)) (beforeMoves (partsFor s l) g)) none
-      ∙ ap (map (signedOf (shrinks l))) (line-unmoved (partsFor s l) .0)
+      ap (λ (g : ℕ). map (signedOf (shrinks l)) (beforeMoves (goesBack (l .edition)) (partsFor s l) g)) none
+      ∙ ap (map (signedOf (shrinks l))) (line-unmoved (goesBack (l .edition)) (partsFor s l) .0)
       ∙ zeros-signed (shrinks l) (length (partsFor s l))
 
   pub after-none : afterOf s l ≡ replicate (length (partsFor s l)) (pos 0)
   unfolding afterOf
   after-none =
-      ap (λ (g : ℕ). map (signedOf (shrinks l)) (afterMoves (partsFor s l) g)) none
-      ∙ ap (map (signedOf (shrinks l))) (line-unmoved (partsFor s l) .1)
+      ap (λ (g : ℕ). map (signedOf (shrinks l)) (afterMoves (goesBack (l .edition)) (partsFor s l) g)) none
+      ∙ ap (map (signedOf (shrinks l))) (line-unmoved (goesBack (l .edition)) (partsFor s l) .1)
       ∙ zeros-signed (shrinks l) (length (partsFor s l))
 
   pub remainder-none : remainderOf s l ≡ pos 0
   unfolding remainderOf
   remainder-none =
-      ap (λ (g : ℕ). signedOf (shrinks l) (lineLeft (partsFor s l) g)) none
-      ∙ ap (signedOf (shrinks l)) (line-unmoved (partsFor s l) .2)
+      ap (λ (g : ℕ). signedOf (shrinks l) (lineLeft (goesBack (l .edition)) (partsFor s l) g)) none
+      ∙ ap (signedOf (shrinks l)) (line-unmoved (goesBack (l .edition)) (partsFor s l) .2)
       ∙ none-signed (shrinks l)

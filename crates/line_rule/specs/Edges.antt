@@ -17,4 +17,4 @@ rightEdge advances before after i = leftEdge advances before after i +ℤ getD a
 -- the same line, to be as wide as another target
 abbrev pub aimed : Line → ℤ → Line
 aimed l target =
-    record { direction = l .direction; starts = l .starts; ends = l .ends; sizes = l .sizes; glyphs = l .glyphs; advances = l .advances; target = target }
+    record { direction = l .direction; starts = l .starts; ends = l .ends; sizes = l .sizes; glyphs = l .glyphs; advances = l .advances; target = target; edition = l .edition }

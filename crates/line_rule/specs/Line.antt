@@ -1,7 +1,7 @@
 -- A line as it is handed in, and what is worked out of it by the meaning of one direction (document 01, "The class walk", "Sharing the gap" and
 -- "Verdicts"), in document order: the gap, the classes, the records, the factors, the stages, the movements with their signs, the verdicts.
 use Prim.Native.Nat.{ℕ, zero, suc, _+_, _*_, _/_}
-use mathlib.Core.Bool.{Bool, true, false, cond}
+use mathlib.Core.Bool.{Bool, true, false, cond, _||_}
 use mathlib.Core.Option.{Option, none, some}
 use mathlib.Core.List.{List, [], _∷_, _++_, map}
 use lib.Dec.{eqb}
@@ -25,7 +25,8 @@ use Rattle.verdict.specs.declared.Fires.{Fires}
 use Rattle.verdict.specs.declared.Fires.the-variants.{No, Plain, Substitutes}
 use Rattle.verdict.specs.Verdict.{firesOf}
 
--- a line: its direction, whether it starts and ends the text, its glyphs with the point size (document 02, request 5/14) and the advance of each, and its target, in units
+-- a line: its direction, whether it starts and ends the text, its glyphs with the point size (document 02, request 5/14) and the advance of each, its target, in units,
+-- and the edition of the rule that shares its gap (document 02, request 7/14)
 pub record Line : Type 0 where
   pub direction : Direction
   pub starts : Bool
@@ -34,6 +35,16 @@ pub record Line : Type 0 where
   pub glyphs : List ℕ
   pub advances : List ℤ
   pub target : ℤ
+  pub edition : ℕ
+
+-- ---- the editions
+
+-- edition 1 goes back, by step 3; edition 2 stops at the limits, and what is left after stage 3 is its remainder. No other is known
+abbrev pub goesBack : ℕ → Bool
+goesBack edition = eqb edition 1
+
+abbrev pub knownEdition : ℕ → Bool
+knownEdition edition = goesBack edition || eqb edition 2
 
 -- ---- the gap
 
@@ -123,13 +134,13 @@ abbrev pub partsFor : Side → Line → List Glyph
 partsFor s l = partsOf s (shrinks l) (l .sizes) (l .glyphs) (classesOf (walkOf (s .machine) l))
 
 unfoldable pub beforeOf : Side → Line → List ℤ
-beforeOf s l = map (signedOf (shrinks l)) (beforeMoves (partsFor s l) (gapSize l))
+beforeOf s l = map (signedOf (shrinks l)) (beforeMoves (goesBack (l .edition)) (partsFor s l) (gapSize l))
 
 unfoldable pub afterOf : Side → Line → List ℤ
-afterOf s l = map (signedOf (shrinks l)) (afterMoves (partsFor s l) (gapSize l))
+afterOf s l = map (signedOf (shrinks l)) (afterMoves (goesBack (l .edition)) (partsFor s l) (gapSize l))
 
 unfoldable pub remainderOf : Side → Line → ℤ
-remainderOf s l = signedOf (shrinks l) (lineLeft (partsFor s l) (gapSize l))
+remainderOf s l = signedOf (shrinks l) (lineLeft (goesBack (l .edition)) (partsFor s l) (gapSize l))
 
 -- ---- the verdicts
 
