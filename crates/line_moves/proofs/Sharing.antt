@@ -13,7 +13,7 @@ use mir.ValLaws.{toZ-ofZ}
 use lib.ListN.{length, length-map}
 use borrow.Author.Tests.{ltb-true}
 use Rattle.meaning.specs.Meaning.{Side}
-use Rattle.line_rule.specs.Line.{partsOf}
+use Rattle.line_rule.specs.Line.{goesBack, partsOf}
 use Rattle.share.specs.Line.{Glyph, Narrow, glyphsOf, Lent, Parts, lineLeft, lineFits, beforeMoves, afterMoves, signedOf}
 use Rattle.share.proofs.Lines.{glyphsOf-parts, line-sum}
 use Rattle.line_moves.specs.declared.Shared.{Shared}
@@ -66,43 +66,45 @@ module _ {ps : List Glyph} {ks us bs cs : List ℕ} (w : Laid ps ks us bs cs) wh
   laid-fits e = sym (e ∙ ap lineFits laid-glyphs)
 
 -- no more is left than the gap
-pub left-small : (ps : List Glyph) (gap : ℕ) → lineLeft ps gap ≤ gap
-left-small ps gap = omega (arith, line-sum ps gap)
+pub left-small : (back : Bool) (ps : List Glyph) (gap : ℕ) → lineLeft back ps gap ≤ gap
+left-small back ps gap = omega (arith, line-sum back ps gap)
 
-module _ (shrink : Bool) (gap : ℕ) (ps qs : List Glyph) (same : qs ≡ ps) (bs fs : List ℤ) where
-  pub shared-left : {z : ℤ} {bs′ fs′ : List ℤ} → lineFits ps ≡ true → z ≡ signedOf shrink (lineLeft qs gap) → bs′ ≡ map (signedOf shrink) (beforeMoves qs gap)
-      → fs′ ≡ map (signedOf shrink) (afterMoves qs gap) → SharedOut shrink gap ps bs fs (Left (inUnits z)) bs′ fs′
+module _ (shrink back : Bool) (gap : ℕ) (ps qs : List Glyph) (same : qs ≡ ps) (bs fs : List ℤ) where
+  pub shared-left : {z : ℤ} {bs′ fs′ : List ℤ} → lineFits ps ≡ true → z ≡ signedOf shrink (lineLeft back qs gap) → bs′ ≡ map (signedOf shrink) (beforeMoves back qs gap)
+      → fs′ ≡ map (signedOf shrink) (afterMoves back qs gap) → SharedOut shrink back gap ps bs fs (Left (inUnits z)) bs′ fs′
   shared-left {z} {bs′} {fs′} fits e b f =
       record {
         answer =
-            ap (λ (x : ℤ). Left (inUnits x)) (e ∙ ap (λ (x : List Glyph). signedOf shrink (lineLeft x gap)) same)
-            ∙ ap (λ (t : Bool). cond t (Left (inUnits (signedOf shrink (lineLeft ps gap)))) Over) (sym fits);
+            ap (λ (x : ℤ). Left (inUnits x)) (e ∙ ap (λ (x : List Glyph). signedOf shrink (lineLeft back x gap)) same)
+            ∙ ap (λ (t : Bool). cond t (Left (inUnits (signedOf shrink (lineLeft back ps gap)))) Over) (sym fits);
         before =
             b
-            ∙ ap (λ (x : List Glyph). map (signedOf shrink) (beforeMoves x gap)) same
-            ∙ ap (λ (t : Bool). cond t (map (signedOf shrink) (beforeMoves ps gap)) bs) (sym fits);
+            ∙ ap (λ (x : List Glyph). map (signedOf shrink) (beforeMoves back x gap)) same
+            ∙ ap (λ (t : Bool). cond t (map (signedOf shrink) (beforeMoves back ps gap)) bs) (sym fits);
         after =
             f
-            ∙ ap (λ (x : List Glyph). map (signedOf shrink) (afterMoves x gap)) same
-            ∙ ap (λ (t : Bool). cond t (map (signedOf shrink) (afterMoves ps gap)) fs) (sym fits);
+            ∙ ap (λ (x : List Glyph). map (signedOf shrink) (afterMoves back x gap)) same
+            ∙ ap (λ (t : Bool). cond t (map (signedOf shrink) (afterMoves back ps gap)) fs) (sym fits);
       }
 
-pub shared-over : (shrink : Bool) (gap : ℕ) (ps : List Glyph) (bs fs : List ℤ) → lineFits ps ≡ false → SharedOut shrink gap ps bs fs Over bs fs
-shared-over shrink gap ps bs fs e =
+pub shared-over : (shrink back : Bool) (gap : ℕ) (ps : List Glyph) (bs fs : List ℤ) → lineFits ps ≡ false → SharedOut shrink back gap ps bs fs Over bs fs
+shared-over shrink back gap ps bs fs e =
     record {
-      answer = ap (λ (t : Bool). cond t (Left (inUnits (signedOf shrink (lineLeft ps gap)))) Over) (sym e);
-      before = ap (λ (t : Bool). cond t (map (signedOf shrink) (beforeMoves ps gap)) bs) (sym e);
-      after = ap (λ (t : Bool). cond t (map (signedOf shrink) (afterMoves ps gap)) fs) (sym e);
+      answer = ap (λ (t : Bool). cond t (Left (inUnits (signedOf shrink (lineLeft back ps gap)))) Over) (sym e);
+      before = ap (λ (t : Bool). cond t (map (signedOf shrink) (beforeMoves back ps gap)) bs) (sym e);
+      after = ap (λ (t : Bool). cond t (map (signedOf shrink) (afterMoves back ps gap)) fs) (sym e);
     }
 
 -- ---- the gap's sign
 
--- by the gap's sign and its size, as the code found them
-pub by-sign : (gap : ℤ) {b : Bool} {n : ℕ} (s : Side) (sizes glyphs classes : List ℕ) {bs fs bs′ fs′ : List ℤ} {sh : Shared} → b ≡ ltZ gap (pos 0) → n ≡ natAbs gap
-    → SharedOut b n (partsOf s b sizes glyphs classes) bs fs sh bs′ fs′ → SharedGap gap s sizes glyphs classes bs fs sh bs′ fs′
-by-sign gap {b} {n} s sizes glyphs classes {bs} {fs} {bs′} {fs′} {sh} eb en w =
-    subst (λ (x : Bool). SharedOut x (natAbs gap) (partsOf s x sizes glyphs classes) bs fs sh bs′ fs′) eb
-    (subst (λ (x : ℕ). SharedOut b x (partsOf s b sizes glyphs classes) bs fs sh bs′ fs′) en w)
+-- by the gap's sign, the edition and the gap's size, as the code found them
+pub by-sign : (gap : ℤ) (edition : ℕ) {b back : Bool} {n : ℕ} (s : Side) (sizes glyphs classes : List ℕ) {bs fs bs′ fs′ : List ℤ} {sh : Shared} → b ≡ ltZ gap (pos 0)
+    → back ≡ goesBack edition → n ≡ natAbs gap
+    → SharedOut b back n (partsOf s b sizes glyphs classes) bs fs sh bs′ fs′ → SharedGap gap edition s sizes glyphs classes bs fs sh bs′ fs′
+by-sign gap edition {b} {back} {n} s sizes glyphs classes {bs} {fs} {bs′} {fs′} {sh} eb ek en w =
+    subst (λ (x : Bool). SharedOut x (goesBack edition) (natAbs gap) (partsOf s x sizes glyphs classes) bs fs sh bs′ fs′) eb
+    (subst (λ (k : Bool). SharedOut b k (natAbs gap) (partsOf s b sizes glyphs classes) bs fs sh bs′ fs′) ek
+    (subst (λ (x : ℕ). SharedOut b back x (partsOf s b sizes glyphs classes) bs fs sh bs′ fs′) en w))
 
 -- a gap as it is read, and its size
 module _ (z : ℤ) (h : natAbs z ≤ 1073741823) (fits : SFits w64 z) where

@@ -15,7 +15,7 @@ use Rattle.units.specs.declared.Units.{Units}
 use Rattle.meaning.specs.Meaning.{Side}
 use Rattle.meaning.specs.Limits.{OkLimits}
 use Rattle.share.specs.Line.{Glyph, lineLeft, lineFits, beforeMoves, afterMoves, signedOf}
-use Rattle.line_rule.specs.Line.{Line, partsOf}
+use Rattle.line_rule.specs.Line.{Line, goesBack, partsOf}
 use Rattle.line_moves.specs.declared.Part.{Part}
 use Rattle.line_moves.specs.declared.Shared.{Shared}
 use Rattle.line_moves.specs.declared.Shared.the-variants.{Left, Over}
@@ -27,7 +27,7 @@ Known n gs = (place : ℕ) → place < length gs → (getD gs place 0 ≡ 0xFFFF
 -- a line of which only that is said which the class walk looks at: its glyphs, and whether it starts and ends the text
 abbrev pub bareLine : List ℕ → Bool → Bool → Line
 bareLine glyphs starts ends =
-    record { direction = Horizontal; starts = starts; ends = ends; sizes = []; glyphs = glyphs; advances = []; target = pos 0 }
+    record { direction = Horizontal; starts = starts; ends = ends; sizes = []; glyphs = glyphs; advances = []; target = pos 0; edition = 0 }
 
 -- every size of a line's glyphs is at most 1,024 points
 abbrev pub SmallSizes : List ℕ → Type 0
@@ -68,16 +68,16 @@ pub record Laid (gs : List Glyph) (ks us bs cs : List ℕ) : Type 0 where
 abbrev pub inUnits : ℤ → Units
 inUnits z = record { 0 = z }
 
--- a gap, given as its size, shared over the sides of glyphs with these parts: the remainder and the movements, all with the gap's sign; where a stage's total is above
+-- a gap, given as its size, shared over the sides of glyphs with these parts, by an edition that goes back or not: the remainder and the movements, all with the gap's sign; where a stage's total is above
 -- the most that it may be, the movements stay as they were
-abbrev pub sharedOf : Bool → ℕ → List Glyph → Shared
-sharedOf shrink gap gs = cond (lineFits gs) (Left (inUnits (signedOf shrink (lineLeft gs gap)))) Over
+abbrev pub sharedOf : Bool → Bool → ℕ → List Glyph → Shared
+sharedOf shrink back gap gs = cond (lineFits gs) (Left (inUnits (signedOf shrink (lineLeft back gs gap)))) Over
 
-pub record SharedOut (shrink : Bool) (gap : ℕ) (gs : List Glyph) (bs fs : List ℤ) (shared : Shared) (bs′ fs′ : List ℤ) : Type 0 where
-  pub answer : shared ≡ sharedOf shrink gap gs
-  pub before : bs′ ≡ cond (lineFits gs) (map (signedOf shrink) (beforeMoves gs gap)) bs
-  pub after : fs′ ≡ cond (lineFits gs) (map (signedOf shrink) (afterMoves gs gap)) fs
+pub record SharedOut (shrink back : Bool) (gap : ℕ) (gs : List Glyph) (bs fs : List ℤ) (shared : Shared) (bs′ fs′ : List ℤ) : Type 0 where
+  pub answer : shared ≡ sharedOf shrink back gap gs
+  pub before : bs′ ≡ cond (lineFits gs) (map (signedOf shrink) (beforeMoves back gs gap)) bs
+  pub after : fs′ ≡ cond (lineFits gs) (map (signedOf shrink) (afterMoves back gs gap)) fs
 
--- a gap with its sign, shared over the sides of glyphs of these sizes and classes
-abbrev pub SharedGap : ℤ → Side → List ℕ → List ℕ → List ℕ → List ℤ → List ℤ → Shared → List ℤ → List ℤ → Type 0
-SharedGap gap s sizes glyphs classes = SharedOut (ltZ gap (pos 0)) (natAbs gap) (partsOf s (ltZ gap (pos 0)) sizes glyphs classes)
+-- a gap with its sign, shared by an edition over the sides of glyphs of these sizes and classes
+abbrev pub SharedGap : ℤ → ℕ → Side → List ℕ → List ℕ → List ℕ → List ℤ → List ℤ → Shared → List ℤ → List ℤ → Type 0
+SharedGap gap edition s sizes glyphs classes = SharedOut (ltZ gap (pos 0)) (goesBack edition) (natAbs gap) (partsOf s (ltZ gap (pos 0)) sizes glyphs classes)

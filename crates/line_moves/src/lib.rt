@@ -230,7 +230,7 @@ fn share_parts(
     requires { ⌜ (tableFault (now table) count ≡ Clear) × (length (now classes) ≡ length (now glyphs)) × (length (now sizes) ≡ length (now glyphs)) ⌝ }
     requires { ⌜ PartsRoom (length (now glyphs)) (now priorities) (now extras) (now first) (now second) ⌝ }
     requires { ⌜ (length (now before) ≡ length (now glyphs)) × (length (now after) ≡ length (now glyphs)) × (length (now glyphs) ≤ 1024) × (natAbs (gap .0) ≤ 1073741823) × SmallSizes (now sizes) ⌝ }
-    ensures { λ r. ⌜ SharedGap (gap .0) (sideOf (shape .direction) (meaningOf (now (table .entry)) count)) (now (sizes .entry)) (now (glyphs .entry)) (now (classes .entry)) (now (before .entry)) (now (after .entry)) r (now (before .exit)) (now (after .exit)) ⌝ }
+    ensures { λ r. ⌜ SharedGap (gap .0) (shape .edition) (sideOf (shape .direction) (meaningOf (now (table .entry)) count)) (now (sizes .entry)) (now (glyphs .entry)) (now (classes .entry)) (now (before .entry)) (now (after .entry)) r (now (before .exit)) (now (after .exit)) ⌝ }
 {
     let shrink = shrinks(gap);
     lay_parts(
@@ -250,6 +250,7 @@ fn share_parts(
     if share::totals_fit(totals) {
         let left = share::share_line(
             shrink,
+            line_rule::goes_back(shape.edition),
             size_of(gap),
             totals,
             priorities,
@@ -280,7 +281,7 @@ pub fn share_glyphs(
 ) -> Shared
     requires { ⌜ (tableFault (now table) count ≡ Clear) × (length (now classes) ≡ length (now glyphs)) × (length (now sizes) ≡ length (now glyphs)) ⌝ }
     requires { ⌜ (length (now before) ≡ length (now glyphs)) × (length (now after) ≡ length (now glyphs)) × (length (now glyphs) ≤ 1024) × (natAbs (gap .0) ≤ 1073741823) × SmallSizes (now sizes) ⌝ }
-    ensures { λ r. ⌜ SharedGap (gap .0) (sideOf (shape .direction) (meaningOf (now (table .entry)) count)) (now (sizes .entry)) (now (glyphs .entry)) (now (classes .entry)) (now (before .entry)) (now (after .entry)) r (now (before .exit)) (now (after .exit)) ⌝ }
+    ensures { λ r. ⌜ SharedGap (gap .0) (shape .edition) (sideOf (shape .direction) (meaningOf (now (table .entry)) count)) (now (sizes .entry)) (now (glyphs .entry)) (now (classes .entry)) (now (before .entry)) (now (after .entry)) r (now (before .exit)) (now (after .exit)) ⌝ }
 {
     let n = glyphs.len();
     if n <= 128 {
