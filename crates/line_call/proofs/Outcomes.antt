@@ -134,13 +134,14 @@ module _ (t : List ℕ) (n : ℕ) (l : Line) (cs : List ℕ) (bs fs : List ℤ) 
   abbrev input : Fault
   input = inputFault t n l (length cs ∷ length bs ∷ length fs ∷ [])
 
-  chain : (a b c d e f g h i : Fault) → ((a then b then c then d then e then f then g then h) then i) ≡ ((a then b then c then d) then ((e then f then g then h) then i))
-  chain a b c d e f g h i = simp then-assoc
+  chain : (a b c d e f g h i j : Fault)
+      → ((a then b then c then d then e then f then g then h then i) then j) ≡ ((a then b then c then d then e) then ((f then g then h then i) then j))
+  chain a b c d e f g h i j = simp then-assoc
 
   split : (verdicts : List Verdict)
       → lineFault t n l (lentBy cs bs fs verdicts) ≡ (input then (workFault s n l then roomTest s l (length verdicts)))
   unfolding lineFault workedFault inputFault workFault s
-  split verdicts = chain _ _ _ _ _ _ _ _ _
+  split verdicts = chain _ _ _ _ _ _ _ _ _ _
 
   pub whole-bad : (r : Refusal) (at : ℕ) {f : Fault} → f ≡ input → f ≡ Bad r at → (verdicts : List Verdict)
       → settlementIs (record { answer = Refused r at; stored = 0 }) cs bs fs ≡ settlementIn (justified t n l (lentBy cs bs fs verdicts))
@@ -149,7 +150,7 @@ module _ (t : List ℕ) (n : ℕ) (l : Line) (cs : List ℕ) (bs fs : List ℤ) 
       let b : input ≡ Bad r at = sym e ∙ q in
       outcome-bad s n l (length verdicts) cs bs fs r at (split verdicts ∙ then-stop _ b ∙ b) verdicts
 
-  -- what holds where the table's refusals and 9 to 11 do not bar the line
+  -- what holds where the table's refusals, 9, 10, 18 and 11 do not bar the line
   pub record Input : Type 0 where
     pub accepted : tableFault t n ≡ Clear
     pub short : length (l .glyphs) ≤ 1024
@@ -172,7 +173,7 @@ module _ (t : List ℕ) (n : ℕ) (l : Line) (cs : List ℕ) (bs fs : List ℤ) 
         classes = long .2;
         before = long .3;
         after = long .4;
-        small = sizes-small (l .sizes) (rule-holds _ PointSize 0 (then-second _ _ (then-second _ _ b)));
+        small = sizes-small (l .sizes) (rule-holds _ PointSize 0 (then-second _ _ (then-second _ _ (then-second _ _ b))));
       }
 
   pub whole-clear : (answer : Settled) {f : Fault} {room : ℕ} {cs′ : List ℕ} {bs′ fs′ : List ℤ} → f ≡ input → f ≡ Clear

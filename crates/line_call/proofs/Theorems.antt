@@ -1,6 +1,6 @@
--- What holds of every line's call (document 01, demand 2): a refusal changes nothing; movements and remainder sum to the gap; when there is a remainder; the walk of an
--- accepted table's machine ends as reported, or never ends; and what is stored has room.
-use Prim.Native.Nat.{ℕ, zero, suc, _+_, _*_, _≤_, _<_}
+-- What holds of every line's call (document 01, demand 2): a refusal changes nothing; movements and remainder sum to the gap; when there is a remainder, in each edition, and
+-- what it means in edition 2; the walk of an accepted table's machine ends as reported, or never ends; and what is stored has room.
+use Prim.Native.Nat.{ℕ, zero, suc, _+_, _-_, _*_, _≤_, _<_}
 use mathlib.Core.Path.{_≡_, refl, ap, ap₂, _∙_, subst}
 use mathlib.Core.Logic.{_⊎_, inl, inr}
 use mathlib.Core.Bool.{Bool, true, false, cond}
@@ -27,9 +27,10 @@ use Rattle.table_ask.proofs.Rows.{index-below}
 use Rattle.class_walk.specs.Walk.{Fits, Ends, Never, Walk, going, stopped}
 use Rattle.class_walk.specs.Line.{lineOf}
 use Rattle.class_walk.proofs.Laws.{walked-ends, walked-never, ends-within}
-use Rattle.share.specs.Line.{Glyph, beforeMoves, afterMoves, signedOf, nothingMoves, sumℤ}
-use Rattle.share.proofs.Lines.{line-sum-signed, line-remainder, line-lengths}
-use Rattle.line_rule.specs.Line.{Line, gapOf, shrinks, gapSize, walkMachine, columnOf, walkOf, hasStopped, classesOf, entriesOf, partsFor, beforeOf, afterOf, remainderOf, verdictsOf}
+use Rattle.share.specs.Line.{Glyph, evens, odds, lineMoves, lineLeft, beforeMoves, afterMoves, signedOf, nothingMoves, noneUnlimited, fullMoves, fullTotal, sumℤ}
+use Rattle.share.proofs.Lines.{line-sum-signed, line-remainder, line-stopped, line-full, line-lengths}
+use Rattle.line_rule.specs.Line.{Line, goesBack, gapOf, shrinks, gapSize, walkMachine, columnOf, walkOf, hasStopped, classesOf, entriesOf, partsFor, beforeOf, afterOf, remainderOf, verdictsOf}
+use Rattle.line_rule.proofs.Still.{none-signed}
 use Rattle.line_moves.specs.Parts.{Known}
 use Rattle.line_moves.proofs.Walks.{walk-length}
 use Rattle.line_moves.proofs.Parts.{parts-length}
@@ -88,7 +89,7 @@ module _ (t : List ℕ) (n : ℕ) (l : Line) (b : Lent) where
       go (pos a) = rw (le-ltb a 0 (omega arith))
       go (negsuc a) = refl
 
-  -- MOVEMENTS AND REMAINDER SUM TO THE GAP, to the unit
+  -- MOVEMENTS AND REMAINDER SUM TO THE GAP, to the unit, in both editions
   pub sum-is-gap : (z : ℤ) (k v : ℕ) → justified t n l b .answer ≡ justifies z k v
       → (sumℤ (justified t n l b .lent .before) +ℤ sumℤ (justified t n l b .lent .after)) +ℤ z ≡ gapOf l
   unfolding beforeOf afterOf remainderOf
@@ -98,24 +99,57 @@ module _ (t : List ℕ) (n : ℕ) (l : Line) (b : Lent) where
       ap₂ (λ (x y : ℤ). x +ℤ y)
       (ap₂ (λ (x y : ℤ). x +ℤ y) (ap sumℤ (w .before)) (ap sumℤ (w .after)))
       (w .remainder)
-      ∙ line-sum-signed (shrinks l) ps (gapSize l)
+      ∙ line-sum-signed (goesBack (l .edition)) (shrinks l) ps (gapSize l)
       ∙ gap-signed
 
-  -- WHEN THERE IS A REMAINDER: it is the whole gap where nothing can move, and 0 otherwise
-  pub remainder-is : (z : ℤ) (k v : ℕ) → justified t n l b .answer ≡ justifies z k v → z ≡ cond (nothingMoves (partsFor side l)) (gapOf l) (pos 0)
+  -- WHEN THERE IS A REMAINDER in edition 1: it is the whole gap where nothing can move, and 0 otherwise
+  pub remainder-is : (z : ℤ) (k v : ℕ) → l .edition ≡ 1 → justified t n l b .answer ≡ justifies z k v → z ≡ cond (nothingMoves (partsFor side l)) (gapOf l) (pos 0)
   unfolding remainderOf
-  remainder-is z k v e =
+  remainder-is z k v one e =
       answered z k v e .remainder
+      ∙ ap (λ (x : Bool). signedOf (shrinks l) (lineLeft x (partsFor side l) (gapSize l))) (ap goesBack one)
       ∙ ap (signedOf (shrinks l)) (line-remainder (partsFor side l) (gapSize l))
       ∙ go (nothingMoves (partsFor side l))
     where
-      none-signed : (s : Bool) → signedOf s 0 ≡ pos 0
-      none-signed true = refl
-      none-signed false = refl
-
       go : (c : Bool) → signedOf (shrinks l) (cond c (gapSize l) 0) ≡ cond c (gapOf l) (pos 0)
       go true = gap-signed
       go false = none-signed (shrinks l)
+
+  -- the remainder in edition 2, which does not go back
+  left-stopped : (z : ℤ) (k v : ℕ) → l .edition ≡ 2 → justified t n l b .answer ≡ justifies z k v → z ≡ signedOf (shrinks l) (lineLeft false (partsFor side l) (gapSize l))
+  unfolding remainderOf
+  left-stopped z k v two e = answered z k v e .remainder ∙ ap (λ (x : Bool). signedOf (shrinks l) (lineLeft x (partsFor side l) (gapSize l))) (ap goesBack two)
+
+  -- WHEN THERE IS A REMAINDER in edition 2: what is past all factors, where no stage has an unlimited glyph, and 0 otherwise
+  pub stopped-is : (z : ℤ) (k v : ℕ) → l .edition ≡ 2 → justified t n l b .answer ≡ justifies z k v
+      → z ≡ signedOf (shrinks l) (cond (noneUnlimited (partsFor side l)) (gapSize l - fullTotal (partsFor side l)) 0)
+  stopped-is z k v two e = left-stopped z k v two e ∙ ap (signedOf (shrinks l)) (line-stopped (partsFor side l) (gapSize l))
+
+  -- every side that takes part has its full factor, each other side 0, and no stage has an unlimited glyph
+  pub record FullFactors : Type 0 where
+    pub before : justified t n l b .lent .before ≡ map (signedOf (shrinks l)) (evens (fullMoves (partsFor side l)))
+    pub after : justified t n l b .lent .after ≡ map (signedOf (shrinks l)) (odds (fullMoves (partsFor side l)))
+    pub limited : noneUnlimited (partsFor side l) ≡ true
+
+  -- FULL FACTORS: what a remainder other than 0 means in edition 2
+  pub stopped-full : (z : ℤ) (k v : ℕ) → l .edition ≡ 2 → justified t n l b .answer ≡ justifies z k v → (z ≡ pos 0 → ⊥) → FullFactors
+  unfolding beforeOf afterOf
+  stopped-full z k v two e other =
+      let w = answered z k v e in
+      let m = ap (λ (x : Bool). lineMoves x (partsFor side l) (gapSize l)) (ap goesBack two) ∙ full .0 in
+      record {
+        before = w .before ∙ ap (λ (x : List ℕ). map (signedOf (shrinks l)) (evens x)) m;
+        after = w .after ∙ ap (λ (x : List ℕ). map (signedOf (shrinks l)) (odds x)) m;
+        limited = full .1;
+      }
+    where
+      above : (x : ℕ) → (x ≡ 0 → ⊥) → 0 < x
+      above zero h = absurd (h refl)
+      above (suc x) h = omega arith
+
+      full : (lineMoves false (partsFor side l) (gapSize l) ≡ fullMoves (partsFor side l)) × (noneUnlimited (partsFor side l) ≡ true)
+      full = line-full (partsFor side l) (gapSize l)
+          (above (lineLeft false (partsFor side l) (gapSize l)) (λ q. other (left-stopped z k v two e ∙ ap (signedOf (shrinks l)) q ∙ none-signed (shrinks l))))
 
   -- ---- what is stored
 
@@ -156,22 +190,23 @@ module _ (t : List ℕ) (n : ℕ) (l : Line) (b : Lent) where
       let e = worked-clear w in
       let e9 = then-second _ _ e in
       let e10 = then-second _ _ e9 in
-      let e11 = then-second _ _ e10 in
+      let e18 = then-second _ _ e10 in
+      let e11 = then-second _ _ e18 in
       let e13 = then-second _ _ (then-second _ _ e11) in
       let e14 = then-second _ _ e13 in
       let stops = rule-holds _ EndlessWalk 0 (then-first _ _ e14) in
       let classes = each-class (walkOf (side .machine) l) refl stops in
       let long = lengths-hold (length (l .glyphs)) _ _ _ _ _ (rule-holds _ UnequalLengths 0 (then-first _ _ e9)) in
       let parts = parts-length side (shrinks l) (l .sizes) (l .glyphs) (classesOf (walkOf (side .machine) l)) (long .0) classes in
-      let moves = line-lengths (partsFor side l) (gapSize l) in
+      let moves = line-lengths (goesBack (l .edition)) (partsFor side l) (gapSize l) in
       record {
         accepted = then-first _ _ e;
         short = leb-true _ _ (rule-holds _ LongLine 0 (then-first _ _ e10));
         known = known-each n (l .glyphs) (rule-holds _ UnknownGlyph 0 (then-first _ _ e13));
         stops = stops;
         classes = classes;
-        before = length-map (beforeMoves (partsFor side l) (gapSize l)) (signedOf (shrinks l)) ∙ moves .0 ∙ parts;
-        after = length-map (afterMoves (partsFor side l) (gapSize l)) (signedOf (shrinks l)) ∙ moves .1 ∙ parts;
+        before = length-map (beforeMoves (goesBack (l .edition)) (partsFor side l) (gapSize l)) (signedOf (shrinks l)) ∙ moves .0 ∙ parts;
+        after = length-map (afterMoves (goesBack (l .edition)) (partsFor side l) (gapSize l)) (signedOf (shrinks l)) ∙ moves .1 ∙ parts;
       }
 
 -- ---- the class walk

@@ -16,7 +16,7 @@ use Rattle.fields.specs.Faults.{_then_, rule}
 use Rattle.units.specs.declared.Units.{Units}
 use Rattle.meaning.specs.Meaning.{Side}
 use Rattle.share.specs.Line.{Glyph, lineFits, lineLeft, beforeMoves, afterMoves, signedOf, sumℤ}
-use Rattle.line_rule.specs.Line.{Line, gapOf, shrinks, gapSize, walkOf, hasStopped, classesOf, entriesOf, partsFor, beforeOf, afterOf, remainderOf}
+use Rattle.line_rule.specs.Line.{Line, goesBack, gapOf, shrinks, gapSize, walkOf, hasStopped, classesOf, entriesOf, partsFor, beforeOf, afterOf, remainderOf}
 use Rattle.line_moves.specs.declared.Shared.{Shared}
 use Rattle.line_moves.specs.declared.Shared.the-variants.{Left, Over}
 use Rattle.line_moves.specs.Parts.{inUnits, SharedOut, SharedGap}
@@ -108,27 +108,27 @@ module _ (s : Side) (n : ℕ) (l : Line) where
 
 -- ---- a gap that was shared
 
-record Done (b : Bool) (g : ℕ) (ps : List Glyph) (z : ℤ) (bs fs : List ℤ) : Type 0 where
+record Done (b back : Bool) (g : ℕ) (ps : List Glyph) (z : ℤ) (bs fs : List ℤ) : Type 0 where
   fits : lineFits ps ≡ true
-  left : z ≡ signedOf b (lineLeft ps g)
-  before : bs ≡ map (signedOf b) (beforeMoves ps g)
-  after : fs ≡ map (signedOf b) (afterMoves ps g)
+  left : z ≡ signedOf b (lineLeft back ps g)
+  before : bs ≡ map (signedOf b) (beforeMoves back ps g)
+  after : fs ≡ map (signedOf b) (afterMoves back ps g)
 
-module _ {b : Bool} {g : ℕ} {ps : List Glyph} {bs fs bs′ fs′ : List ℤ} {sh : Shared} (w : SharedOut b g ps bs fs sh bs′ fs′) where
-  shared-done : (u : Units) → sh ≡ Left u → Done b g ps (u .0) bs′ fs′
+module _ {b back : Bool} {g : ℕ} {ps : List Glyph} {bs fs bs′ fs′ : List ℤ} {sh : Shared} (w : SharedOut b back g ps bs fs sh bs′ fs′) where
+  shared-done : (u : Units) → sh ≡ Left u → Done b back g ps (u .0) bs′ fs′
   shared-done u e = go (lineFits ps) refl (sym e ∙ w .answer) (w .before) (w .after)
     where
-      go : (t : Bool) → lineFits ps ≡ t → Left u ≡ cond t (Left (inUnits (signedOf b (lineLeft ps g)))) Over → bs′ ≡ cond t (map (signedOf b) (beforeMoves ps g)) bs
-          → fs′ ≡ cond t (map (signedOf b) (afterMoves ps g)) fs → Done b g ps (u .0) bs′ fs′
+      go : (t : Bool) → lineFits ps ≡ t → Left u ≡ cond t (Left (inUnits (signedOf b (lineLeft back ps g)))) Over → bs′ ≡ cond t (map (signedOf b) (beforeMoves back ps g)) bs
+          → fs′ ≡ cond t (map (signedOf b) (afterMoves back ps g)) fs → Done b back g ps (u .0) bs′ fs′
       go true q x y v =
-          let z : u ≡ inUnits (signedOf b (lineLeft ps g)) = cc in
+          let z : u ≡ inUnits (signedOf b (lineLeft back ps g)) = cc in
           record { fits = q; left = ap (λ (w : Units). w .0) z; before = y; after = v }
       go false q x y v = let z : _≡_ {A = ℕ} 0 1 = cc in absurd (omega arith)
 
   shared-over : sh ≡ Over → lineFits ps ≡ false
   shared-over e = go (lineFits ps) refl (sym e ∙ w .answer)
     where
-      go : (t : Bool) → lineFits ps ≡ t → Over ≡ cond t (Left (inUnits (signedOf b (lineLeft ps g)))) Over → lineFits ps ≡ false
+      go : (t : Bool) → lineFits ps ≡ t → Over ≡ cond t (Left (inUnits (signedOf b (lineLeft back ps g)))) Over → lineFits ps ≡ false
       go true q x = let z : _≡_ {A = ℕ} 0 1 = cc in absurd (omega arith)
       go false q x = q
 
@@ -139,12 +139,12 @@ signed-small true (suc x) h = record { sfits = omega arith }
 
 module _ (s : Side) (n : ℕ) (l : Line) {g : ℤ} (d : Gapped l g) (k : allKnown n (l .glyphs) ≡ true) (w : hasStopped (walkOf (s .machine) l) ≡ true)
     {held : List ℕ} (eh : held ≡ classesOf (walkOf (s .machine) l)) {bs fs bs′ fs′ : List ℤ} {sh : Shared}
-    (o : SharedGap g s (l .sizes) (l .glyphs) held bs fs sh bs′ fs′) where
+    (o : SharedGap g (l .edition) s (l .sizes) (l .glyphs) held bs fs sh bs′ fs′) where
   -- the gap and the classes are the line's
-  out : SharedOut (shrinks l) (gapSize l) (partsFor s l) bs fs sh bs′ fs′
+  out : SharedOut (shrinks l) (goesBack (l .edition)) (gapSize l) (partsFor s l) bs fs sh bs′ fs′
   out =
-      subst (λ (cs : List ℕ). SharedGap (gapOf l) s (l .sizes) (l .glyphs) cs bs fs sh bs′ fs′) eh
-      (subst (λ (z : ℤ). SharedGap z s (l .sizes) (l .glyphs) held bs fs sh bs′ fs′) (sym (d .gap)) o)
+      subst (λ (cs : List ℕ). SharedGap (gapOf l) (l .edition) s (l .sizes) (l .glyphs) cs bs fs sh bs′ fs′) eh
+      (subst (λ (z : ℤ). SharedGap z (l .edition) s (l .sizes) (l .glyphs) held bs fs sh bs′ fs′) (sym (d .gap)) o)
 
   pub work-over : {v : Worked} {cs : List ℕ} {xs ys : List ℤ} → v ≡ worked.Bad StageTotal 0 → sh ≡ Over → WorkedOut s n l v cs xs ys
   work-over {v} {cs} {xs} {ys} b e = bad-total s n l (d .good) k w b (shared-over out e)
@@ -155,7 +155,7 @@ module _ (s : Side) (n : ℕ) (l : Line) {g : ℤ} (d : Gapped l g) (k : allKnow
     left-fits =
         let r = shared-done out u e in
         let h : gapSize l ≤ 1073741823 = gap-small l (d .good) in
-        subst (SFits w32) (sym (r .left)) (signed-small (shrinks l) (lineLeft (partsFor s l) (gapSize l)) (omega (arith, h, left-small (partsFor s l) (gapSize l))))
+        subst (SFits w32) (sym (r .left)) (signed-small (shrinks l) (lineLeft (goesBack (l .edition)) (partsFor s l) (gapSize l)) (omega (arith, h, left-small (goesBack (l .edition)) (partsFor s l) (gapSize l))))
 
     held-wide : toZ w64 (ofZ w64 (u .0)) ≡ u .0
     held-wide = toZ-ofZ w64 (u .0) (record { sfits = omega (arith, left-fits .sfits) })

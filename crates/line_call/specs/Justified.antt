@@ -1,5 +1,5 @@
--- The call for a line (document 01, "Numbers of refusal", 9 to 16 after the table's, and demand 2): what bars it, in order; the answer; and every lent buffer
--- afterwards.
+-- The call for a line (document 01, "Numbers of refusal", 9 to 16 after the table's, and demand 2; 18 between 10 and 11 by document 02, request 7/14): what bars it, in
+-- order; the answer; and every lent buffer afterwards.
 use Prim.Native.Nat.{ℕ, _<_}
 use mathlib.Core.Bool.{Bool, true, false, cond, _&&_, _||_}
 use mathlib.Core.List.{List, [], _∷_, _++_}
@@ -8,7 +8,7 @@ use lib.IntN.{ℤ, pos}
 use lib.Signed.{leZ}
 use lib.ListN.{length, drop}
 use Rattle.fields.specs.declared.Refusal.{Refusal}
-use Rattle.fields.specs.declared.Refusal.the-variants.{UnequalLengths, LongLine, PointSize, Advances, UnknownGlyph, EndlessWalk, StageTotal, ShortRoom}
+use Rattle.fields.specs.declared.Refusal.the-variants.{UnequalLengths, LongLine, UnknownEdition, PointSize, Advances, UnknownGlyph, EndlessWalk, StageTotal, ShortRoom}
 use Rattle.fields.specs.declared.Fault.{Fault}
 use Rattle.fields.specs.declared.Fault.the-variants.{Clear, Bad}
 use Rattle.fields.specs.Refusals.{numberOf}
@@ -21,7 +21,7 @@ use Rattle.table.specs.Table.{tableFault}
 use Rattle.table.specs.Means.{meaningOf}
 use Rattle.line_call.specs.declared.LineAnswer.{LineAnswer}
 use Rattle.line_call.specs.declared.LineAnswer.the-variants as line
-use Rattle.line_rule.specs.Line.{Line, walkOf, hasStopped, classesOf, entriesOf, partsFor, beforeOf, afterOf, remainderOf, verdictsOf}
+use Rattle.line_rule.specs.Line.{Line, knownEdition, walkOf, hasStopped, classesOf, entriesOf, partsFor, beforeOf, afterOf, remainderOf, verdictsOf}
 
 -- what is lent: a class, a before and an after movement for each glyph, and room for verdicts
 pub record Lent : Type 0 where
@@ -69,11 +69,12 @@ abbrev pub allKnown : ℕ → List ℕ → Bool
 allKnown n [] = true
 allKnown n (g ∷ gs) = (ltb g n || eqb g 0xFFFF) && allKnown n gs
 
--- what can bar a line, in order: 9 to 11, by the lengths of what is lent
+-- what can bar a line, in order: 9, 10, 18 and 11, by the lengths of what is lent
 abbrev pub inputTests : Line → List ℕ → List Fault
 inputTests l lengths =
     rule (equalLengths l lengths) UnequalLengths 0
     ∷ rule (leb (length (l .glyphs)) 1024) LongLine 0
+    ∷ rule (knownEdition (l .edition)) UnknownEdition 0
     ∷ rule (goodSizes (l .sizes)) PointSize 0
     ∷ []
 

@@ -20,6 +20,7 @@ lineBy shape sizes glyphs advances =
       glyphs = glyphs;
       advances = advances;
       target = shape .target;
+      edition = shape .edition;
     }
 
 abbrev pub lentBy : List ℕ → List ℤ → List ℤ → List Verdict → Lent

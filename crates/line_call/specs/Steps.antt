@@ -1,4 +1,4 @@
--- Names for the contracts of the functions inside the crate: the refusals of a line's call in three stretches (the table's and 9 to 11; 12 to 15; 16), and what each
+-- Names for the contracts of the functions inside the crate: the refusals of a line's call in three stretches (the table's, 9, 10, 18 and 11; 12 to 15; 16), and what each
 -- stretch leaves.
 use Prim.Native.Nat.{ℕ}
 use mathlib.Core.Path.{_≡_}
@@ -29,7 +29,7 @@ use Rattle.line_call.specs.declared.Worked.the-variants as worked
 use Rattle.line_call.specs.Justified.{within, noneNegative, goodAdvances, inputTests, workTests, roomTest, firstFault, settled}
 use Rattle.line_call.specs.Settle.{lentBy, settlementIs, settlementIn}
 
--- ---- the table's refusals and 9 to 11
+-- ---- the table's refusals, then 9, 10, 18 and 11
 
 unfoldable pub inputFault : List ℕ → ℕ → Line → List ℕ → Fault
 inputFault t n l lengths = firstFault (tableFault t n ∷ inputTests l lengths)
@@ -39,7 +39,7 @@ inputFault t n l lengths = firstFault (tableFault t n ∷ inputTests l lengths)
 -- a line of which only its advances and its target are said
 abbrev pub measuredLine : List ℤ → ℤ → Line
 measuredLine advances target =
-    record { direction = Horizontal; starts = false; ends = false; sizes = []; glyphs = []; advances = advances; target = target }
+    record { direction = Horizontal; starts = false; ends = false; sizes = []; glyphs = []; advances = advances; target = target; edition = 0 }
 
 abbrev pub sumIn : List ℤ → Sum
 sumIn advances = cond (noneNegative advances && within (sumℤ advances)) (sum.Total (inUnits (sumℤ advances))) sum.Unfit

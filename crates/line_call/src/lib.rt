@@ -122,7 +122,7 @@ fn good_sizes(sizes: &[u32]) -> bool
     true
 }
 
-// The table's refusals, then 9 to 11.
+// The table's refusals, then 9, 10, 18 and 11.
 fn input_fault(
     table: &[u8],
     count: u32,
@@ -144,8 +144,13 @@ fn input_fault(
     let equal = equal_lengths(n, sizes.len(), advances.len(), classes, before, after);
     let lengths = fields::ruled(equal, Refusal::UnequalLengths, 0);
     let short = fields::ruled(n <= LONGEST, Refusal::LongLine, 0);
+    let known = line_rule::known_edition(shape.edition);
+    let edition = fields::ruled(known, Refusal::UnknownEdition, 0);
     let sized = fields::ruled(good_sizes(sizes), Refusal::PointSize, 0);
-    fields::then(table_is, fields::then(lengths, fields::then(short, sized)))
+    fields::then(
+        table_is,
+        fields::then(lengths, fields::then(short, fields::then(edition, sized))),
+    )
 }
 
 // The sum of advances of which none is negative, at most the most that it may be.
