@@ -11,8 +11,8 @@ use Rattle.line_call.specs.Settle.{lentBy}
 use Rattle.just_line.specs.declared.JustLine.{JustLine}
 
 -- a line but for its glyphs, their sizes and advances, as it is handed in
-abbrev pub shapeIn : ℕ → Bool → Bool → ℤ → LineShape
-shapeIn direction starts ends target = record { direction = directionIn direction; starts = starts; ends = ends; target = target }
+abbrev pub shapeIn : ℕ → Bool → Bool → ℕ → ℤ → LineShape
+shapeIn direction starts ends edition target = record { direction = directionIn direction; starts = starts; ends = ends; target = target; edition = edition }
 
 -- a refusal's number and offset, and zeros beside them
 abbrev pub refusedIn : ℕ → ℕ → JustLine

@@ -20,8 +20,8 @@ pub struct JustLine {
 }
 
 // What is handed in of a line beside its glyphs, their sizes and advances.
-fn shape_in(direction: u32, starts: bool, ends: bool, target: i32) -> LineShape
-    ensures { λ r. ⌜ r ≡ shapeIn direction starts ends target ⌝ }
+fn shape_in(direction: u32, starts: bool, ends: bool, edition: u32, target: i32) -> LineShape
+    ensures { λ r. ⌜ r ≡ shapeIn direction starts ends edition target ⌝ }
 {
     let along = types::direction_in(direction);
     LineShape {
@@ -29,6 +29,7 @@ fn shape_in(direction: u32, starts: bool, ends: bool, target: i32) -> LineShape
         starts,
         ends,
         target,
+        edition,
     }
 }
 
@@ -65,6 +66,7 @@ pub extern "C" fn just_justify<'a, 'v>(
     direction: u32,
     starts: bool,
     ends: bool,
+    edition: u32,
     sizes: &'a [u32],
     glyphs: &'a [u16],
     advances: &'a [i32],
@@ -77,11 +79,11 @@ pub extern "C" fn just_justify<'a, 'v>(
     ensures { λ r. ⌜
         calledIs r (now (classes .exit)) (now (before .exit)) (now (after .exit)) (now (verdicts .exit))
         ≡ calledIn (justified (now (table .entry)) count
-        (lineBy (shapeIn direction starts ends target) (now (sizes .entry)) (now (glyphs .entry)) (now (advances .entry)))
+        (lineBy (shapeIn direction starts ends edition target) (now (sizes .entry)) (now (glyphs .entry)) (now (advances .entry)))
         (lentBy (now (classes .entry)) (now (before .entry)) (now (after .entry)) (now (verdicts .entry))))
         ⌝ }
 {
-    let shape = shape_in(direction, starts, ends, target);
+    let shape = shape_in(direction, starts, ends, edition, target);
     let answer = line_justify::justify(
         table,
         count,

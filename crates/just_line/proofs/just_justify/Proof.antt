@@ -75,7 +75,7 @@ use Rattle.just_line.proofs.just_justify.Statement as stated
 use Rattle.just_line.proofs.just_justify.Code as code
 
 abbrev stayed : Stays (call.ended .signature .params) (call.ended .kept)
-stayed = (stay-none-slice (0 ∷ []) tt (plain (λ _. u8)) yes, (stay-none (λ _. u32) yes, (stay-none (λ _. u32) yes, (stay-none (λ _. bool) yes, (stay-none (λ _. bool) yes, (stay-none-slice (0 ∷ []) tt (plain (λ _. u32)) yes, (stay-none-slice (0 ∷ []) tt (plain (λ _. u16)) yes, (stay-none-slice (0 ∷ []) tt (plain (λ _. i32)) yes, (stay-none (λ _. i32) yes, (gave-slice (0 ∷ []) tt (plain (λ _. u8)), (gave-slice (0 ∷ []) tt (plain (λ _. i32)), (gave-slice (0 ∷ []) tt (plain (λ _. i32)), (gave-slice (1 ∷ []) tt (plain (λ _. T.the-row)), tt)))))))))))))
+stayed = (stay-none-slice (0 ∷ []) tt (plain (λ _. u8)) yes, (stay-none (λ _. u32) yes, (stay-none (λ _. u32) yes, (stay-none (λ _. bool) yes, (stay-none (λ _. bool) yes, (stay-none (λ _. u32) yes, (stay-none-slice (0 ∷ []) tt (plain (λ _. u32)) yes, (stay-none-slice (0 ∷ []) tt (plain (λ _. u16)) yes, (stay-none-slice (0 ∷ []) tt (plain (λ _. i32)) yes, (stay-none (λ _. i32) yes, (gave-slice (0 ∷ []) tt (plain (λ _. u8)), (gave-slice (0 ∷ []) tt (plain (λ _. i32)), (gave-slice (0 ∷ []) tt (plain (λ _. i32)), (gave-slice (1 ∷ []) tt (plain (λ _. T.the-row)), tt))))))))))))))
 
 module _ {M : Type 1} (𝓤 : URA M) (H : Heap 𝓤) (A : Atoms 𝓤) (mem : Memory → SProp 𝓤) (run : Routine → Fun 𝓤) where
   -- the contracts that the proof cites
@@ -89,18 +89,18 @@ module _ {M : Type 1} (𝓤 : URA M) (H : Heap 𝓤) (A : Atoms 𝓤) (mem : Mem
   Out = tripleOf 𝓤 H A out.signature (out.spec 𝓤 H A mem run)
 
   -- of what the covered callees ensure, the clause alone
-  shape-of : (nd : ℕ) (st en : Bool) (tg : ℤ) (r : LineShape) → ent 𝓤 (ensured 𝓤 H A shape.ended (shape.clauses 𝓤 H A mem run) tt (nd, (st, (en, (tg, tt)))) tt r) (fact 𝓤 (r ≡ shapeIn nd st en tg))
-  shape-of nd st en tg r = exE 𝓤 _ (λ ws. snd∗ 𝓤 (sem 𝓤 H A (lasts shape.ended tt (nd, (st, (en, (tg, tt)))) ws)) (fact 𝓤 (r ≡ shapeIn nd st en tg)))
+  shape-of : (nd : ℕ) (st en : Bool) (ed : ℕ) (tg : ℤ) (r : LineShape) → ent 𝓤 (ensured 𝓤 H A shape.ended (shape.clauses 𝓤 H A mem run) tt (nd, (st, (en, (ed, (tg, tt))))) tt r) (fact 𝓤 (r ≡ shapeIn nd st en ed tg))
+  shape-of nd st en ed tg r = exE 𝓤 _ (λ ws. snd∗ 𝓤 (sem 𝓤 H A (lasts shape.ended tt (nd, (st, (en, (ed, (tg, tt))))) ws)) (fact 𝓤 (r ≡ shapeIn nd st en ed tg)))
 
   out-of : (r₀ : LineAnswer) (r : JustLine) → ent 𝓤 (ensured 𝓤 H A out.ended (out.clauses 𝓤 H A mem run) tt (r₀, tt) tt r) (fact 𝓤 (r ≡ lineIn (saysLine r₀)))
   out-of r₀ r = exE 𝓤 _ (λ ws. snd∗ 𝓤 (sem 𝓤 H A (lasts out.ended tt (r₀, tt) ws)) (fact 𝓤 (r ≡ lineIn (saysLine r₀))))
 
--- where local i is, of the 24: each is followed by its right to end, the last stands first
+-- where local i is, of the 25: each is followed by its right to end, the last stands first
 abbrev at : ℕ → ℕ
-at i = 2 * (23 - i)
+at i = 2 * (24 - i)
 
 -- κ is the lifetime of all but the list, κ′ the list's
-module _ {M : Type 1} (𝓤 : URA M) (H : Heap 𝓤) (A : Atoms 𝓤) (W : Given 𝓤 H A) (mem : Memory → SProp 𝓤) (run : Routine → Fun 𝓤) (κ κ′ : Lft) (q q′ : Share) (p : RefT (List ℕ)) (cn nd : ℕ) (st en : Bool) (z g : RefT (List ℕ)) (a : RefT (List ℤ)) (tg : ℤ) (c : RefT (List ℕ)) (d f : RefT (List ℤ)) (x : RefT (List Verdict)) where
+module _ {M : Type 1} (𝓤 : URA M) (H : Heap 𝓤) (A : Atoms 𝓤) (W : Given 𝓤 H A) (mem : Memory → SProp 𝓤) (run : Routine → Fun 𝓤) (κ κ′ : Lft) (q q′ : Share) (p : RefT (List ℕ)) (cn nd : ℕ) (st en : Bool) (ed : ℕ) (z g : RefT (List ℕ)) (a : RefT (List ℤ)) (tg : ℤ) (c : RefT (List ℕ)) (d f : RefT (List ℤ)) (x : RefT (List Verdict)) where
   -- the machine values
   abbrev sp : Val
   sp = sliceVal (p .ptr) (length (p .now))
@@ -126,11 +126,11 @@ module _ {M : Type 1} (𝓤 : URA M) (H : Heap 𝓤) (A : Atoms 𝓤) (W : Given
   abbrev s : Val
   s = sliceVal (x .ptr) (length (x .now))
 
-  abbrev args : RefT (List ℕ) × (ℕ × (ℕ × (Bool × (Bool × (RefT (List ℕ) × (RefT (List ℕ) × (RefT (List ℤ) × (ℤ × (RefT (List ℕ) × (RefT (List ℤ) × (RefT (List ℤ) × (RefT (List Verdict) × Unit {0}))))))))))))
-  args = (p, (cn, (nd, (st, (en, (z, (g, (a, (tg, (c, (d, (f, (x, tt)))))))))))))
+  abbrev args : RefT (List ℕ) × (ℕ × (ℕ × (Bool × (Bool × (ℕ × (RefT (List ℕ) × (RefT (List ℕ) × (RefT (List ℤ) × (ℤ × (RefT (List ℕ) × (RefT (List ℤ) × (RefT (List ℤ) × (RefT (List Verdict) × Unit {0})))))))))))))
+  args = (p, (cn, (nd, (st, (en, (ed, (z, (g, (a, (tg, (c, (d, (f, (x, tt))))))))))))))
 
-  abbrev vals : List Val × (List Val × (List Val × (List Val × (List Val × (List Val × (List Val × (List Val × (List Val × (List Val × (List Val × (List Val × (List Val × Unit {0}))))))))))))
-  vals = (sp ∷ [], (vint w32 cn ∷ [], (vint w32 nd ∷ [], (vbool st ∷ [], (vbool en ∷ [], (sz ∷ [], (sg ∷ [], (sa ∷ [], (vint w32 (ofZ w32 tg) ∷ [], (sc ∷ [], (sd ∷ [], (sf ∷ [], (s ∷ [], tt)))))))))))))
+  abbrev vals : List Val × (List Val × (List Val × (List Val × (List Val × (List Val × (List Val × (List Val × (List Val × (List Val × (List Val × (List Val × (List Val × (List Val × Unit {0})))))))))))))
+  vals = (sp ∷ [], (vint w32 cn ∷ [], (vint w32 nd ∷ [], (vbool st ∷ [], (vbool en ∷ [], (vint w32 ed ∷ [], (sz ∷ [], (sg ∷ [], (sa ∷ [], (vint w32 (ofZ w32 tg) ∷ [], (sc ∷ [], (sd ∷ [], (sf ∷ [], (s ∷ [], tt))))))))))))))
 
   abbrev Post : Val → SProp 𝓤
   Post = walkOf 𝓤 H A call.ended stayed (call.clauses 𝓤 H A mem run) .post (((κ, (κ′, tt)), (q, (q′, tt)), tt, args, vals), tt)
@@ -143,22 +143,22 @@ module _ {M : Type 1} (𝓤 : URA M) (H : Heap 𝓤) (A : Atoms 𝓤) (W : Given
   abbrev Slices : Fml
   Slices = fsep (ShrSlice (named 0) κ u8 .own p (sp ∷ [])) (fsep (ShrSlice (named 0) κ u32 .own z (sz ∷ [])) (fsep (ShrSlice (named 0) κ u16 .own g (sg ∷ [])) (fsep (ShrSlice (named 0) κ i32 .own a (sa ∷ [])) (fsep (MutSlice (named 0) κ u8 .own c (sc ∷ [])) (fsep (MutSlice (named 0) κ i32 .own d (sd ∷ [])) (fsep (MutSlice (named 0) κ i32 .own f (sf ∷ [])) (MutSlice (named 1) κ′ T.the-row .own x (s ∷ []))))))))
 
-  module _ (p-room : Room u8 (length (p .now))) (cn-fits : cn < 2 ^ 32) (nd-fits : nd < 2 ^ 32) (z-room : Room u32 (length (z .now))) (g-room : Room u16 (length (g .now))) (a-room : Room i32 (length (a .now))) (tg-fits : mag tg < 2 ^ hbits w32) (c-room : Room u8 (length (c .now))) (d-room : Room i32 (length (d .now))) (f-room : Room i32 (length (f .now))) (room : Room T.the-row (length (x .now))) where
-    exits : (sh : LineShape) (r₀ : LineAnswer) (r : JustLine) (u : Val) (cs : List ℕ) (bs fs : List ℤ) (zs : List Verdict) → sh ≡ shapeIn nd st en tg → Said sh r₀ cs bs fs zs → r ≡ lineIn (saysLine r₀)
+  module _ (p-room : Room u8 (length (p .now))) (cn-fits : cn < 2 ^ 32) (nd-fits : nd < 2 ^ 32) (ed-fits : ed < 2 ^ 32) (z-room : Room u32 (length (z .now))) (g-room : Room u16 (length (g .now))) (a-room : Room i32 (length (a .now))) (tg-fits : mag tg < 2 ^ hbits w32) (c-room : Room u8 (length (c .now))) (d-room : Room i32 (length (d .now))) (f-room : Room i32 (length (f .now))) (room : Room T.the-row (length (x .now))) where
+    exits : (sh : LineShape) (r₀ : LineAnswer) (r : JustLine) (u : Val) (cs : List ℕ) (bs fs : List ℤ) (zs : List Verdict) → sh ≡ shapeIn nd st en ed tg → Said sh r₀ cs bs fs zs → r ≡ lineIn (saysLine r₀)
         → length cs ≡ length (c .now) → length bs ≡ length (d .now) → length fs ≡ length (f .now) → length zs ≡ length (x .now)
         → ent 𝓤 (⋆ 𝓤 H A (‵ (J.the-row .own r (u ∷ [])) ∷ (‵ (flft κ q) ⊛ ‵ (flft κ′ q′) ⊛ ‵ ftrue) ∷ ‵ (finally T.the-row (x .name) zs) ∷ ‵ (finally i32 (f .name) fs) ∷ ‵ (finally i32 (d .name) bs) ∷ ‵ (finally u8 (c .name) cs) ∷ ‵ (ShrSlice (named 0) κ i32 .own a (sa ∷ [])) ∷ ‵ (ShrSlice (named 0) κ u16 .own g (sg ∷ [])) ∷ ‵ (ShrSlice (named 0) κ u32 .own z (sz ∷ [])) ∷ ‵ (ShrSlice (named 0) κ u8 .own p (sp ∷ [])) ∷ [])) (Post u)
     exits sh r₀ r u cs bs fs zs es e eo lc ld lf lz =
         qed W (‵ (J.the-row .own r (u ∷ [])) ∷ (‵ (flft κ q) ⊛ ‵ (flft κ′ q′) ⊛ ‵ ftrue) ∷ ‵ (finally T.the-row (x .name) zs) ∷ ‵ (finally i32 (f .name) fs) ∷ ‵ (finally i32 (d .name) bs) ∷ ‵ (finally u8 (c .name) cs) ∷ ‵ (ShrSlice (named 0) κ i32 .own a (sa ∷ [])) ∷ ‵ (ShrSlice (named 0) κ u16 .own g (sg ∷ [])) ∷ ‵ (ShrSlice (named 0) κ u32 .own z (sz ∷ [])) ∷ ‵ (ShrSlice (named 0) κ u8 .own p (sp ∷ [])) ∷ []) ∵
-        suffices ! _ (ends-at 𝓤 H A call.ended stayed (call.clauses 𝓤 H A mem run) W (((κ, (κ′, tt)), (q, (q′, tt)), tt, args, vals), tt) u r (tt, (tt, (tt, (tt, (tt, (tt, (tt, (tt, (tt, (cs, (bs, (fs, (zs, tt))))))))))))) (tt, (tt, (tt, (tt, (tt, (tt, (tt, (tt, (tt, (lc, (ld, (lf, (lz, tt)))))))))))))) $
+        suffices ! _ (ends-at 𝓤 H A call.ended stayed (call.clauses 𝓤 H A mem run) W (((κ, (κ′, tt)), (q, (q′, tt)), tt, args, vals), tt) u r (tt, (tt, (tt, (tt, (tt, (tt, (tt, (tt, (tt, (tt, (cs, (bs, (fs, (zs, tt)))))))))))))) (tt, (tt, (tt, (tt, (tt, (tt, (tt, (tt, (tt, (tt, (lc, (ld, (lf, (lz, tt))))))))))))))) $
         says ! (called (p .now) cn (z .now) (g .now) (a .now) (lentBy (c .now) (d .now) (f .now) (x .now)) r r₀ cs bs fs zs es e eo) $
-        move ! (1 ∷ []) $ frame ! $ nothing ! $ move ! (2 ∷ 0 ∷ []) $ fjoin ! $ move ! (2 ∷ 0 ∷ []) $ fjoin ! $ move ! (2 ∷ 0 ∷ []) $ fjoin ! $ move ! (2 ∷ 0 ∷ []) $ fjoin ! $ owned ! i32 (Is i32) (sint-makes 𝓤 H A W w32) tg _ (refl, tg-fits) $ fjoin ! $ move ! (2 ∷ 0 ∷ []) $ fjoin ! $ move ! (2 ∷ 0 ∷ []) $ fjoin ! $ move ! (2 ∷ 0 ∷ []) $ fjoin ! $ owned ! bool (Is bool) (bool-makes 𝓤 H A W) en _ refl $ fjoin ! $ owned ! bool (Is bool) (bool-makes 𝓤 H A W) st _ refl $ fjoin ! $ owned ! u32 (Is u32) (uint-makes 𝓤 H A W w32) nd _ (refl, nd-fits) $ fjoin ! $ owned ! u32 (Is u32) (uint-makes 𝓤 H A W w32) cn _ (refl, cn-fits) $ fjoin ! $ move ! (2 ∷ 0 ∷ []) $ fjoin ! $ frame ! $ done !
+        move ! (1 ∷ []) $ frame ! $ nothing ! $ move ! (2 ∷ 0 ∷ []) $ fjoin ! $ move ! (2 ∷ 0 ∷ []) $ fjoin ! $ move ! (2 ∷ 0 ∷ []) $ fjoin ! $ move ! (2 ∷ 0 ∷ []) $ fjoin ! $ owned ! i32 (Is i32) (sint-makes 𝓤 H A W w32) tg _ (refl, tg-fits) $ fjoin ! $ move ! (2 ∷ 0 ∷ []) $ fjoin ! $ move ! (2 ∷ 0 ∷ []) $ fjoin ! $ move ! (2 ∷ 0 ∷ []) $ fjoin ! $ owned ! u32 (Is u32) (uint-makes 𝓤 H A W w32) ed _ (refl, ed-fits) $ fjoin ! $ owned ! bool (Is bool) (bool-makes 𝓤 H A W) en _ refl $ fjoin ! $ owned ! bool (Is bool) (bool-makes 𝓤 H A W) st _ refl $ fjoin ! $ owned ! u32 (Is u32) (uint-makes 𝓤 H A W w32) nd _ (refl, nd-fits) $ fjoin ! $ owned ! u32 (Is u32) (uint-makes 𝓤 H A W w32) cn _ (refl, cn-fits) $ fjoin ! $ move ! (2 ∷ 0 ∷ []) $ fjoin ! $ frame ! $ done !
 
     -- what each callee's triple binds outside, and that the caller has what it asks
     abbrev to-shape : Shape 𝓤 H A mem run .Ghost
-    to-shape = ((tt, tt, tt, (nd, (st, (en, (tg, tt)))), (vint w32 nd ∷ [], (vbool st ∷ [], (vbool en ∷ [], (vint w32 (ofZ w32 tg) ∷ [], tt))))), tt)
+    to-shape = ((tt, tt, tt, (nd, (st, (en, (ed, (tg, tt))))), (vint w32 nd ∷ [], (vbool st ∷ [], (vbool en ∷ [], (vint w32 ed ∷ [], (vint w32 (ofZ w32 tg) ∷ [], tt)))))), tt)
 
     goes-shape : ent 𝓤 (emp 𝓤) (Shape 𝓤 H A mem run .pre to-shape)
-    goes-shape = qed W [] ∵ nothing ! $ owned ! i32 (Is i32) (sint-makes 𝓤 H A W w32) tg _ (refl, tg-fits) $ fjoin ! $ owned ! bool (Is bool) (bool-makes 𝓤 H A W) en _ refl $ fjoin ! $ owned ! bool (Is bool) (bool-makes 𝓤 H A W) st _ refl $ fjoin ! $ owned ! u32 (Is u32) (uint-makes 𝓤 H A W w32) nd _ (refl, nd-fits) $ fjoin ! $ nothing ! $ join ! $ frame ! $ done !
+    goes-shape = qed W [] ∵ nothing ! $ owned ! i32 (Is i32) (sint-makes 𝓤 H A W w32) tg _ (refl, tg-fits) $ fjoin ! $ owned ! u32 (Is u32) (uint-makes 𝓤 H A W w32) ed _ (refl, ed-fits) $ fjoin ! $ owned ! bool (Is bool) (bool-makes 𝓤 H A W) en _ refl $ fjoin ! $ owned ! bool (Is bool) (bool-makes 𝓤 H A W) st _ refl $ fjoin ! $ owned ! u32 (Is u32) (uint-makes 𝓤 H A W w32) nd _ (refl, nd-fits) $ fjoin ! $ nothing ! $ join ! $ frame ! $ done !
 
     abbrev justify-args : LineShape → RefT (List ℕ) × (ℕ × (LineShape × (RefT (List ℕ) × (RefT (List ℕ) × (RefT (List ℤ) × (RefT (List ℕ) × (RefT (List ℤ) × (RefT (List ℤ) × (RefT (List Verdict) × Unit {0})))))))))
     justify-args sh = (p, (cn, (sh, (z, (g, (a, (c, (d, (f, (x, tt))))))))))
@@ -178,59 +178,59 @@ module _ {M : Type 1} (𝓤 : URA M) (H : Heap 𝓤) (A : Atoms 𝓤) (W : Given
     goes-out r₀ w = qed W (‵ (N.the-row .own r₀ (w ∷ [])) ∷ []) ∵ nothing ! $ move ! (1 ∷ 0 ∷ []) $ fjoin ! $ nothing ! $ join ! $ frame ! $ done !
 
     module _ (C : Calls 𝓤 H) (Λ : Loops 𝓤 H) (fm : FmC 𝓤 H (W .laws) C) (known-shape : Triple 𝓤 (C #just-line·shape-in) (Shape 𝓤 H A mem run)) (known-justify : Triple 𝓤 (C #line-justify·justify) (Justify 𝓤 H A mem run)) (known-out : Triple 𝓤 (C #just-line·line-out) (Out 𝓤 H A mem run)) where
-      walk : ent 𝓤 (onEntry 𝓤 H A call.signature (κ, (κ′, tt)) (q, (q′, tt)) args vals) (WpFn 𝓤 H C Λ code.function (sp ∷ vint w32 cn ∷ vint w32 nd ∷ vbool st ∷ vbool en ∷ sz ∷ sg ∷ sa ∷ vint w32 (ofZ w32 tg) ∷ sc ∷ sd ∷ sf ∷ s ∷ []) Post)
+      walk : ent 𝓤 (onEntry 𝓤 H A call.signature (κ, (κ′, tt)) (q, (q′, tt)) args vals) (WpFn 𝓤 H C Λ code.function (sp ∷ vint w32 cn ∷ vint w32 nd ∷ vbool st ∷ vbool en ∷ vint w32 ed ∷ sz ∷ sg ∷ sa ∷ vint w32 (ofZ w32 tg) ∷ sc ∷ sd ∷ sf ∷ s ∷ []) Post)
       walk =
-          qed W ((‵ (flft κ q) ⊛ ‵ (flft κ′ q′) ⊛ ‵ ftrue) ∷ ‵ (owns (ShrSlice (named 0) κ u8 ∷ u32 ∷ u32 ∷ bool ∷ bool ∷ ShrSlice (named 0) κ u32 ∷ ShrSlice (named 0) κ u16 ∷ ShrSlice (named 0) κ i32 ∷ i32 ∷ MutSlice (named 0) κ u8 ∷ MutSlice (named 0) κ i32 ∷ MutSlice (named 0) κ i32 ∷ MutSlice (named 1) κ′ T.the-row ∷ []) args vals) ∷ []) ∵ enter ! C Λ code.function (sp ∷ vint w32 cn ∷ vint w32 nd ∷ vbool st ∷ vbool en ∷ sz ∷ sg ∷ sa ∷ vint w32 (ofZ w32 tg) ∷ sc ∷ sd ∷ sf ∷ s ∷ []) _ $
-          alloc1 ! (λ l₀. alloc1 ! (λ l₁. alloc1 ! (λ l₂. alloc1 ! (λ l₃. alloc1 ! (λ l₄. alloc1 ! (λ l₅. alloc1 ! (λ l₆. alloc1 ! (λ l₇. alloc1 ! (λ l₈. alloc1 ! (λ l₉. alloc1 ! (λ m₀. alloc1 ! (λ m₁. alloc1 ! (λ m₂. alloc1 ! (λ m₃. alloc1 ! (λ m₄. alloc1 ! (λ m₅. alloc1 ! (λ m₆. alloc1 ! (λ m₇. alloc1 ! (λ m₈. alloc1 ! (λ m₉. alloc1 ! (λ n₀. alloc1 ! (λ n₁. alloc1 ! (λ n₂. alloc1 ! (λ n₃. alloc0 ! $ params1 ! $
-          pass1 ! (init ! (at 1) refl (tt, (tt, (record { fits = p-room .0 }, tt)))) $ pass1 ! (init ! (at 2) refl (tt, record { fits = cn-fits })) $ pass1 ! (init ! (at 3) refl (tt, record { fits = nd-fits })) $ pass1 ! (init ! (at 4) refl (tt, tt)) $ pass1 ! (init ! (at 5) refl (tt, tt)) $ pass1 ! (init ! (at 6) refl (tt, (tt, (record { fits = z-room .0 }, tt)))) $ pass1 ! (init ! (at 7) refl (tt, (tt, (record { fits = g-room .0 }, tt)))) $ pass1 ! (init ! (at 8) refl (tt, (tt, (record { fits = a-room .0 }, tt)))) $ pass1 ! (init ! (at 9) refl (sint-lawful 𝓤 H A W w32 .typed tg _ (refl, tg-fits) .0)) $ pass1 ! (init ! (at 10) refl (tt, (tt, (record { fits = c-room .0 }, tt)))) $ pass1 ! (init ! (at 11) refl (tt, (tt, (record { fits = d-room .0 }, tt)))) $ pass1 ! (init ! (at 12) refl (tt, (tt, (record { fits = f-room .0 }, tt)))) $ pass1 ! (init ! (at 13) refl (tt, (tt, (record { fits = room .0 }, tt)))) $ pass0 ! $
-          -- [_23; …; _22; …; … ; _1; …; room for _0; …; the tokens; what the parameters own]
+          qed W ((‵ (flft κ q) ⊛ ‵ (flft κ′ q′) ⊛ ‵ ftrue) ∷ ‵ (owns (ShrSlice (named 0) κ u8 ∷ u32 ∷ u32 ∷ bool ∷ bool ∷ u32 ∷ ShrSlice (named 0) κ u32 ∷ ShrSlice (named 0) κ u16 ∷ ShrSlice (named 0) κ i32 ∷ i32 ∷ MutSlice (named 0) κ u8 ∷ MutSlice (named 0) κ i32 ∷ MutSlice (named 0) κ i32 ∷ MutSlice (named 1) κ′ T.the-row ∷ []) args vals) ∷ []) ∵ enter ! C Λ code.function (sp ∷ vint w32 cn ∷ vint w32 nd ∷ vbool st ∷ vbool en ∷ vint w32 ed ∷ sz ∷ sg ∷ sa ∷ vint w32 (ofZ w32 tg) ∷ sc ∷ sd ∷ sf ∷ s ∷ []) _ $
+          alloc1 ! (λ l₀. alloc1 ! (λ l₁. alloc1 ! (λ l₂. alloc1 ! (λ l₃. alloc1 ! (λ l₄. alloc1 ! (λ l₅. alloc1 ! (λ l₆. alloc1 ! (λ l₇. alloc1 ! (λ l₈. alloc1 ! (λ l₉. alloc1 ! (λ m₀. alloc1 ! (λ m₁. alloc1 ! (λ m₂. alloc1 ! (λ m₃. alloc1 ! (λ m₄. alloc1 ! (λ m₅. alloc1 ! (λ m₆. alloc1 ! (λ m₇. alloc1 ! (λ m₈. alloc1 ! (λ m₉. alloc1 ! (λ n₀. alloc1 ! (λ n₁. alloc1 ! (λ n₂. alloc1 ! (λ n₃. alloc1 ! (λ n₄. alloc0 ! $ params1 ! $
+          pass1 ! (init ! (at 1) refl (tt, (tt, (record { fits = p-room .0 }, tt)))) $ pass1 ! (init ! (at 2) refl (tt, record { fits = cn-fits })) $ pass1 ! (init ! (at 3) refl (tt, record { fits = nd-fits })) $ pass1 ! (init ! (at 4) refl (tt, tt)) $ pass1 ! (init ! (at 5) refl (tt, tt)) $ pass1 ! (init ! (at 6) refl (tt, record { fits = ed-fits })) $ pass1 ! (init ! (at 7) refl (tt, (tt, (record { fits = z-room .0 }, tt)))) $ pass1 ! (init ! (at 8) refl (tt, (tt, (record { fits = g-room .0 }, tt)))) $ pass1 ! (init ! (at 9) refl (tt, (tt, (record { fits = a-room .0 }, tt)))) $ pass1 ! (init ! (at 10) refl (sint-lawful 𝓤 H A W w32 .typed tg _ (refl, tg-fits) .0)) $ pass1 ! (init ! (at 11) refl (tt, (tt, (record { fits = c-room .0 }, tt)))) $ pass1 ! (init ! (at 12) refl (tt, (tt, (record { fits = d-room .0 }, tt)))) $ pass1 ! (init ! (at 13) refl (tt, (tt, (record { fits = f-room .0 }, tt)))) $ pass1 ! (init ! (at 14) refl (tt, (tt, (record { fits = room .0 }, tt)))) $ pass0 ! $
+          -- [_24; …; _23; …; … ; _1; …; room for _0; …; the tokens; what the parameters own]
           use0 W (raw (Shape 𝓤 H A mem run .pre to-shape)) goes-shape $
-          calls-at ! fm (Shape 𝓤 H A mem run) known-shape to-shape (and-then ! (load ! (from ! (stop !)) (look ! (1 + at 3) refl)) (and-then ! (load ! (from ! (stop !)) (look ! (1 + at 4) refl)) (and-then ! (load ! (from ! (stop !)) (look ! (1 + at 5) refl)) (and-then ! (load ! (from ! (stop !)) (look ! (1 + at 9) refl)) (no-more !))))) (λ v.
-          use1 W (later (some (λ (r : LineShape). (‵ ftrue ⊛ ‵ (L.the-row .own r (v ∷ []))) ⊛ raw (ensured 𝓤 H A shape.ended (shape.clauses 𝓤 H A mem run) tt (nd, (st, (en, (tg, tt)))) tt r)))) (id⊢ 𝓤 _) $ await ! tt $ pick ! (λ sh.
-          split ! $ move ! (1 ∷ []) $ use1 W (raw (fact 𝓤 (sh ≡ shapeIn nd st en tg))) (shape-of 𝓤 H A mem run nd st en tg sh) $ heard ! (sh ≡ shapeIn nd st en tg) (λ es. split ! $ drop ! $
-          peeks ! L.the-row (Is L.the-row) (shows 𝓤 H A L.the-row) sh (v ∷ []) (λ iss. land ! (from ! (stop !)) (init ! (1 + at 14) refl (LL.lawful L.the-type L′.the-laws 𝓤 H A W .typed sh _ iss .0)) $
-          -- [the shape; _23 at 1; …; the tokens; what the parameters own]
-          assigns ! (addr ! (from ! (fld ! refl (hop ! (look-in ! (1 + at 10) (sub ! 0 refl (whole !))) (stop !))))) (from ! (stop !)) (init ! (1 + at 16) refl (tt, tt)) $ assigns ! (agg ! (and-then ! (load ! (from ! (stop !)) (look ! (1 + at 16) refl)) (and-then ! (load ! (from ! (fld ! refl (stop !))) (look-in ! (1 + at 10) (sub ! 1 refl (whole !)))) (no-more !)))) (from ! (stop !)) (init ! (1 + at 17) refl (tt, (tt, (record { fits = c-room .0 }, tt)))) $
-          assigns ! (addr ! (from ! (fld ! refl (hop ! (look-in ! (1 + at 11) (sub ! 0 refl (whole !))) (stop !))))) (from ! (stop !)) (init ! (1 + at 18) refl (tt, tt)) $ assigns ! (agg ! (and-then ! (load ! (from ! (stop !)) (look ! (1 + at 18) refl)) (and-then ! (load ! (from ! (fld ! refl (stop !))) (look-in ! (1 + at 11) (sub ! 1 refl (whole !)))) (no-more !)))) (from ! (stop !)) (init ! (1 + at 19) refl (tt, (tt, (record { fits = d-room .0 }, tt)))) $
-          assigns ! (addr ! (from ! (fld ! refl (hop ! (look-in ! (1 + at 12) (sub ! 0 refl (whole !))) (stop !))))) (from ! (stop !)) (init ! (1 + at 20) refl (tt, tt)) $ assigns ! (agg ! (and-then ! (load ! (from ! (stop !)) (look ! (1 + at 20) refl)) (and-then ! (load ! (from ! (fld ! refl (stop !))) (look-in ! (1 + at 12) (sub ! 1 refl (whole !)))) (no-more !)))) (from ! (stop !)) (init ! (1 + at 21) refl (tt, (tt, (record { fits = f-room .0 }, tt)))) $
-          assigns ! (addr ! (from ! (fld ! refl (hop ! (look-in ! (1 + at 13) (sub ! 0 refl (whole !))) (stop !))))) (from ! (stop !)) (init ! (1 + at 22) refl (tt, tt)) $ assigns ! (agg ! (and-then ! (load ! (from ! (stop !)) (look ! (1 + at 22) refl)) (and-then ! (load ! (from ! (fld ! refl (stop !))) (look-in ! (1 + at 13) (sub ! 1 refl (whole !)))) (no-more !)))) (from ! (stop !)) (init ! (1 + at 23) refl (tt, (tt, (record { fits = room .0 }, tt)))) $
-          move ! ((4 + at 0) ∷ []) $ fsplit ! $ move ! (1 ∷ []) $ fsplit ! $ drop ! $ fsplit ! $ drop ! $ fsplit ! $ drop ! $ fsplit ! $ drop ! $ fsplit ! $ move ! (1 ∷ []) $ fsplit ! $ move ! (1 ∷ []) $ fsplit ! $ move ! (1 ∷ []) $ fsplit ! $ drop ! $ fsplit ! $ move ! (1 ∷ []) $ fsplit ! $ move ! (1 ∷ []) $ fsplit ! $ move ! (1 ∷ []) $ fsplit ! $ move ! (1 ∷ []) $ drop ! $
-          -- `justify`: [the list's; after's; before's; classes's; advances's; glyphs's; sizes's; table's; the shape; _23 at 9; …; the tokens]; what is only read is copied, and stays
+          calls-at ! fm (Shape 𝓤 H A mem run) known-shape to-shape (and-then ! (load ! (from ! (stop !)) (look ! (1 + at 3) refl)) (and-then ! (load ! (from ! (stop !)) (look ! (1 + at 4) refl)) (and-then ! (load ! (from ! (stop !)) (look ! (1 + at 5) refl)) (and-then ! (load ! (from ! (stop !)) (look ! (1 + at 6) refl)) (and-then ! (load ! (from ! (stop !)) (look ! (1 + at 10) refl)) (no-more !)))))) (λ v.
+          use1 W (later (some (λ (r : LineShape). (‵ ftrue ⊛ ‵ (L.the-row .own r (v ∷ []))) ⊛ raw (ensured 𝓤 H A shape.ended (shape.clauses 𝓤 H A mem run) tt (nd, (st, (en, (ed, (tg, tt))))) tt r)))) (id⊢ 𝓤 _) $ await ! tt $ pick ! (λ sh.
+          split ! $ move ! (1 ∷ []) $ use1 W (raw (fact 𝓤 (sh ≡ shapeIn nd st en ed tg))) (shape-of 𝓤 H A mem run nd st en ed tg sh) $ heard ! (sh ≡ shapeIn nd st en ed tg) (λ es. split ! $ drop ! $
+          peeks ! L.the-row (Is L.the-row) (shows 𝓤 H A L.the-row) sh (v ∷ []) (λ iss. land ! (from ! (stop !)) (init ! (1 + at 15) refl (LL.lawful L.the-type L′.the-laws 𝓤 H A W .typed sh _ iss .0)) $
+          -- [the shape; _24 at 1; …; the tokens; what the parameters own]
+          assigns ! (addr ! (from ! (fld ! refl (hop ! (look-in ! (1 + at 11) (sub ! 0 refl (whole !))) (stop !))))) (from ! (stop !)) (init ! (1 + at 17) refl (tt, tt)) $ assigns ! (agg ! (and-then ! (load ! (from ! (stop !)) (look ! (1 + at 17) refl)) (and-then ! (load ! (from ! (fld ! refl (stop !))) (look-in ! (1 + at 11) (sub ! 1 refl (whole !)))) (no-more !)))) (from ! (stop !)) (init ! (1 + at 18) refl (tt, (tt, (record { fits = c-room .0 }, tt)))) $
+          assigns ! (addr ! (from ! (fld ! refl (hop ! (look-in ! (1 + at 12) (sub ! 0 refl (whole !))) (stop !))))) (from ! (stop !)) (init ! (1 + at 19) refl (tt, tt)) $ assigns ! (agg ! (and-then ! (load ! (from ! (stop !)) (look ! (1 + at 19) refl)) (and-then ! (load ! (from ! (fld ! refl (stop !))) (look-in ! (1 + at 12) (sub ! 1 refl (whole !)))) (no-more !)))) (from ! (stop !)) (init ! (1 + at 20) refl (tt, (tt, (record { fits = d-room .0 }, tt)))) $
+          assigns ! (addr ! (from ! (fld ! refl (hop ! (look-in ! (1 + at 13) (sub ! 0 refl (whole !))) (stop !))))) (from ! (stop !)) (init ! (1 + at 21) refl (tt, tt)) $ assigns ! (agg ! (and-then ! (load ! (from ! (stop !)) (look ! (1 + at 21) refl)) (and-then ! (load ! (from ! (fld ! refl (stop !))) (look-in ! (1 + at 13) (sub ! 1 refl (whole !)))) (no-more !)))) (from ! (stop !)) (init ! (1 + at 22) refl (tt, (tt, (record { fits = f-room .0 }, tt)))) $
+          assigns ! (addr ! (from ! (fld ! refl (hop ! (look-in ! (1 + at 14) (sub ! 0 refl (whole !))) (stop !))))) (from ! (stop !)) (init ! (1 + at 23) refl (tt, tt)) $ assigns ! (agg ! (and-then ! (load ! (from ! (stop !)) (look ! (1 + at 23) refl)) (and-then ! (load ! (from ! (fld ! refl (stop !))) (look-in ! (1 + at 14) (sub ! 1 refl (whole !)))) (no-more !)))) (from ! (stop !)) (init ! (1 + at 24) refl (tt, (tt, (record { fits = room .0 }, tt)))) $
+          move ! ((4 + at 0) ∷ []) $ fsplit ! $ move ! (1 ∷ []) $ fsplit ! $ drop ! $ fsplit ! $ drop ! $ fsplit ! $ drop ! $ fsplit ! $ drop ! $ fsplit ! $ drop ! $ fsplit ! $ move ! (1 ∷ []) $ fsplit ! $ move ! (1 ∷ []) $ fsplit ! $ move ! (1 ∷ []) $ fsplit ! $ drop ! $ fsplit ! $ move ! (1 ∷ []) $ fsplit ! $ move ! (1 ∷ []) $ fsplit ! $ move ! (1 ∷ []) $ fsplit ! $ move ! (1 ∷ []) $ drop ! $
+          -- `justify`: [the list's; after's; before's; classes's; advances's; glyphs's; sizes's; table's; the shape; _24 at 9; …; the tokens]; what is only read is copied, and stays
           move ! (7 ∷ []) $ use1 W (‵ (ShrSlice (named 0) κ u8 .own p (sp ∷ [])) ⊛ ‵ (ShrSlice (named 0) κ u8 .own p (sp ∷ []))) (shr-slice-copy 𝓤 H A W (named 0) κ u8 .twice p (sp ∷ [])) $ split ! $ move ! (8 ∷ []) $ use1 W (‵ (ShrSlice (named 0) κ u32 .own z (sz ∷ [])) ⊛ ‵ (ShrSlice (named 0) κ u32 .own z (sz ∷ []))) (shr-slice-copy 𝓤 H A W (named 0) κ u32 .twice z (sz ∷ [])) $ split ! $ move ! (9 ∷ []) $ use1 W (‵ (ShrSlice (named 0) κ u16 .own g (sg ∷ [])) ⊛ ‵ (ShrSlice (named 0) κ u16 .own g (sg ∷ []))) (shr-slice-copy 𝓤 H A W (named 0) κ u16 .twice g (sg ∷ [])) $ split ! $ move ! (10 ∷ []) $ use1 W (‵ (ShrSlice (named 0) κ i32 .own a (sa ∷ [])) ⊛ ‵ (ShrSlice (named 0) κ i32 .own a (sa ∷ []))) (shr-slice-copy 𝓤 H A W (named 0) κ i32 .twice a (sa ∷ [])) $ split ! $
           move ! (9 ∷ 8 ∷ []) $ fjoin ! $ move ! (9 ∷ 0 ∷ []) $ fjoin ! $ move ! (9 ∷ 0 ∷ []) $ fjoin ! $ move ! (1 ∷ 0 ∷ []) $ fjoin ! $ move ! (2 ∷ 0 ∷ []) $ fjoin ! $ move ! (3 ∷ 0 ∷ []) $ fjoin ! $ move ! (4 ∷ 0 ∷ []) $ fjoin ! $
           move ! ((8 + at 0) ∷ 5 ∷ 0 ∷ []) $ use3 W (raw (Justify 𝓤 H A mem run .pre (to-justify sh v))) (goes-justify sh v) $
-          -- [its `pre`; advances's; glyphs's; sizes's; table's; _23 at 5; …]
-          calls-at ! fm (Justify 𝓤 H A mem run) known-justify (to-justify sh v) (and-then ! (load ! (from ! (stop !)) (look ! (5 + at 1) refl)) (and-then ! (load ! (from ! (stop !)) (look ! (5 + at 2) refl)) (and-then ! (load ! (from ! (stop !)) (look ! (5 + at 14) refl)) (and-then ! (load ! (from ! (stop !)) (look ! (5 + at 6) refl)) (and-then ! (load ! (from ! (stop !)) (look ! (5 + at 7) refl)) (and-then ! (load ! (from ! (stop !)) (look ! (5 + at 8) refl)) (and-then ! (load ! (from ! (stop !)) (look ! (5 + at 17) refl)) (and-then ! (load ! (from ! (stop !)) (look ! (5 + at 19) refl)) (and-then ! (load ! (from ! (stop !)) (look ! (5 + at 21) refl)) (and-then ! (load ! (from ! (stop !)) (look ! (5 + at 23) refl)) (no-more !))))))))))) (λ w.
+          -- [its `pre`; advances's; glyphs's; sizes's; table's; _24 at 5; …]
+          calls-at ! fm (Justify 𝓤 H A mem run) known-justify (to-justify sh v) (and-then ! (load ! (from ! (stop !)) (look ! (5 + at 1) refl)) (and-then ! (load ! (from ! (stop !)) (look ! (5 + at 2) refl)) (and-then ! (load ! (from ! (stop !)) (look ! (5 + at 15) refl)) (and-then ! (load ! (from ! (stop !)) (look ! (5 + at 7) refl)) (and-then ! (load ! (from ! (stop !)) (look ! (5 + at 8) refl)) (and-then ! (load ! (from ! (stop !)) (look ! (5 + at 9) refl)) (and-then ! (load ! (from ! (stop !)) (look ! (5 + at 18) refl)) (and-then ! (load ! (from ! (stop !)) (look ! (5 + at 20) refl)) (and-then ! (load ! (from ! (stop !)) (look ! (5 + at 22) refl)) (and-then ! (load ! (from ! (stop !)) (look ! (5 + at 24) refl)) (no-more !))))))))))) (λ w.
           use1 W (later (some (λ (r : LineAnswer). ((‵ (flft κ q) ⊛ ‵ (flft κ′ q′) ⊛ ‵ ftrue) ⊛ ‵ (N.the-row .own r (w ∷ []))) ⊛ raw (ensured 𝓤 H A justify.ended (justify.clauses 𝓤 H A mem run) (κ, (κ′, tt)) (justify-args sh) tt r)))) (id⊢ 𝓤 _) $ await ! tt $ pick ! (λ r₀.
           split ! $ move ! (1 ∷ []) $ use1 W (some (λ (ls : Unit {0} × (Unit {0} × (Unit {0} × (Unit {0} × (Unit {0} × (Unit {0} × (List ℕ × (List ℤ × (List ℤ × (List Verdict × Unit {0})))))))))). ‵ (lasts justify.ended (κ, (κ′, tt)) (justify-args sh) ls) ⊛ raw (fact 𝓤 (Said sh r₀ (ls .1 .1 .1 .1 .1 .1 .0) (ls .1 .1 .1 .1 .1 .1 .1 .0) (ls .1 .1 .1 .1 .1 .1 .1 .1 .0) (ls .1 .1 .1 .1 .1 .1 .1 .1 .1 .0))))) (id⊢ 𝓤 _) $ pick ! (λ ls.
           split ! $ move ! (1 ∷ []) $ heard ! (Said sh r₀ (ls .1 .1 .1 .1 .1 .1 .0) (ls .1 .1 .1 .1 .1 .1 .1 .0) (ls .1 .1 .1 .1 .1 .1 .1 .1 .0) (ls .1 .1 .1 .1 .1 .1 .1 .1 .1 .0)) (λ e. fsplit ! $ drop ! $ fsplit ! $ drop ! $ fsplit ! $ drop ! $ fsplit ! $ drop ! $ fsplit ! $ drop ! $ fsplit ! $ drop ! $
           fsplit ! $ fsplit ! $ move ! (1 ∷ []) $ feqL ! (λ lc. move ! (1 ∷ []) $ fsplit ! $ fsplit ! $ move ! (1 ∷ []) $ feqL ! (λ ld. move ! (1 ∷ []) $ fsplit ! $ fsplit ! $ move ! (1 ∷ []) $ feqL ! (λ lf. move ! (1 ∷ []) $ fsplit ! $ fsplit ! $ move ! (1 ∷ []) $ feqL ! (λ lz. move ! (1 ∷ []) $ drop ! $
-          -- [the last list; last after; last before; last classes; the tokens and the answer; advances's; glyphs's; sizes's; table's; _23 at 9; …]
-          move ! (4 ∷ []) $ split ! $ move ! (1 ∷ []) $ peeks ! N.the-row (Is N.the-row) (shows 𝓤 H A N.the-row) r₀ (w ∷ []) (λ is. land ! (from ! (stop !)) (init ! (10 + at 15) refl (EL.lawful N.the-type N′.the-laws 𝓤 H A W tt .typed r₀ _ is .0)) $
-          -- `line_out`: [the answer; the tokens; the last list; last after; last before; last classes; advances's; glyphs's; sizes's; table's; _23 at 10; …]
+          -- [the last list; last after; last before; last classes; the tokens and the answer; advances's; glyphs's; sizes's; table's; _24 at 9; …]
+          move ! (4 ∷ []) $ split ! $ move ! (1 ∷ []) $ peeks ! N.the-row (Is N.the-row) (shows 𝓤 H A N.the-row) r₀ (w ∷ []) (λ is. land ! (from ! (stop !)) (init ! (10 + at 16) refl (EL.lawful N.the-type N′.the-laws 𝓤 H A W tt .typed r₀ _ is .0)) $
+          -- `line_out`: [the answer; the tokens; the last list; last after; last before; last classes; advances's; glyphs's; sizes's; table's; _24 at 10; …]
           use1 W (raw (Out 𝓤 H A mem run .pre (to-out r₀ w))) (goes-out r₀ w) $
-          calls-at ! fm (Out 𝓤 H A mem run) known-out (to-out r₀ w) (and-then ! (load ! (from ! (stop !)) (look ! (10 + at 15) refl)) (no-more !)) (λ u.
+          calls-at ! fm (Out 𝓤 H A mem run) known-out (to-out r₀ w) (and-then ! (load ! (from ! (stop !)) (look ! (10 + at 16) refl)) (no-more !)) (λ u.
           use1 W (later (some (λ (r : JustLine). (‵ ftrue ⊛ ‵ (J.the-row .own r (u ∷ []))) ⊛ raw (ensured 𝓤 H A out.ended (out.clauses 𝓤 H A mem run) tt (r₀, tt) tt r)))) (id⊢ 𝓤 _) $ await ! tt $ pick ! (λ r.
           split ! $ move ! (1 ∷ []) $ use1 W (raw (fact 𝓤 (r ≡ lineIn (saysLine r₀)))) (out-of 𝓤 H A mem run r₀ r) $ heard ! (r ≡ lineIn (saysLine r₀)) (λ eo. split ! $ drop ! $
           peeks ! J.the-row (Is J.the-row) (shows 𝓤 H A J.the-row) r (u ∷ []) (λ is′. land ! (from ! (stop !)) (init ! (10 + at 0) refl (LL.lawful J.the-type J′.the-laws 𝓤 H A W .typed r _ is′ .0)) $
-          returns ! (look ! (10 + at 0) refl) $ forget ! (10 + at 23) refl $ forget ! (10 + at 22) refl $ forget ! (10 + at 21) refl $ forget ! (10 + at 20) refl $ forget ! (10 + at 19) refl $ forget ! (10 + at 18) refl $ forget ! (10 + at 17) refl $ forget ! (10 + at 16) refl $ forget ! (10 + at 15) refl $ forget ! (10 + at 14) refl $ forget ! (10 + at 13) refl $ forget ! (10 + at 12) refl $ forget ! (10 + at 11) refl $ forget ! (10 + at 10) refl $ forget ! (10 + at 9) refl $ forget ! (10 + at 8) refl $ forget ! (10 + at 7) refl $ forget ! (10 + at 6) refl $ forget ! (10 + at 5) refl $ forget ! (10 + at 4) refl $ forget ! (10 + at 3) refl $ forget ! (10 + at 2) refl $ forget ! (10 + at 1) refl $ forget ! (10 + at 0) refl $
-          move ! ((10 + at 0) ∷ (11 + at 0) ∷ []) $ free1 ! $ move ! ((10 + at 1) ∷ (11 + at 1) ∷ []) $ free1 ! $ move ! ((10 + at 2) ∷ (11 + at 2) ∷ []) $ free1 ! $ move ! ((10 + at 3) ∷ (11 + at 3) ∷ []) $ free1 ! $ move ! ((10 + at 4) ∷ (11 + at 4) ∷ []) $ free1 ! $ move ! ((10 + at 5) ∷ (11 + at 5) ∷ []) $ free1 ! $ move ! ((10 + at 6) ∷ (11 + at 6) ∷ []) $ free1 ! $ move ! ((10 + at 7) ∷ (11 + at 7) ∷ []) $ free1 ! $ move ! ((10 + at 8) ∷ (11 + at 8) ∷ []) $ free1 ! $ move ! ((10 + at 9) ∷ (11 + at 9) ∷ []) $ free1 ! $ move ! ((10 + at 10) ∷ (11 + at 10) ∷ []) $ free1 ! $ move ! ((10 + at 11) ∷ (11 + at 11) ∷ []) $ free1 ! $ move ! ((10 + at 12) ∷ (11 + at 12) ∷ []) $ free1 ! $ move ! ((10 + at 13) ∷ (11 + at 13) ∷ []) $ free1 ! $ move ! ((10 + at 14) ∷ (11 + at 14) ∷ []) $ free1 ! $ move ! ((10 + at 15) ∷ (11 + at 15) ∷ []) $ free1 ! $ move ! ((10 + at 16) ∷ (11 + at 16) ∷ []) $ free1 ! $ move ! ((10 + at 17) ∷ (11 + at 17) ∷ []) $ free1 ! $ move ! ((10 + at 18) ∷ (11 + at 18) ∷ []) $ free1 ! $ move ! ((10 + at 19) ∷ (11 + at 19) ∷ []) $ free1 ! $ move ! ((10 + at 20) ∷ (11 + at 20) ∷ []) $ free1 ! $ move ! ((10 + at 21) ∷ (11 + at 21) ∷ []) $ free1 ! $ move ! ((10 + at 22) ∷ (11 + at 22) ∷ []) $ free1 ! $ move ! ((10 + at 23) ∷ (11 + at 23) ∷ []) $ free1 ! $ free0 ! $
-          keep ! (0 ∷ 1 ∷ 2 ∷ 3 ∷ 4 ∷ 5 ∷ 6 ∷ 7 ∷ 8 ∷ 9 ∷ []) $ by ! (exits sh r₀ r u (ls .1 .1 .1 .1 .1 .1 .0) (ls .1 .1 .1 .1 .1 .1 .1 .0) (ls .1 .1 .1 .1 .1 .1 .1 .1 .0) (ls .1 .1 .1 .1 .1 .1 .1 .1 .1 .0) es e eo lc ld lf lz))))))))))))))))))))))))))))))))))))))))))
+          returns ! (look ! (10 + at 0) refl) $ forget ! (10 + at 24) refl $ forget ! (10 + at 23) refl $ forget ! (10 + at 22) refl $ forget ! (10 + at 21) refl $ forget ! (10 + at 20) refl $ forget ! (10 + at 19) refl $ forget ! (10 + at 18) refl $ forget ! (10 + at 17) refl $ forget ! (10 + at 16) refl $ forget ! (10 + at 15) refl $ forget ! (10 + at 14) refl $ forget ! (10 + at 13) refl $ forget ! (10 + at 12) refl $ forget ! (10 + at 11) refl $ forget ! (10 + at 10) refl $ forget ! (10 + at 9) refl $ forget ! (10 + at 8) refl $ forget ! (10 + at 7) refl $ forget ! (10 + at 6) refl $ forget ! (10 + at 5) refl $ forget ! (10 + at 4) refl $ forget ! (10 + at 3) refl $ forget ! (10 + at 2) refl $ forget ! (10 + at 1) refl $ forget ! (10 + at 0) refl $
+          move ! ((10 + at 0) ∷ (11 + at 0) ∷ []) $ free1 ! $ move ! ((10 + at 1) ∷ (11 + at 1) ∷ []) $ free1 ! $ move ! ((10 + at 2) ∷ (11 + at 2) ∷ []) $ free1 ! $ move ! ((10 + at 3) ∷ (11 + at 3) ∷ []) $ free1 ! $ move ! ((10 + at 4) ∷ (11 + at 4) ∷ []) $ free1 ! $ move ! ((10 + at 5) ∷ (11 + at 5) ∷ []) $ free1 ! $ move ! ((10 + at 6) ∷ (11 + at 6) ∷ []) $ free1 ! $ move ! ((10 + at 7) ∷ (11 + at 7) ∷ []) $ free1 ! $ move ! ((10 + at 8) ∷ (11 + at 8) ∷ []) $ free1 ! $ move ! ((10 + at 9) ∷ (11 + at 9) ∷ []) $ free1 ! $ move ! ((10 + at 10) ∷ (11 + at 10) ∷ []) $ free1 ! $ move ! ((10 + at 11) ∷ (11 + at 11) ∷ []) $ free1 ! $ move ! ((10 + at 12) ∷ (11 + at 12) ∷ []) $ free1 ! $ move ! ((10 + at 13) ∷ (11 + at 13) ∷ []) $ free1 ! $ move ! ((10 + at 14) ∷ (11 + at 14) ∷ []) $ free1 ! $ move ! ((10 + at 15) ∷ (11 + at 15) ∷ []) $ free1 ! $ move ! ((10 + at 16) ∷ (11 + at 16) ∷ []) $ free1 ! $ move ! ((10 + at 17) ∷ (11 + at 17) ∷ []) $ free1 ! $ move ! ((10 + at 18) ∷ (11 + at 18) ∷ []) $ free1 ! $ move ! ((10 + at 19) ∷ (11 + at 19) ∷ []) $ free1 ! $ move ! ((10 + at 20) ∷ (11 + at 20) ∷ []) $ free1 ! $ move ! ((10 + at 21) ∷ (11 + at 21) ∷ []) $ free1 ! $ move ! ((10 + at 22) ∷ (11 + at 22) ∷ []) $ free1 ! $ move ! ((10 + at 23) ∷ (11 + at 23) ∷ []) $ free1 ! $ move ! ((10 + at 24) ∷ (11 + at 24) ∷ []) $ free1 ! $ free0 ! $
+          keep ! (0 ∷ 1 ∷ 2 ∷ 3 ∷ 4 ∷ 5 ∷ 6 ∷ 7 ∷ 8 ∷ 9 ∷ []) $ by ! (exits sh r₀ r u (ls .1 .1 .1 .1 .1 .1 .0) (ls .1 .1 .1 .1 .1 .1 .1 .0) (ls .1 .1 .1 .1 .1 .1 .1 .1 .0) (ls .1 .1 .1 .1 .1 .1 .1 .1 .1 .0) es e eo lc ld lf lz)))))))))))))))))))))))))))))))))))))))))))
 
 module _ {M : Type 1} (𝓤 : URA M) (H : Heap 𝓤) (A : Atoms 𝓤) (W : Given 𝓤 H A) (mem : Memory → SProp 𝓤) (run : Routine → Fun 𝓤) where
   call-walks : (C : Calls 𝓤 H) (Λ : Loops 𝓤 H) → FmC 𝓤 H (W .laws) C → Triple 𝓤 (C #just-line·shape-in) (Shape 𝓤 H A mem run) → Triple 𝓤 (C #line-justify·justify) (Justify 𝓤 H A mem run) → Triple 𝓤 (C #just-line·line-out) (Out 𝓤 H A mem run)
       → Walks 𝓤 H A call.ended stayed (WpFn 𝓤 H C Λ code.function) (call.clauses 𝓤 H A mem run)
   call-walks C Λ fm known-shape known-justify known-out = walked 𝓤 H A call.ended stayed (call.clauses 𝓤 H A mem run) (WpFn 𝓤 H C Λ code.function)
-      (λ κs. (slice-vals, (uint-vals w32, (uint-vals w32, (bool-vals, (bool-vals, (slice-vals, (slice-vals, (slice-vals, (sint-vals w32, (slice-vals, (slice-vals, (slice-vals, (slice-vals, tt))))))))))))))
-      (λ κs. (shr-slice-tells (named 0) (κs .0) u8, (uint-tells w32, (uint-tells w32, (bool-tells, (bool-tells, (shr-slice-tells (named 0) (κs .0) u32, (shr-slice-tells (named 0) (κs .0) u16, (shr-slice-tells (named 0) (κs .0) i32, (sint-tells w32, (mut-slice-tells (named 0) (κs .0) u8, (mut-slice-tells (named 0) (κs .0) i32, (mut-slice-tells (named 0) (κs .0) i32, (mut-slice-tells (named 1) (κs .1 .0) T.the-row, tt))))))))))))))
-      (λ κs qs bounds a g are. via 𝓤 _ (fst∗ 𝓤 _ (emp 𝓤)) (walk 𝓤 H A W mem run (κs .0) (κs .1 .0) (qs .0) (qs .1 .0) (a .0) (a .1 .0) (a .1 .1 .0) (a .1 .1 .1 .0) (a .1 .1 .1 .1 .0) (a .1 .1 .1 .1 .1 .0) (a .1 .1 .1 .1 .1 .1 .0) (a .1 .1 .1 .1 .1 .1 .1 .0) (a .1 .1 .1 .1 .1 .1 .1 .1 .0) (a .1 .1 .1 .1 .1 .1 .1 .1 .1 .0) (a .1 .1 .1 .1 .1 .1 .1 .1 .1 .1 .0) (a .1 .1 .1 .1 .1 .1 .1 .1 .1 .1 .1 .0) (a .1 .1 .1 .1 .1 .1 .1 .1 .1 .1 .1 .1 .0)
-      (are .0 .0 .1) (are .1 .0 .1) (are .1 .1 .0 .1) (are .1 .1 .1 .1 .1 .0 .0 .1) (are .1 .1 .1 .1 .1 .1 .0 .0 .1) (are .1 .1 .1 .1 .1 .1 .1 .0 .0 .1) (are .1 .1 .1 .1 .1 .1 .1 .1 .0 .1) (are .1 .1 .1 .1 .1 .1 .1 .1 .1 .0 .0 .1) (are .1 .1 .1 .1 .1 .1 .1 .1 .1 .1 .0 .0 .1) (are .1 .1 .1 .1 .1 .1 .1 .1 .1 .1 .1 .0 .0 .1) (are .1 .1 .1 .1 .1 .1 .1 .1 .1 .1 .1 .1 .0 .0 .1) C Λ fm known-shape known-justify known-out))
+      (λ κs. (slice-vals, (uint-vals w32, (uint-vals w32, (bool-vals, (bool-vals, (uint-vals w32, (slice-vals, (slice-vals, (slice-vals, (sint-vals w32, (slice-vals, (slice-vals, (slice-vals, (slice-vals, tt)))))))))))))))
+      (λ κs. (shr-slice-tells (named 0) (κs .0) u8, (uint-tells w32, (uint-tells w32, (bool-tells, (bool-tells, (uint-tells w32, (shr-slice-tells (named 0) (κs .0) u32, (shr-slice-tells (named 0) (κs .0) u16, (shr-slice-tells (named 0) (κs .0) i32, (sint-tells w32, (mut-slice-tells (named 0) (κs .0) u8, (mut-slice-tells (named 0) (κs .0) i32, (mut-slice-tells (named 0) (κs .0) i32, (mut-slice-tells (named 1) (κs .1 .0) T.the-row, tt)))))))))))))))
+      (λ κs qs bounds a g are. via 𝓤 _ (fst∗ 𝓤 _ (emp 𝓤)) (walk 𝓤 H A W mem run (κs .0) (κs .1 .0) (qs .0) (qs .1 .0) (a .0) (a .1 .0) (a .1 .1 .0) (a .1 .1 .1 .0) (a .1 .1 .1 .1 .0) (a .1 .1 .1 .1 .1 .0) (a .1 .1 .1 .1 .1 .1 .0) (a .1 .1 .1 .1 .1 .1 .1 .0) (a .1 .1 .1 .1 .1 .1 .1 .1 .0) (a .1 .1 .1 .1 .1 .1 .1 .1 .1 .0) (a .1 .1 .1 .1 .1 .1 .1 .1 .1 .1 .0) (a .1 .1 .1 .1 .1 .1 .1 .1 .1 .1 .1 .0) (a .1 .1 .1 .1 .1 .1 .1 .1 .1 .1 .1 .1 .0) (a .1 .1 .1 .1 .1 .1 .1 .1 .1 .1 .1 .1 .1 .0)
+      (are .0 .0 .1) (are .1 .0 .1) (are .1 .1 .0 .1) (are .1 .1 .1 .1 .1 .0 .1) (are .1 .1 .1 .1 .1 .1 .0 .0 .1) (are .1 .1 .1 .1 .1 .1 .1 .0 .0 .1) (are .1 .1 .1 .1 .1 .1 .1 .1 .0 .0 .1) (are .1 .1 .1 .1 .1 .1 .1 .1 .1 .0 .1) (are .1 .1 .1 .1 .1 .1 .1 .1 .1 .1 .0 .0 .1) (are .1 .1 .1 .1 .1 .1 .1 .1 .1 .1 .1 .0 .0 .1) (are .1 .1 .1 .1 .1 .1 .1 .1 .1 .1 .1 .1 .0 .0 .1) (are .1 .1 .1 .1 .1 .1 .1 .1 .1 .1 .1 .1 .1 .0 .0 .1) C Λ fm known-shape known-justify known-out))
 
 call-meets : {M : Type 1} (𝓤 : URA M) (H : Heap 𝓤) (A : Atoms 𝓤) → Given 𝓤 H A → (mem : Memory → SProp 𝓤) (run : Routine → Fun 𝓤) (𝓣 : Tables 𝓤 H)
     → Triple 𝓤 (𝓣 .C #just-line·shape-in) (Shape 𝓤 H A mem run) → Triple 𝓤 (𝓣 .C #line-justify·justify) (Justify 𝓤 H A mem run) → Triple 𝓤 (𝓣 .C #just-line·line-out) (Out 𝓤 H A mem run)
     → Meets 𝓤 H A call.signature (WpFn 𝓤 H (𝓣 .C) (𝓣 .Λ) code.function) (call.spec 𝓤 H A mem run)
 call-meets 𝓤 H A W mem run 𝓣 known-shape known-justify known-out =
-    walk-meets 𝓤 H A call.ended stayed W (goes-none-slice 𝓤 H A W 2 (0 ∷ []) tt (plain (λ _. u8)) yes, (goes-none 𝓤 H A W 2 (λ _. u32) yes (λ κs x f. refl), (goes-none 𝓤 H A W 2 (λ _. u32) yes (λ κs x f. refl), (goes-none 𝓤 H A W 2 (λ _. bool) yes (λ κs x f. refl), (goes-none 𝓤 H A W 2 (λ _. bool) yes (λ κs x f. refl), (goes-none-slice 𝓤 H A W 2 (0 ∷ []) tt (plain (λ _. u32)) yes, (goes-none-slice 𝓤 H A W 2 (0 ∷ []) tt (plain (λ _. u16)) yes, (goes-none-slice 𝓤 H A W 2 (0 ∷ []) tt (plain (λ _. i32)) yes, (goes-none 𝓤 H A W 2 (λ _. i32) yes (λ κs x f. refl), (goes-gave-slice 𝓤 H A W 2 0 tt (plain (λ _. u8)), (goes-gave-slice 𝓤 H A W 2 0 tt (plain (λ _. i32)), (goes-gave-slice 𝓤 H A W 2 0 tt (plain (λ _. i32)), (goes-gave-slice 𝓤 H A W 2 1 tt (plain (λ _. T.the-row)), tt))))))))))))) (call.clauses 𝓤 H A mem run)
+    walk-meets 𝓤 H A call.ended stayed W (goes-none-slice 𝓤 H A W 2 (0 ∷ []) tt (plain (λ _. u8)) yes, (goes-none 𝓤 H A W 2 (λ _. u32) yes (λ κs x f. refl), (goes-none 𝓤 H A W 2 (λ _. u32) yes (λ κs x f. refl), (goes-none 𝓤 H A W 2 (λ _. bool) yes (λ κs x f. refl), (goes-none 𝓤 H A W 2 (λ _. bool) yes (λ κs x f. refl), (goes-none 𝓤 H A W 2 (λ _. u32) yes (λ κs x f. refl), (goes-none-slice 𝓤 H A W 2 (0 ∷ []) tt (plain (λ _. u32)) yes, (goes-none-slice 𝓤 H A W 2 (0 ∷ []) tt (plain (λ _. u16)) yes, (goes-none-slice 𝓤 H A W 2 (0 ∷ []) tt (plain (λ _. i32)) yes, (goes-none 𝓤 H A W 2 (λ _. i32) yes (λ κs x f. refl), (goes-gave-slice 𝓤 H A W 2 0 tt (plain (λ _. u8)), (goes-gave-slice 𝓤 H A W 2 0 tt (plain (λ _. i32)), (goes-gave-slice 𝓤 H A W 2 0 tt (plain (λ _. i32)), (goes-gave-slice 𝓤 H A W 2 1 tt (plain (λ _. T.the-row)), tt)))))))))))))) (call.clauses 𝓤 H A mem run)
     (WpFn 𝓤 H (𝓣 .C) (𝓣 .Λ) code.function) (WpFn-mono 𝓤 H (W .laws) 𝓣 code.function) (call-walks 𝓤 H A W mem run (𝓣 .C) (𝓣 .Λ) (fmOf 𝓤 H (W .laws) 𝓣) known-shape known-justify known-out)
 
 pub just-justify-spec : {M : Type 1} → stated.statement M

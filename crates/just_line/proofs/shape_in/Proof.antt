@@ -16,7 +16,7 @@ direction-in-requires c κs = search needs
 returns : tie.Need-returns
 returns c =
     let a = c .before .args in
-    ap₂ {C = LineShape} (λ (d : Direction) (z : ℤ). record { direction = d; starts = a .starts; ends = a .ends; target = z }) (c .direction-in .ensures) (toZ-ofZ w32 (a .target) (c .before .fits .target))
+    ap₂ {C = LineShape} (λ (d : Direction) (z : ℤ). record { direction = d; starts = a .starts; ends = a .ends; target = z; edition = a .edition }) (c .direction-in .ensures) (toZ-ofZ w32 (a .target) (c .before .fits .target))
 
 pub shape-in-spec : {M : Type 1} → statement M
 shape-in-spec = tie.close (tie.spec direction-in-requires returns)
