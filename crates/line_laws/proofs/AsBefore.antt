@@ -58,15 +58,15 @@ module _ (s : Side) (l : one.Line) where
 
   before-same : beforeOf s (spread l) ≡ one.beforeOf s l
   unfolding beforeOf one.beforeOf gapOf
-  before-same = ap (λ (gs : List Glyph). map (signedOf (shrinks (unsized l))) (beforeMoves gs (gapSize (unsized l)))) parts-for
+  before-same = ap (λ (gs : List Glyph). map (signedOf (shrinks (unsized l))) (beforeMoves true gs (gapSize (unsized l)))) parts-for
 
   after-same : afterOf s (spread l) ≡ one.afterOf s l
   unfolding afterOf one.afterOf gapOf
-  after-same = ap (λ (gs : List Glyph). map (signedOf (shrinks (unsized l))) (afterMoves gs (gapSize (unsized l)))) parts-for
+  after-same = ap (λ (gs : List Glyph). map (signedOf (shrinks (unsized l))) (afterMoves true gs (gapSize (unsized l)))) parts-for
 
   remainder-same : remainderOf s (spread l) ≡ one.remainderOf s l
   unfolding remainderOf one.remainderOf gapOf
-  remainder-same = ap (λ (gs : List Glyph). signedOf (shrinks (unsized l)) (lineLeft gs (gapSize (unsized l)))) parts-for
+  remainder-same = ap (λ (gs : List Glyph). signedOf (shrinks (unsized l)) (lineLeft true gs (gapSize (unsized l)))) parts-for
 
   verdicts-all : verdictsOf s (spread l) ≡ one.verdictsOf s l
   unfolding verdictsOf one.verdictsOf
@@ -100,7 +100,7 @@ module _ (t : List ℕ) (n : ℕ) (l : one.Line) (b : Lent) (judged : goodSizes 
   side = sideOf (l .direction) (meaningOf t n)
 
   fault-same : lineFault t n (spread l) b ≡ one.lineFault t n l b
-  unfolding lineFault workedFault one.lineFault
+  unfolding lineFault workedFault one.lineFault rule _then_
   fault-same = λ i.
       firstFault (
       tableFault t n

@@ -1,4 +1,5 @@
--- A line that is answered under a narrower and a wider target, one of which shrinks it and one of which stretches it: `never-back` does not speak of nothing.
+-- A line that is answered under a narrower and a wider target, one of which shrinks it and one of which stretches it, and in edition 2 with a remainder: `never-back` and
+-- `stopped-full` do not speak of nothing.
 use Prim.Native.Nat.{ℕ}
 use mathlib.Core.Path.{_≡_, refl}
 use mathlib.Core.Bool.{true}
@@ -19,7 +20,7 @@ use Rattle.cluster.specs.Pairs.{pairAt, pairsAt, clusterAt}
 use Rattle.lookup_targets.specs.Values.{placeFault, glyphFault, valuesFault, clusterOf}
 use Rattle.table.specs.Table.{present, headerFault, offsetsFault, machinePart, actionPart, directionFault, tableFault}
 use Rattle.table.specs.Means.{machineOf, listsOf, sideAt, directionOf, meaningOf}
-use Rattle.share.specs.Share.{stages, goesBack, shares, stageMoves, stageLeft, movesBy, leftBy}
+use Rattle.share.specs.Share.{stages, shares, stageMoves, stageLeft, movesBy, leftBy}
 use Rattle.share.specs.Line.{lineFits, lineMoves, lineLeft}
 use Rattle.line_rule.specs.Line.{Line, gapOf, walkOf, partsOf, beforeOf, afterOf, remainderOf, firings, verdictsFrom, verdictsOf}
 use Rattle.line_rule.specs.Edges.{aimed}
@@ -36,22 +37,28 @@ onePair =
     ∷ 0 ∷ 0 ∷ 0 ∷ 30 ∷ 0 ∷ 0 ∷ 0 ∷ 0 ∷ []
 
 -- one glyph of 100 units at 1 pt
-abbrev pub oneGlyph : Line
-oneGlyph = lineBy (record { direction = Horizontal; starts = true; ends = true; target = pos 100 }) (65536 ∷ []) (0 ∷ []) (pos 100 ∷ [])
+abbrev pub oneGlyph : ℕ → Line
+oneGlyph edition = lineBy (record { direction = Horizontal; starts = true; ends = true; target = pos 100; edition = edition }) (65536 ∷ []) (0 ∷ []) (pos 100 ∷ [])
 
 abbrev pub room : Lent
 room = lentBy (7 ∷ []) (pos 7 ∷ []) (pos 7 ∷ []) []
 
--- under this target the call answers, and the glyph's edges are these
-pub record Stands (target from to : ℤ) : Type 0 where
-  pub shown : Shown onePair 1 (aimed oneGlyph target) room
-  pub left-at : left onePair 1 (aimed oneGlyph target) room 0 ≡ from
-  pub right-at : right onePair 1 (aimed oneGlyph target) room 0 ≡ to
+-- in this edition and under this target the call answers with this remainder, and the glyph's edges are these
+pub record Stands (edition : ℕ) (target from to remainder : ℤ) : Type 0 where
+  pub shown : Shown onePair 1 (aimed (oneGlyph edition) target) room
+  pub left-over : shown .remainder ≡ remainder
+  pub left-at : left onePair 1 (aimed (oneGlyph edition) target) room 0 ≡ from
+  pub right-at : right onePair 1 (aimed (oneGlyph edition) target) room 0 ≡ to
 
--- 40 units narrower, each side shrinks by its limit; 30 units wider, each grows by its limit
-pub columns : Stands (pos 60) (negℤ (pos 10)) (pos 60) × Stands (pos 130) (pos 10) (pos 130)
-unfolding onePair justified lineFault workedFault tableFault headerFault directionFault present offsetsFault machinePart actionPart u16At u32At inside rule _then_ walk valuesFault lookupFault formatFault placeFault glyphFault valueOf valueFrom clusterFault pairFault classAt classFault growFault shrinkFault flagsFault fixedSize widthFlags pairAt pairsAt clusterAt clusterOf machineOf listsOf sideAt directionOf meaningOf emptySide from stages goesBack shares stageMoves stageLeft movesBy leftBy lineFits lineMoves lineLeft gapOf walkOf partsOf beforeOf afterOf remainderOf verdictsFrom verdictsOf firings
+-- 40 units narrower, each side shrinks by its limit; 30 units wider, each grows by its limit; 40 units wider, edition 1 goes back with 10 units and edition 2 leaves them
+pub columns : Stands 1 (pos 60) (negℤ (pos 10)) (pos 60) (pos 0)
+    × Stands 1 (pos 130) (pos 10) (pos 130) (pos 0)
+    × Stands 1 (pos 140) (pos 13) (pos 140) (pos 0)
+    × Stands 2 (pos 140) (pos 10) (pos 130) (pos 10)
+unfolding onePair justified lineFault workedFault tableFault headerFault directionFault present offsetsFault machinePart actionPart u16At u32At inside rule _then_ walk valuesFault lookupFault formatFault placeFault glyphFault valueOf valueFrom clusterFault pairFault classAt classFault growFault shrinkFault flagsFault fixedSize widthFlags pairAt pairsAt clusterAt clusterOf machineOf listsOf sideAt directionOf meaningOf emptySide from stages shares stageMoves stageLeft movesBy leftBy lineFits lineMoves lineLeft gapOf walkOf partsOf beforeOf afterOf remainderOf verdictsFrom verdictsOf firings
 columns = (
-  record { shown = record { remainder = pos 0; entries = 0; verdicts = 0; answer = refl }; left-at = refl; right-at = refl },
-  record { shown = record { remainder = pos 0; entries = 0; verdicts = 0; answer = refl }; left-at = refl; right-at = refl },
+  record { shown = record { remainder = pos 0; entries = 0; verdicts = 0; answer = refl }; left-over = refl; left-at = refl; right-at = refl },
+  record { shown = record { remainder = pos 0; entries = 0; verdicts = 0; answer = refl }; left-over = refl; left-at = refl; right-at = refl },
+  record { shown = record { remainder = pos 0; entries = 0; verdicts = 0; answer = refl }; left-over = refl; left-at = refl; right-at = refl },
+  record { shown = record { remainder = pos 10; entries = 0; verdicts = 0; answer = refl }; left-over = refl; left-at = refl; right-at = refl },
 )

@@ -7,3 +7,4 @@ pub mod Columns
 pub mod Placed
 pub mod AsBefore
 pub mod Sizes
+pub mod Editions

@@ -3,7 +3,7 @@ use Prim.Native.Nat.{ℕ}
 use mathlib.Core.Path.{_≡_, refl}
 use mathlib.Core.List.{List}
 use native.Mathlib.Omega.{arith}
-use Rattle.fields.specs.declared.Refusal.the-variants.{UnequalLengths, LongLine, PointSize, Advances, UnknownGlyph, EndlessWalk, StageTotal, ShortRoom}
+use Rattle.fields.specs.declared.Refusal.the-variants.{UnequalLengths, LongLine, UnknownEdition, PointSize, Advances, UnknownGlyph, EndlessWalk, StageTotal, ShortRoom}
 use Rattle.fields.specs.declared.Fault.{Fault}
 use Rattle.fields.specs.declared.Fault.the-variants.{Clear, Bad}
 use Rattle.fields.specs.Refusals.{numberOf}
@@ -17,7 +17,7 @@ module _ (t : List ℕ) (n : ℕ) (l : Line) (b : Lent) where
   placed-fault : Placed (lineFault t n l b)
   unfolding lineFault workedFault
   placed-fault =
-      (placed-table t n and zero-at _ UnequalLengths and zero-at _ LongLine and zero-at _ PointSize and zero-at _ Advances and zero-at _ UnknownGlyph
+      (placed-table t n and zero-at _ UnequalLengths and zero-at _ LongLine and zero-at _ UnknownEdition and zero-at _ PointSize and zero-at _ Advances and zero-at _ UnknownGlyph
       and zero-at _ EndlessWalk and zero-at _ StageTotal)
       and zero-at _ ShortRoom
 

@@ -10,7 +10,7 @@ use lib.Dec.{leb}
 use lib.IntN.{ℤ, pos}
 use lib.ListN.{length, getD}
 use borrow.Author.Tests.{leb-true, le-leb}
-use Rattle.fields.specs.declared.Refusal.the-variants.{UnequalLengths, LongLine, PointSize, Advances, UnknownGlyph, EndlessWalk, StageTotal, ShortRoom}
+use Rattle.fields.specs.declared.Refusal.the-variants.{UnequalLengths, LongLine, UnknownEdition, PointSize, Advances, UnknownGlyph, EndlessWalk, StageTotal, ShortRoom}
 use Rattle.fields.specs.declared.Fault.{Fault}
 use Rattle.fields.specs.declared.Fault.the-variants.{Bad}
 use Rattle.fields.specs.Field.{u16At, u32At}
@@ -32,13 +32,13 @@ use Rattle.table.specs.Table.{Accepted, present, headerFault, offsetsFault, mac
 use Rattle.table.specs.Means.{machineOf, listsOf, sideAt, directionOf, meaningOf}
 use Rattle.table_laws.specs.Order.{Free}
 use Rattle.table_laws.proofs.Faults.{rule-bad}
-use Rattle.share.specs.Share.{stages, goesBack, shares, stageMoves, stageLeft, movesBy, leftBy}
+use Rattle.share.specs.Share.{stages, shares, stageMoves, stageLeft, movesBy, leftBy}
 use Rattle.share.specs.Line.{lineFits, lineMoves, lineLeft}
-use Rattle.line_rule.specs.Line.{Line, gapOf, walkOf, partsOf, beforeOf, afterOf, remainderOf, firings, verdictsFrom, verdictsOf}
+use Rattle.line_rule.specs.Line.{Line, knownEdition, gapOf, walkOf, partsOf, beforeOf, afterOf, remainderOf, firings, verdictsFrom, verdictsOf}
 use Rattle.line_call.specs.Justified.{Lent, lengthsOf, equalLengths, goodSize, goodSizes, workTests, roomTest, justifies, refuses, workedFault, lineFault, justified}
 use Rattle.line_call.specs.Settle.{lineBy, lentBy}
-use Rattle.line_laws.specs.Bars.{sideFor, OneLength, OutOfRange}
-use Rattle.line_laws.proofs.Tests.{lengths-are, size-is, sizes-are}
+use Rattle.line_laws.specs.Bars.{sideFor, OneLength, KnownEdition, OutOfRange}
+use Rattle.line_laws.proofs.Tests.{lengths-are, edition-is, size-is, sizes-are}
 use Rattle.line_laws.proofs.Refusals.{Spares, clear-spares, rule-spares, only-first, first-after, call-refused}
 use Rattle.line_laws.proofs.Columns.{onePair}
 
@@ -73,15 +73,20 @@ wrong-sizes zs r = go (goodSizes zs) refl
 
 module _ (t : List ℕ) (n : ℕ) (l : Line) (b : Lent) where
   -- REFUSAL 11 exactly when nothing before it bars the line and the size of some glyph is out of range
-  pub sizes-barred : Accepted t n → (justified t n l b .answer ≡ refuses 11 0) ↔ (OneLength l b × (length (l .glyphs) ≤ 1024) × OutOfRange (l .sizes))
+  pub sizes-barred : Accepted t n → (justified t n l b .answer ≡ refuses 11 0) ↔ (OneLength l b × (length (l .glyphs) ≤ 1024) × KnownEdition (l .edition) × OutOfRange (l .sizes))
   unfolding Accepted
   sizes-barred ok = (
     λ e. refused (only-first ahead sized behind spared spared-behind (call-refused t n l b PointSize 0 .0 e)),
-    λ h. call-refused t n l b PointSize 0 .1 (first-after ahead sized behind (free (h .0) (h .1)) (rule-fails PointSize 0 (wrong-sizes (l .sizes) (h .2)))),
+    λ h. call-refused t n l b PointSize 0 .1 (first-after ahead sized behind (free (h .0) (h .1) (h .2)) (rule-fails PointSize 0 (wrong-sizes (l .sizes) (h .3)))),
   )
     where
       ahead : List Fault
-      ahead = tableFault t n ∷ rule (equalLengths l (lengthsOf b)) UnequalLengths 0 ∷ rule (leb (length (l .glyphs)) 1024) LongLine 0 ∷ []
+      ahead =
+          tableFault t n
+          ∷ rule (equalLengths l (lengthsOf b)) UnequalLengths 0
+          ∷ rule (leb (length (l .glyphs)) 1024) LongLine 0
+          ∷ rule (knownEdition (l .edition)) UnknownEdition 0
+          ∷ []
 
       sized : Fault
       sized = rule (goodSizes (l .sizes)) PointSize 0
@@ -90,18 +95,22 @@ module _ (t : List ℕ) (n : ℕ) (l : Line) (b : Lent) where
       behind = workTests (sideFor t n l) n l ++ (roomTest (sideFor t n l) l (length (b .verdicts)) ∷ [])
 
       spared : All (Spares PointSize) ahead
-      spared = (clear-spares ok, (rule-spares UnequalLengths _ refl, (rule-spares LongLine _ refl, tt)))
+      spared = (clear-spares ok, (rule-spares UnequalLengths _ refl, (rule-spares LongLine _ refl, (rule-spares UnknownEdition _ refl, tt))))
 
       spared-behind : All (Spares PointSize) behind
       spared-behind = (rule-spares Advances _ refl, (rule-spares UnknownGlyph _ refl, (rule-spares EndlessWalk _ refl, (rule-spares StageTotal _ refl, (rule-spares ShortRoom _ refl, tt)))))
 
-      free : OneLength l b → length (l .glyphs) ≤ 1024 → Free ahead
-      free one short = (ok, (rule-clear UnequalLengths 0 (lengths-are l b .1 one), (rule-clear LongLine 0 (le-leb _ _ short), tt)))
+      free : OneLength l b → length (l .glyphs) ≤ 1024 → KnownEdition (l .edition) → Free ahead
+      free one short known = (
+        ok,
+        (rule-clear UnequalLengths 0 (lengths-are l b .1 one), (rule-clear LongLine 0 (le-leb _ _ short), (rule-clear UnknownEdition 0 (edition-is (l .edition) .1 known), tt))),
+      )
 
-      refused : Free ahead × (sized ≡ Bad PointSize 0) → OneLength l b × (length (l .glyphs) ≤ 1024) × OutOfRange (l .sizes)
-      refused ((_, (p9, (p10, _))), q) = (
+      refused : Free ahead × (sized ≡ Bad PointSize 0) → OneLength l b × (length (l .glyphs) ≤ 1024) × KnownEdition (l .edition) × OutOfRange (l .sizes)
+      refused ((_, (p9, (p10, (p18, _)))), q) = (
         lengths-are l b .0 (rule-holds _ UnequalLengths 0 p9),
         leb-true _ _ (rule-holds _ LongLine 0 p10),
+        edition-is (l .edition) .0 (rule-holds _ UnknownEdition 0 p18),
         wrong-place (l .sizes) (rule-bad _ PointSize PointSize 0 0 q .0),
       )
 
@@ -110,13 +119,13 @@ module _ (t : List ℕ) (n : ℕ) (l : Line) (b : Lent) where
   empty-unbarred ok none e =
       let h = sizes-barred ok .0 e in
       let long : length (l .sizes) ≡ 0 = h .0 .sizes ∙ ap (λ (gs : List ℕ). length gs) none in
-      let there = h .2 .there in
+      let there = h .3 .there in
       omega arith
 
 -- ---- lines of one table, whose glyph 0 has one record: 10 and 20 units at 1 pt for growing
 
 abbrev lineAt : List ℕ → List ℕ → List ℤ → ℤ → Line
-lineAt sizes glyphs advances target = lineBy (record { direction = Horizontal; starts = true; ends = true; target = target }) sizes glyphs advances
+lineAt sizes glyphs advances target = lineBy (record { direction = Horizontal; starts = true; ends = true; target = target; edition = 1 }) sizes glyphs advances
 
 abbrev lentTwo : Lent
 lentTwo = lentBy (7 ∷ 7 ∷ []) (pos 7 ∷ pos 7 ∷ []) (pos 7 ∷ pos 7 ∷ []) []
@@ -126,5 +135,5 @@ pub in-two-sizes :
     (justified onePair 1 (lineAt (65536 ∷ 131072 ∷ []) (0 ∷ 0 ∷ []) (pos 100 ∷ pos 100 ∷ []) (pos 290)) lentTwo
     ≡ record { answer = justifies (pos 0) 0 0; lent = lentBy (0 ∷ 0 ∷ []) (pos 10 ∷ pos 20 ∷ []) (pos 20 ∷ pos 40 ∷ []) [] })
     × (justified onePair 1 (lineAt (65536 ∷ 0 ∷ []) (0 ∷ 0xFFFF ∷ []) (pos 100 ∷ pos 0 ∷ []) (pos 100)) lentTwo ≡ record { answer = refuses 11 0; lent = lentTwo })
-unfolding onePair justified lineFault workedFault tableFault headerFault directionFault present offsetsFault machinePart actionPart u16At u32At inside rule _then_ walk valuesFault lookupFault formatFault placeFault glyphFault valueOf valueFrom clusterFault pairFault classAt classFault growFault shrinkFault flagsFault fixedSize widthFlags pairAt pairsAt clusterAt clusterOf machineOf listsOf sideAt directionOf meaningOf emptySide from stages goesBack shares stageMoves stageLeft movesBy leftBy lineFits lineMoves lineLeft gapOf walkOf partsOf beforeOf afterOf remainderOf verdictsFrom verdictsOf firings
+unfolding onePair justified lineFault workedFault tableFault headerFault directionFault present offsetsFault machinePart actionPart u16At u32At inside rule _then_ walk valuesFault lookupFault formatFault placeFault glyphFault valueOf valueFrom clusterFault pairFault classAt classFault growFault shrinkFault flagsFault fixedSize widthFlags pairAt pairsAt clusterAt clusterOf machineOf listsOf sideAt directionOf meaningOf emptySide from stages shares stageMoves stageLeft movesBy leftBy lineFits lineMoves lineLeft gapOf walkOf partsOf beforeOf afterOf remainderOf verdictsFrom verdictsOf firings
 in-two-sizes = (refl, refl)

@@ -8,14 +8,14 @@ use native.Mathlib.Omega.{arith}
 use lib.Dec.{leb, ltb, eqb}
 use lib.IntN.{ℤ, pos, negsuc, natAbs, _+ℤ_}
 use lib.ListN.{length}
-use borrow.Author.Tests.{leb-true, le-leb, eq-eqb, lt-ltb}
+use borrow.Author.Tests.{leb-true, le-leb, eqb-true, eq-eqb, lt-ltb}
 use Rattle.share.specs.Share.{total, stages, most}
 use Rattle.share.specs.Line.{Glyph, lineFits, sumℤ}
-use Rattle.line_rule.specs.Line.{Line}
+use Rattle.line_rule.specs.Line.{Line, knownEdition}
 use Rattle.line_moves.specs.Parts.{Known}
 use Rattle.line_call.specs.Justified.{Lent, equalLengths, lengthsOf, goodSize, goodSizes, within, noneNegative, goodAdvances, allKnown}
 use Rattle.line_call.proofs.Tests.{and-left, and-right, lengths-hold, known-each}
-use Rattle.line_laws.specs.Bars.{OneLength, Sized, Measured, stageTotal, SmallTotals}
+use Rattle.line_laws.specs.Bars.{OneLength, KnownEdition, Sized, Measured, stageTotal, SmallTotals}
 
 and-both : {a b : Bool} → a ≡ true → b ≡ true → (a && b) ≡ true
 and-both {a} {b} p q = ap₂ (λ (x y : Bool). x && y) p q
@@ -34,6 +34,19 @@ lengths-are l b = (holds, tested)
     tested h =
         and-both (eq-eqb _ _ (h .sizes))
         (and-both (eq-eqb _ _ (h .advances)) (and-both (eq-eqb _ _ (h .classes)) (and-both (eq-eqb _ _ (h .before)) (and-both (eq-eqb _ _ (h .after)) refl))))
+
+-- ---- 18
+
+pub edition-is : (edition : ℕ) → (knownEdition edition ≡ true) ↔ KnownEdition edition
+edition-is edition = (λ e. holds (eqb edition 1) refl e, tested)
+  where
+    holds : (first : Bool) → eqb edition 1 ≡ first → (first || eqb edition 2) ≡ true → KnownEdition edition
+    holds true e h = inl (eqb-true edition 1 e)
+    holds false e h = inr (eqb-true edition 2 h)
+
+    tested : KnownEdition edition → knownEdition edition ≡ true
+    tested (inl e) = ap knownEdition e
+    tested (inr e) = ap knownEdition e
 
 -- ---- 11
 

@@ -10,7 +10,7 @@ use lib.Dec.{leb}
 use lib.IntN.{ℤ}
 use lib.ListN.{length}
 use borrow.Author.Tests.{leb-true, le-leb}
-use Rattle.fields.specs.declared.Refusal.the-variants.{UnequalLengths, LongLine, PointSize, Advances, UnknownGlyph, EndlessWalk, StageTotal, ShortRoom}
+use Rattle.fields.specs.declared.Refusal.the-variants.{UnequalLengths, LongLine, UnknownEdition, PointSize, Advances, UnknownGlyph, EndlessWalk, StageTotal, ShortRoom}
 use Rattle.fields.specs.declared.Fault.{Fault}
 use Rattle.fields.specs.declared.Fault.the-variants.{Clear, Bad}
 use Rattle.fields.specs.Field.{Bytes}
@@ -29,12 +29,12 @@ use Rattle.table.specs.Means.{meaningOf}
 use Rattle.table_laws.specs.Order.{Free}
 use Rattle.table_laws.proofs.Faults.{rule-bad}
 use Rattle.table_laws.proofs.Valid.{valid-meaning}
-use Rattle.line_rule.specs.Line.{Line, walkMachine, walkOf, hasStopped, classesOf, entriesOf, partsFor}
+use Rattle.line_rule.specs.Line.{Line, knownEdition, walkMachine, walkOf, hasStopped, classesOf, entriesOf, partsFor}
 use Rattle.line_moves.specs.Parts.{Known}
 use Rattle.line_call.specs.Justified.{Lent, lengthsOf, equalLengths, goodSizes, goodAdvances, allKnown, roomTest, justifies, refuses, justified}
 use Rattle.line_call.proofs.Theorems.{answered, cleared, walk-ends, walk-never}
 use Rattle.line_laws.specs.Bars.{sideFor, walkLine, NeverEnds, EndsWith, Walkable}
-use Rattle.line_laws.proofs.Tests.{lengths-are, sizes-are, advances-are, glyphs-are}
+use Rattle.line_laws.proofs.Tests.{lengths-are, edition-is, sizes-are, advances-are, glyphs-are}
 use Rattle.line_laws.proofs.Refusals.{Spares, clear-spares, rule-spares, only-first, first-after, call-refused}
 
 module _ (t : List ℕ) (n : ℕ) (l : Line) (b : Lent) (bytes : Bytes t) where
@@ -77,6 +77,7 @@ module _ (t : List ℕ) (n : ℕ) (l : Line) (b : Lent) (bytes : Bytes t) where
           tableFault t n
           ∷ rule (equalLengths l (lengthsOf b)) UnequalLengths 0
           ∷ rule (leb (length (l .glyphs)) 1024) LongLine 0
+          ∷ rule (knownEdition (l .edition)) UnknownEdition 0
           ∷ rule (goodSizes (l .sizes)) PointSize 0
           ∷ rule (goodAdvances l) Advances 0
           ∷ rule (allKnown n (l .glyphs)) UnknownGlyph 0
@@ -89,7 +90,7 @@ module _ (t : List ℕ) (n : ℕ) (l : Line) (b : Lent) (bytes : Bytes t) where
       behind = rule (lineFits (partsFor (sideFor t n l) l)) StageTotal 0 ∷ roomTest (sideFor t n l) l (length (b .verdicts)) ∷ []
 
       spared : All (Spares EndlessWalk) ahead
-      spared = (clear-spares ok, (rule-spares UnequalLengths _ refl, (rule-spares LongLine _ refl, (rule-spares PointSize _ refl, (rule-spares Advances _ refl, (rule-spares UnknownGlyph _ refl, tt))))))
+      spared = (clear-spares ok, (rule-spares UnequalLengths _ refl, (rule-spares LongLine _ refl, (rule-spares UnknownEdition _ refl, (rule-spares PointSize _ refl, (rule-spares Advances _ refl, (rule-spares UnknownGlyph _ refl, tt)))))))
 
       spared-behind : All (Spares EndlessWalk) behind
       spared-behind = (rule-spares StageTotal _ refl, (rule-spares ShortRoom _ refl, tt))
@@ -102,19 +103,23 @@ module _ (t : List ℕ) (n : ℕ) (l : Line) (b : Lent) (bytes : Bytes t) where
           (
             rule-clear LongLine 0 (le-leb _ _ (h .short)),
             (
-              rule-clear PointSize 0 (sizes-are (l .sizes) .1 (h .sizes)),
-              (rule-clear Advances 0 (advances-are l .1 (h .measured)), (rule-clear UnknownGlyph 0 (glyphs-are n (l .glyphs) .1 (h .known)), tt)),
+              rule-clear UnknownEdition 0 (edition-is (l .edition) .1 (h .edition)),
+              (
+                rule-clear PointSize 0 (sizes-are (l .sizes) .1 (h .sizes)),
+                (rule-clear Advances 0 (advances-are l .1 (h .measured)), (rule-clear UnknownGlyph 0 (glyphs-are n (l .glyphs) .1 (h .known)), tt)),
+              ),
             ),
           ),
         ),
       )
 
       refused : Free ahead × (walks ≡ Bad EndlessWalk 0) → Walkable n l b × NeverEnds machine l
-      refused ((_, (p9, (p10, (p11, (p12, (p13, _)))))), q) =
+      refused ((_, (p9, (p10, (p18, (p11, (p12, (p13, _))))))), q) =
           let known = glyphs-are n (l .glyphs) .0 (rule-holds _ UnknownGlyph 0 p13) in (
             record {
               lengths = lengths-are l b .0 (rule-holds _ UnequalLengths 0 p9);
               short = leb-true _ _ (rule-holds _ LongLine 0 p10);
+              edition = edition-is (l .edition) .0 (rule-holds _ UnknownEdition 0 p18);
               sizes = sizes-are (l .sizes) .0 (rule-holds _ PointSize 0 p11);
               measured = advances-are l .0 (rule-holds _ Advances 0 p12);
               known = known;

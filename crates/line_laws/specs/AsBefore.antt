@@ -1,4 +1,4 @@
--- A line of equal sizes answers as before (document 02, request 5/14): as the call for a line in one size did, in `OneSize`.
+-- A line of equal sizes answers as before (document 02, request 5/14): in edition 1 as the call for a line in one size did, in `OneSize`.
 use Prim.Native.Nat.{ℕ, _<_}
 use mathlib.Core.Path.{_≡_}
 use mathlib.Core.Bool.{true}
@@ -8,7 +8,7 @@ use Rattle.line_rule.specs.Line.{Line}
 use Rattle.line_call.specs.Justified.{Lent, goodSize, justified}
 use Rattle.line_laws.specs.OneSize as one
 
--- a line in one size, handed in with that size for each of its glyphs
+-- a line in one size, handed in with that size for each of its glyphs, and in edition 1
 abbrev pub spread : one.Line → Line
 spread l =
     record {
@@ -19,6 +19,7 @@ spread l =
       glyphs = l .glyphs;
       advances = l .advances;
       target = l .target;
+      edition = 1;
     }
 
 -- one glyph or more: the answer, its refusals too, and every lent buffer are what they were, whatever the table

@@ -1,4 +1,4 @@
--- What bars a line (document 01, "Numbers of refusal", 9 to 16), each in plain words, and in their order after the table's.
+-- What bars a line (document 01, "Numbers of refusal", 9 to 16, and document 02, request 7/14, 18), each in plain words, and in their order after the table's.
 use Prim.Native.Nat.{ℕ, _+_, _*_, _≤_, _<_}
 use mathlib.Core.Path.{_≡_}
 use mathlib.Core.Logic.{_⊎_}
@@ -39,6 +39,10 @@ pub record OneLength (l : Line) (b : Lent) : Type 0 where
   pub classes : length (b .classes) ≡ length (l .glyphs)
   pub before : length (b .before) ≡ length (l .glyphs)
   pub after : length (b .after) ≡ length (l .glyphs)
+
+-- 18 does not bar it: its edition is one of the two
+abbrev pub KnownEdition : ℕ → Type 0
+KnownEdition edition = (edition ≡ 1) ⊎ (edition ≡ 2)
 
 -- 11 does not bar it: each size is at least 1 and at most 67,108,864, that of a deleted glyph and of one without a record too
 abbrev pub Sized : List ℕ → Type 0
@@ -90,6 +94,7 @@ EndsWith (some m) l cs k = Ends (walkMachine m) (walkLine m l) cs k × (k ≤ m 
 pub record Walkable (n : ℕ) (l : Line) (b : Lent) : Type 0 where
   pub lengths : OneLength l b
   pub short : length (l .glyphs) ≤ 1024
+  pub edition : KnownEdition (l .edition)
   pub sizes : Sized (l .sizes)
   pub measured : Measured l
   pub known : Known n (l .glyphs)

@@ -1,7 +1,7 @@
--- The call for a line in one point size, as it was before each glyph had its own (document 02, request 5/14): the line and all that looks at its size; whatever looks at
+-- The call for a line in one point size, as it was before each glyph had its own (document 02, request 5/14) and before there was a second edition of the rule: the line and all that looks at its size; whatever looks at
 -- none is cited. Only `AsBefore` and `EmptyAsBefore` speak of it.
 use Prim.Native.Nat.{ℕ, suc}
-use mathlib.Core.Bool.{Bool, _&&_}
+use mathlib.Core.Bool.{Bool, true, _&&_}
 use mathlib.Core.List.{List, [], _∷_, _++_, map}
 use lib.Dec.{leb}
 use lib.IntN.{ℤ, _+ℤ_}
@@ -35,7 +35,7 @@ pub record Line : Type 0 where
 -- of the line that which the gap, the class walk and refusal 12 look at, and so no size
 abbrev pub unsized : Line → sized.Line
 unsized l =
-    record { direction = l .direction; starts = l .starts; ends = l .ends; sizes = []; glyphs = l .glyphs; advances = l .advances; target = l .target }
+    record { direction = l .direction; starts = l .starts; ends = l .ends; sizes = []; glyphs = l .glyphs; advances = l .advances; target = l .target; edition = 1 }
 
 -- ---- the movements
 
@@ -49,13 +49,13 @@ abbrev pub partsFor : Side → Line → List Glyph
 partsFor s l = partsOf s (shrinks (unsized l)) (l .size) (l .glyphs) (classesOf (walkOf (s .machine) (unsized l)))
 
 unfoldable pub beforeOf : Side → Line → List ℤ
-beforeOf s l = map (signedOf (shrinks (unsized l))) (beforeMoves (partsFor s l) (gapSize (unsized l)))
+beforeOf s l = map (signedOf (shrinks (unsized l))) (beforeMoves true (partsFor s l) (gapSize (unsized l)))
 
 unfoldable pub afterOf : Side → Line → List ℤ
-afterOf s l = map (signedOf (shrinks (unsized l))) (afterMoves (partsFor s l) (gapSize (unsized l)))
+afterOf s l = map (signedOf (shrinks (unsized l))) (afterMoves true (partsFor s l) (gapSize (unsized l)))
 
 unfoldable pub remainderOf : Side → Line → ℤ
-remainderOf s l = signedOf (shrinks (unsized l)) (lineLeft (partsFor s l) (gapSize (unsized l)))
+remainderOf s l = signedOf (shrinks (unsized l)) (lineLeft true (partsFor s l) (gapSize (unsized l)))
 
 -- ---- the verdicts
 

@@ -42,9 +42,9 @@ unfolding oneEntry u16At meaningOf directionOf emptySide
 empty-line = (
   oneEntry,
   1,
-  lineBy (record { direction = Vertical; starts = true; ends = true; target = pos 4 }) [] [] [],
+  lineBy (record { direction = Vertical; starts = true; ends = true; target = pos 4; edition = 1 }) [] [] [],
   lentBy [] [] [] [],
-  record { accepted = accepted; lengths = refl; sizes = refl; advances = refl; known = refl },
+  record { accepted = accepted; lengths = refl; edition = refl; sizes = refl; advances = refl; known = refl },
   record { no-glyph = refl; no-machine = refl; has-target = refl },
 )
 
@@ -54,8 +54,8 @@ unfolding oneEntry u16At meaningOf directionOf sideAt machineOf machineAt inside
 stuck-line = (
   oneEntry,
   1,
-  lineBy (record { direction = Horizontal; starts = false; ends = true; target = pos 4 }) (twelve ∷ []) (0 ∷ []) (pos 0 ∷ []),
+  lineBy (record { direction = Horizontal; starts = false; ends = true; target = pos 4; edition = 1 }) (twelve ∷ []) (0 ∷ []) (pos 0 ∷ []),
   lentBy (0 ∷ []) (pos 0 ∷ []) (pos 0 ∷ []) [],
-  record { accepted = accepted; lengths = refl; sizes = refl; advances = refl; known = refl },
+  record { accepted = accepted; lengths = refl; edition = refl; sizes = refl; advances = refl; known = refl },
   record { glyph = 0; machine = _; one-glyph = refl; not-first = refl; has-machine = refl; entry-stays = refl; leads-back = refl },
 )

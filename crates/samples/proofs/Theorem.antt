@@ -24,11 +24,11 @@ use Rattle.class_walk.specs.Walk.{Never, Walk, stopped, walked}
 use Rattle.class_walk.specs.Line.{lineOf}
 use Rattle.class_walk.proofs.Laws.{never-walked}
 use Rattle.class_walk.proofs.Samples.{sample-never}
-use Rattle.share.specs.Share.{shares, stageMoves, stageLeft, stages, goesBack, movesBy, leftBy}
+use Rattle.share.specs.Share.{shares, stageMoves, stageLeft, stages, movesBy, leftBy}
 use Rattle.share.specs.Line.{lineMoves, lineLeft, lineFits}
 use Rattle.verdict.specs.Verdict.{breaks, typeFires, firesOf}
 use Rattle.table.specs.Table.{Accepted}
-use Rattle.line_rule.specs.Line.{Line, gapOf, walkMachine, columnOf, walkOf, hasStopped, classesOf, entriesOf, partsOf, partsFor, beforeOf, afterOf, remainderOf, verdictsFrom, verdictsOf}
+use Rattle.line_rule.specs.Line.{Line, knownEdition, gapOf, walkMachine, columnOf, walkOf, hasStopped, classesOf, entriesOf, partsOf, partsFor, beforeOf, afterOf, remainderOf, verdictsFrom, verdictsOf}
 use Rattle.line_call.specs.Justified.{Lent, justifies, refuses, settled, roomTest, workedFault, lineFault, justified}
 use Rattle.line_call.specs.Settle.{lineBy, lentBy}
 use Rattle.line_call.proofs.Tests.{lengths-hold}
@@ -51,6 +51,7 @@ module _ (t : List ℕ) (n : ℕ) (l : Line) (b : Lent) (p : Proper t n l b) whe
       (then-go _ (p .accepted)
       ∙ then-go _ (rule-clear _ 0 (p .lengths))
       ∙ then-go _ (rule-clear _ 0 short)
+      ∙ then-go _ (rule-clear _ 0 (ap knownEdition (p .edition)))
       ∙ then-go _ (rule-clear _ 0 (p .sizes))
       ∙ then-go _ (rule-clear _ 0 (p .advances))
       ∙ then-go _ (rule-clear _ 0 (p .known)))
@@ -60,7 +61,7 @@ module _ (t : List ℕ) (n : ℕ) (l : Line) (b : Lent) (p : Proper t n l b) whe
 -- what is worked out of a line without a glyph, where its direction has no machine
 module _ (direction : Direction) (starts ends : Bool) (s : Side) (no-machine : s .machine ≡ none) (verdicts : List Verdict) where
   abbrev bare : Line
-  bare = lineBy (record { direction = direction; starts = starts; ends = ends; target = pos 4 }) [] [] []
+  bare = lineBy (record { direction = direction; starts = starts; ends = ends; target = pos 4; edition = 1 }) [] [] []
 
   abbrev room : Lent
   room = lentBy [] [] [] verdicts
@@ -76,7 +77,7 @@ module _ (direction : Direction) (starts ends : Bool) (s : Side) (no-machine : s
       ∙ rule-clear ShortRoom 0 (le-leb 0 (length verdicts) (omega arith))
 
   bare-settled : settled Clear s bare room ≡ record { answer = justifies (pos 4) 0 0; lent = room }
-  unfolding remainderOf beforeOf afterOf verdictsOf verdictsFrom gapOf partsOf lineLeft lineMoves leftBy movesBy stageLeft stageMoves shares stages goesBack
+  unfolding remainderOf beforeOf afterOf verdictsOf verdictsFrom gapOf partsOf lineLeft lineMoves leftBy movesBy stageLeft stageMoves shares stages
   bare-settled =
       ap (λ (w : Walk). record {
         answer = justifies (pos 4) (entriesOf w) 0;
@@ -100,14 +101,15 @@ module _ (t : List ℕ) (n : ℕ) (l : Line) (b : Lent) (p : Proper t n l b) (e 
       × (length (b .after) ≡ length (l .glyphs))
   long = lengths-hold (length (l .glyphs)) _ _ _ _ _ (p .lengths)
 
-  -- the line with other sizes, glyphs, advances and target
-  abbrev with : List ℕ → List ℕ → List ℤ → ℤ → Line
-  with zs gs xs z = lineBy (record { direction = l .direction; starts = l .starts; ends = l .ends; target = z }) zs gs xs
+  -- the line with another edition and other sizes, glyphs, advances and target
+  abbrev with : ℕ → List ℕ → List ℕ → List ℤ → ℤ → Line
+  with edition zs gs xs z = lineBy (record { direction = l .direction; starts = l .starts; ends = l .ends; target = z; edition = edition }) zs gs xs
 
   line-is : l ≡ bare (l .direction) (l .starts) (l .ends) (sideFor t n l) (e .no-machine) (b .verdicts)
   line-is =
-      ap₂ (λ (zs gs : List ℕ). with zs gs (l .advances) (l .target)) (none-as-long (l .sizes) (long .0)) (e .no-glyph)
-      ∙ ap₂ (with [] []) (none-as-long (l .advances) (long .1)) (e .has-target)
+      ap₂ (λ (zs gs : List ℕ). with (l .edition) zs gs (l .advances) (l .target)) (none-as-long (l .sizes) (long .0)) (e .no-glyph)
+      ∙ ap₂ (with (l .edition) [] []) (none-as-long (l .advances) (long .1)) (e .has-target)
+      ∙ ap (λ (edition : ℕ). with edition [] [] [] (pos 4)) (p .edition)
 
   lent-is : b ≡ lentBy [] [] [] (b .verdicts)
   lent-is =
@@ -164,7 +166,7 @@ own-class class ty content g size = rw (eq-eqb class class refl)
 -- ---- all
 
 pub all-hold : All Holds cases
-unfolding factorOf shares stageMoves stageLeft stages goesBack movesBy leftBy lineMoves lineLeft lineFits u16At u32At breaks typeFires
+unfolding factorOf shares stageMoves stageLeft stages movesBy leftBy lineMoves lineLeft lineFits u16At u32At breaks typeFires
 all-hold = (
   record { factor = refl; units = refl },
   (

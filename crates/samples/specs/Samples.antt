@@ -103,12 +103,12 @@ pub record FactorHolds (c : FactorCase) : Type 0 where
   pub factor : factorOf (fixedOf (c .limit)) (c .size) ≡ pos (c .units)
   pub units : unitsOf (c .limit) (c .size) ≡ c .units
 
--- refusal 15 does not bar the gap, and the staged rule shares it so
+-- refusal 15 does not bar the gap, and the staged rule's edition 1 shares it so
 pub record ShareHolds (c : ShareCase) : Type 0 where
   pub fits : lineFits (c .glyphs) ≡ true
-  pub before : beforeMoves (c .glyphs) (c .gap) ≡ c .before
-  pub after : afterMoves (c .glyphs) (c .gap) ≡ c .after
-  pub left : lineLeft (c .glyphs) (c .gap) ≡ c .left
+  pub before : beforeMoves true (c .glyphs) (c .gap) ≡ c .before
+  pub after : afterMoves true (c .glyphs) (c .gap) ≡ c .after
+  pub left : lineLeft true (c .glyphs) (c .gap) ≡ c .left
 
 -- the ligature of a glyph of any class, whatever its order and its components
 abbrev pub LigatureHolds : LigatureCase → Type 0
@@ -142,10 +142,11 @@ abbrev pub Shaped : Shape → List ℕ → ℕ → Line → Type 0
 Shaped (empty target) = Empty target
 Shaped stuck = Stuck
 
--- what else a line of at most 1,024 glyphs needs to be walked: refusals 1 to 13 do not bar it
+-- what else a line of at most 1,024 glyphs needs to be walked: its edition is 1, as these samples', and refusals 1 to 13 do not bar it
 pub record Proper (t : List ℕ) (n : ℕ) (l : Line) (b : Lent) : Type 0 where
   pub accepted : Accepted t n
   pub lengths : equalLengths l (lengthsOf b) ≡ true
+  pub edition : l .edition ≡ 1
   pub sizes : goodSizes (l .sizes) ≡ true
   pub advances : goodAdvances l ≡ true
   pub known : allKnown n (l .glyphs) ≡ true
