@@ -96,7 +96,7 @@ static uint32_t justify(const uint8_t *table, size_t length, size_t places) {
     uint16_t *glyphs = lend(2 * places);
     int32_t *advances = lend(4 * places), *before = lend(4 * places), *after = lend(4 * places);
     uint8_t *classes = lend(places);
-    uint32_t fired = 0;
+    uint32_t fired = 0, edition = places % 2 == 0 ? JUST_GX_RULE : JUST_WITHIN_LIMITS;
     for (size_t i = 0; i < places; i++) {
         sizes[i] = i % 3 == 0 ? 917504 : 589824;
         glyphs[i] = (uint16_t)(i * 37 % GLYPHS);
@@ -105,7 +105,7 @@ static uint32_t justify(const uint8_t *table, size_t length, size_t places) {
     for (size_t room = 0; room <= places; room++) {
         struct just_verdict *verdicts = lend(room * sizeof *verdicts);
         struct just_line_answer answer =
-            just_justify(table, length, GLYPHS, 0, true, true, sizes, places, glyphs, places, advances, places,
+            just_justify(table, length, GLYPHS, 0, true, true, edition, sizes, places, glyphs, places, advances, places,
                          90000 * PLACES, classes, places, before, places, after, places, verdicts, room);
         for (uint32_t i = 0; i < answer.verdicts; i++)
             fired += verdicts[i].substitutes ? 2 : 1;

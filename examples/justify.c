@@ -34,10 +34,10 @@ static uint8_t classes[GLYPHS];
 static int32_t before[GLYPHS], after[GLYPHS];
 static struct just_verdict verdicts[GLYPHS];
 
-/* The line, to be 24 pt wide, with room for some verdicts. */
-static struct just_line_answer justify(size_t room) {
-    return just_justify(table, sizeof table, 2, JUST_HORIZONTAL, true, true, sizes, GLYPHS, glyphs, GLYPHS, advances,
-                        GLYPHS, 24 * POINT, classes, GLYPHS, before, GLYPHS, after, GLYPHS, verdicts, room);
+/* The line by an edition of the rule, to be so wide, with room for some verdicts. */
+static struct just_line_answer justify(uint32_t edition, int32_t target, size_t room) {
+    return just_justify(table, sizeof table, 2, JUST_HORIZONTAL, true, true, edition, sizes, GLYPHS, glyphs, GLYPHS,
+                        advances, GLYPHS, target, classes, GLYPHS, before, GLYPHS, after, GLYPHS, verdicts, room);
 }
 
 static double points(int32_t units) { return (double)units / POINT; }
@@ -50,6 +50,12 @@ static void print_line(struct just_line_answer answer) {
         printf("place %u: action %u fires\n", verdicts[i].place, verdicts[i].action);
 }
 
+/* The line to be 40 pt wide, which is more than its limits give. */
+static void print_wide(const char *rule, uint32_t edition) {
+    struct just_line_answer answer = justify(edition, 40 * POINT, GLYPHS);
+    printf("40 pt wide %s: %.2f pt after the space, %.2f pt left\n", rule, points(after[1]), points(answer.remainder));
+}
+
 int main(void) {
     struct just_checked cut = just_check_table(table, 40, 2);
     printf("refusal %u, cut short %u at byte %llu\n", just_check_table(table, sizeof table, 2).refusal, cut.refusal,
@@ -59,7 +65,9 @@ int main(void) {
     struct just_length_answer written = just_table_write_sheet(table, sizeof table, 2, sheet, sizeof sheet);
     printf("a sheet of %u bytes, %u written, refusal %u\n", length.length, written.length,
            just_check_sheet(sheet, written.length).refusal);
-    print_line(justify(GLYPHS));
-    printf("with room for one verdict: refusal %u\n", justify(1).refusal);
+    print_line(justify(JUST_GX_RULE, 24 * POINT, GLYPHS));
+    print_wide("by the GX rule", JUST_GX_RULE);
+    print_wide("within the limits", JUST_WITHIN_LIMITS);
+    printf("with room for one verdict: refusal %u\n", justify(JUST_GX_RULE, 24 * POINT, 1).refusal);
     return 0;
 }

@@ -30,7 +30,7 @@
 #include <stdint.h>
 
 /* Rises when a call or a struct changes, or a refusal is added. */
-#define JUST_VERSION 4
+#define JUST_VERSION 5
 
 #ifdef __cplusplus
 extern "C" {
@@ -54,10 +54,16 @@ enum just_refusal {
     JUST_ENDLESS_WALK = 14,   /* the class walk never ends */
     JUST_STAGE_TOTAL = 15,    /* a stage's total of factors is above 8,589,934,592 units */
     JUST_SHORT_ROOM = 16,     /* verdicts or sheet longer than the lent room */
-    JUST_NOT_SHEET = 17       /* bytes that are not a sheet */
+    JUST_NOT_SHEET = 17,      /* bytes that are not a sheet */
+    JUST_UNKNOWN_EDITION = 18 /* an edition other than 1 and 2 */
 };
 
 enum just_direction { JUST_HORIZONTAL = 0, JUST_VERTICAL = 1 };
+
+/* The editions of the rule by which a line's gap is shared. What is left after the last stage goes back by the GX rule to
+ * the first stage that has limits above 0, whose glyphs then pass them; within the limits, it is the remainder. In both,
+ * unlimited glyphs pass theirs. */
+enum just_edition { JUST_GX_RULE = 1, JUST_WITHIN_LIMITS = 2 };
 
 /* A direction's two lookups: from glyphs to width records, and from glyphs to actions. */
 enum just_lookup { JUST_WIDTH_LOOKUP = 0, JUST_ACTION_LOOKUP = 1 };
@@ -231,10 +237,11 @@ struct just_length_answer just_table_write_sheet(const uint8_t *table, size_t le
 
 /* Justifies one line.
  *
- * `starts` and `ends` say whether the line starts and ends the text. `glyphs` names at most 1,024 glyphs, 0xFFFF being
- * a deleted one; `sizes` are their point sizes, `advances` their widths, `target` is the width wanted, all in units. A
- * glyph's limits and actions are measured at its own size. Each size is 1 to 67,108,864, a deleted glyph's too (else
- * 11); an empty line has none that could be wrong. A line in one size lends that size once for each glyph.
+ * `starts` and `ends` say whether the line starts and ends the text, `edition` is a just_edition (else 18). `glyphs`
+ * names at most 1,024 glyphs, 0xFFFF being a deleted one; `sizes` are their point sizes, `advances` their widths,
+ * `target` is the width wanted, all in units. A glyph's limits and actions are measured at its own size. Each size is 1
+ * to 67,108,864, a deleted glyph's too (else 11); an empty line has none that could be wrong. A line in one size lends
+ * that size once for each glyph.
  *
  * `sizes`, `glyphs`, `advances`, `classes`, `before` and `after` have one length (else 9). On success `classes` has
  * each glyph's class, `before` and `after` the movements on its two sides in units, signed as the gap is: together
@@ -242,13 +249,14 @@ struct just_length_answer just_table_write_sheet(const uint8_t *table, size_t le
  * place and then by number, and the rest of the list stays as it was; 16 where it is too short for them. At most 64
  * actions of a glyph fire, so a list of 64 times the glyphs is never too short.
  *
- * Refuses with the table's 1 to 8, then 9 to 16 in that order. */
+ * Refuses with the table's 1 to 8, then 9, 10, 18, and 11 to 16, in that order. */
 struct just_line_answer just_justify(const uint8_t *table, size_t length, uint32_t glyph_count, uint32_t direction,
-                                     bool starts, bool ends, const uint32_t *sizes, size_t sizes_length,
-                                     const uint16_t *glyphs, size_t glyphs_length, const int32_t *advances,
-                                     size_t advances_length, int32_t target, uint8_t *classes, size_t classes_length,
-                                     int32_t *before, size_t before_length, int32_t *after, size_t after_length,
-                                     struct just_verdict *verdicts, size_t verdicts_length);
+                                     bool starts, bool ends, uint32_t edition, const uint32_t *sizes,
+                                     size_t sizes_length, const uint16_t *glyphs, size_t glyphs_length,
+                                     const int32_t *advances, size_t advances_length, int32_t target,
+                                     uint8_t *classes, size_t classes_length, int32_t *before, size_t before_length,
+                                     int32_t *after, size_t after_length, struct just_verdict *verdicts,
+                                     size_t verdicts_length);
 
 /* Whether bytes are a sheet: refusal 0, or 17. */
 struct just_checked just_check_sheet(const uint8_t *sheet, size_t length);

@@ -6,7 +6,7 @@
 //! - [`Table`] is a table that was accepted with a glyph count; it justifies lines and writes its sheet.
 //! - [`Sheet`] is bytes that were accepted as a sheet, the plain record of what a table means.
 //! - Both answer the questions of [`Meaning`].
-//! - Whatever is refused is refused with a [`Refusal`], which has document 01's number and, for faults in a table, the
+//! - Whatever is refused is refused with a [`Refusal`], which has the documents' number and, for faults in a table, the
 //!   byte; [`Field::of`] says which field stands there. A refusal changes no lent buffer.
 //!
 //! One unit is 1/65,536 point, so [`POINT`] units are a point; limits are in ems, 65,536 to the em.
@@ -33,7 +33,9 @@ mod sheet;
 mod table;
 
 pub use field::{Field, Place};
-pub use line::{one_size, Answer, Justified, Lent, Line, Verdict, VerdictRecord, DELETED, POINT};
+pub use line::{
+    one_size, Answer, Justified, Lent, Line, Verdict, VerdictRecord, DELETED, GX_RULE, POINT, WITHIN_LIMITS,
+};
 pub use parts::{Act, Action, Direction, Entry, Limits, Meaning, Pair, Rule, Sizes};
 pub use refusal::{Reason, Refusal};
 pub use sections::{Machine, Run, Side};

@@ -5,7 +5,7 @@ use crate::refusal::{Reason, Refusal};
 use crate::table::Table;
 use just_raw as raw;
 
-pub use raw::{Lent, Verdict as VerdictRecord};
+pub use raw::{Lent, Verdict as VerdictRecord, GX_RULE, WITHIN_LIMITS};
 
 /// The glyph that stands for a deleted one.
 pub const DELETED: u16 = 0xFFFF;
@@ -24,6 +24,8 @@ pub struct Line<'a> {
     pub starts: bool,
     /// Whether the line ends the text.
     pub ends: bool,
+    /// The edition of the rule by which the gap is shared: [`GX_RULE`], 1, or [`WITHIN_LIMITS`], 2.
+    pub edition: u32,
     /// The point size of each glyph, 1 to 67,108,864, also of a deleted one; [`one_size`] makes those of a line in one size.
     pub sizes: &'a [u32],
     /// At most 1,024 glyphs; [`DELETED`] stands for a deleted one.
@@ -36,7 +38,7 @@ pub struct Line<'a> {
 /// The sizes of a line that is in one size: that size, once for each glyph.
 ///
 /// ```
-/// use just::{one_size, Direction, Line, POINT};
+/// use just::{one_size, Direction, Line, GX_RULE, POINT};
 ///
 /// let glyphs = [7, 8, 9];
 /// let sizes = one_size(12 * POINT, &glyphs);
@@ -45,6 +47,7 @@ pub struct Line<'a> {
 ///     direction: Direction::Horizontal,
 ///     starts: true,
 ///     ends: true,
+///     edition: GX_RULE,
 ///     sizes: &sizes,
 ///     glyphs: &glyphs,
 ///     advances: &[400_000; 3],
@@ -98,7 +101,7 @@ impl Table<'_> {
     /// Justifies a line into lent buffers. A refusal changes none of them. [`Verdict::from`] reads a record of the list.
     ///
     /// ```
-    /// use just::{Answer, Direction, Lent, Line, Table, POINT};
+    /// use just::{Answer, Direction, Lent, Line, Table, POINT, WITHIN_LIMITS};
     ///
     /// let bytes = [0, 1, 0, 0, 0, 0, 0, 0, 0, 0];
     /// let table = Table::new(&bytes, 1)?;
@@ -106,6 +109,7 @@ impl Table<'_> {
     ///     direction: Direction::Horizontal,
     ///     starts: true,
     ///     ends: true,
+    ///     edition: WITHIN_LIMITS,
     ///     sizes: &[14 * POINT, 9 * POINT],
     ///     glyphs: &[0, 0],
     ///     advances: &[500, 500],
@@ -119,8 +123,8 @@ impl Table<'_> {
     /// # Ok::<(), just::Refusal>(())
     /// ```
     pub fn justify_into(&self, line: &Line, lent: Lent) -> Result<Answer, Refusal> {
-        let Line { direction, starts, ends, sizes, glyphs, advances, target } = *line;
-        let line = raw::Line { direction: direction as u32, starts, ends, sizes, glyphs, advances, target };
+        let Line { direction, starts, ends, edition, sizes, glyphs, advances, target } = *line;
+        let line = raw::Line { direction: direction as u32, starts, ends, edition, sizes, glyphs, advances, target };
         let raw::Said { remainder, entries, verdicts } = Refusal::or(self.lent.justify(&line, lent))?;
         Ok(Answer { remainder, entries, verdicts: verdicts as usize })
     }
@@ -128,7 +132,7 @@ impl Table<'_> {
     /// Justifies a line.
     ///
     /// ```
-    /// use just::{Direction, Line, Reason, Refusal, Table, POINT};
+    /// use just::{Direction, Line, Reason, Refusal, Table, GX_RULE, POINT, WITHIN_LIMITS};
     ///
     /// // Glyph 0 grows by up to half an em after it: at 14 pt by 7 points, at 9 pt by 4.5.
     /// let bytes = [
@@ -140,6 +144,7 @@ impl Table<'_> {
     ///     direction: Direction::Horizontal,
     ///     starts: true,
     ///     ends: true,
+    ///     edition: GX_RULE,
     ///     sizes: &[14 * POINT, 9 * POINT, 9 * POINT],
     ///     glyphs: &[0, 1, 0],
     ///     advances: &[100, 100, 100],
@@ -147,6 +152,12 @@ impl Table<'_> {
     /// };
     /// let justified = table.justify(&line)?;
     /// assert_eq!(justified.after, [14, 0, 9]);
+    ///
+    /// // 11.5 points are all that the two may grow by. The GX rule lets them pass that by the 23 units more.
+    /// let wide = 300 + 23 * POINT as i32 / 2 + 23;
+    /// assert_eq!(table.justify(&Line { target: wide, ..line })?.remainder, 0);
+    /// assert_eq!(table.justify(&Line { target: wide, edition: WITHIN_LIMITS, ..line })?.remainder, 23);
+    ///
     /// let refused = table.justify(&Line { sizes: &[14 * POINT, 0, 9 * POINT], ..line });
     /// assert_eq!(refused, Err(Refusal { reason: Reason::PointSize, offset: 0 }));
     /// # Ok::<(), Refusal>(())

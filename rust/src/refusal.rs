@@ -1,4 +1,4 @@
-//! Refusals: document 01's numbers, and for a table's faults the byte.
+//! Refusals: the numbers of documents 01 and 02, and for a table's faults the byte.
 
 use just_raw as raw;
 use std::error::Error;
@@ -24,58 +24,62 @@ pub enum Reason {
     StageTotal,
     ShortRoom,
     NotSheet,
+    UnknownEdition,
     /// A number that a later library gives and this layer does not know.
     Unknown(u32),
 }
 
-/// Each reason with what it means, in the order of document 01's numbers, from 1.
-const MEANINGS: [(Reason, &str); 17] = [
-    (Reason::TableLength, "the table's length is outside 10 to 32,768 bytes"),
-    (Reason::GlyphCount, "the glyph count is outside 1 to 65,535"),
-    (Reason::Version, "the table's version or format is not known"),
-    (Reason::Outside, "a field to be read is not wholly in the table"),
-    (Reason::BadLookup, "a lookup breaks its rule"),
-    (Reason::BadCluster, "a width cluster breaks its rule"),
-    (Reason::BadMachine, "a class machine breaks its rule"),
-    (Reason::BadActions, "an action list breaks its rule"),
-    (Reason::UnequalLengths, "sizes, glyphs, advances, classes or movements are lent in differing lengths"),
-    (Reason::LongLine, "the line has more than 1,024 glyphs"),
-    (Reason::PointSize, "a point size is outside 1 to 67,108,864 units"),
-    (Reason::Advances, "an advance, their sum or the target is outside 0 to 1,073,741,823 units"),
-    (Reason::UnknownGlyph, "a glyph is at or past the glyph count and is not the deleted one"),
-    (Reason::EndlessWalk, "the class walk never ends"),
-    (Reason::StageTotal, "a stage's total of factors is above 8,589,934,592 units"),
-    (Reason::ShortRoom, "the verdicts or the sheet are longer than the lent room"),
-    (Reason::NotSheet, "the bytes are not a sheet"),
+/// The number of each reason, the reason, and what it means; numbers rise, and some are not given.
+const MEANINGS: &[(u32, Reason, &str)] = &[
+    (1, Reason::TableLength, "the table's length is outside 10 to 32,768 bytes"),
+    (2, Reason::GlyphCount, "the glyph count is outside 1 to 65,535"),
+    (3, Reason::Version, "the table's version or format is not known"),
+    (4, Reason::Outside, "a field to be read is not wholly in the table"),
+    (5, Reason::BadLookup, "a lookup breaks its rule"),
+    (6, Reason::BadCluster, "a width cluster breaks its rule"),
+    (7, Reason::BadMachine, "a class machine breaks its rule"),
+    (8, Reason::BadActions, "an action list breaks its rule"),
+    (9, Reason::UnequalLengths, "sizes, glyphs, advances, classes or movements are lent in differing lengths"),
+    (10, Reason::LongLine, "the line has more than 1,024 glyphs"),
+    (11, Reason::PointSize, "a point size is outside 1 to 67,108,864 units"),
+    (12, Reason::Advances, "an advance, their sum or the target is outside 0 to 1,073,741,823 units"),
+    (13, Reason::UnknownGlyph, "a glyph is at or past the glyph count and is not the deleted one"),
+    (14, Reason::EndlessWalk, "the class walk never ends"),
+    (15, Reason::StageTotal, "a stage's total of factors is above 8,589,934,592 units"),
+    (16, Reason::ShortRoom, "the verdicts or the sheet are longer than the lent room"),
+    (17, Reason::NotSheet, "the bytes are not a sheet"),
+    (18, Reason::UnknownEdition, "the edition is neither 1 nor 2"),
 ];
 
 impl Reason {
-    /// Document 01's number.
+    /// The number that documents 01 and 02 give it.
     ///
     /// ```
     /// assert_eq!(just::Reason::EndlessWalk.number(), 14);
     /// ```
     pub fn number(self) -> u32 {
-        match (self, self.place()) {
-            (Reason::Unknown(number), _) => number,
-            (_, place) => place as u32 + 1,
-        }
-    }
-
-    /// Its place among the known ones; past them for one that is not known.
-    fn place(self) -> usize {
-        MEANINGS.iter().position(|(reason, _)| *reason == self).unwrap_or(MEANINGS.len())
+        self.told().0
     }
 
     /// What it means, in words.
     pub fn meaning(self) -> &'static str {
-        MEANINGS.get(self.place()).map_or("a refusal that is not known here", |(_, meaning)| meaning)
+        self.told().1
+    }
+
+    /// Its number and what it means.
+    fn told(self) -> (u32, &'static str) {
+        let known = MEANINGS.iter().find(|(_, reason, _)| *reason == self);
+        match (self, known) {
+            (_, Some(&(number, _, meaning))) => (number, meaning),
+            (Reason::Unknown(number), None) => (number, "a refusal that is not known here"),
+            (_, None) => unreachable!("every reason has a meaning"),
+        }
     }
 
     /// The reason of a number; 0 is none.
     fn of(number: u32) -> Option<Reason> {
-        let place = number.checked_sub(1)?;
-        Some(MEANINGS.get(place as usize).map_or(Reason::Unknown(number), |(reason, _)| *reason))
+        let known = MEANINGS.iter().find(|(known, _, _)| *known == number);
+        (number != 0).then(|| known.map_or(Reason::Unknown(number), |(_, reason, _)| *reason))
     }
 
     /// Whether it is a fault of a field of a table, which stands at some byte: 4 to 8.
@@ -103,7 +107,7 @@ pub struct Refusal {
 }
 
 impl Refusal {
-    /// Document 01's number.
+    /// The number that documents 01 and 02 give it.
     pub fn number(self) -> u32 {
         self.reason.number()
     }
@@ -145,14 +149,27 @@ mod tests {
     #[test]
     fn each_number_has_its_reason() {
         assert_eq!(answered(0, 0), Ok(()));
-        for (place, (reason, meaning)) in MEANINGS.into_iter().enumerate() {
-            let number = place as u32 + 1;
+        for &(number, reason, meaning) in MEANINGS {
             let refusal = Refusal { reason, offset: 0 };
             assert_eq!(refusal.number(), number);
             assert_eq!(answered(number, 0), Err(refusal));
             let at = if (4..=8).contains(&number) { " at byte 0" } else { "" };
             assert_eq!(refusal.to_string(), format!("refused {number}{at}: {meaning}"));
         }
+    }
+
+    /// The numbers that the header's enum gives, after 0 for none.
+    #[test]
+    fn the_numbers_are_the_headers() {
+        let header = include_str!("../../include/just.h");
+        let text =
+            header.split("enum just_refusal {").nth(1).and_then(|text| text.split('}').next()).expect("the enum");
+        let numbers = text.lines().filter_map(|line| line.split("= ").nth(1));
+        let numbers: Vec<u32> = numbers
+            .map(|text| text.chars().take_while(char::is_ascii_digit).collect::<String>().parse().expect("a number"))
+            .collect();
+        let known: Vec<u32> = [0].into_iter().chain(MEANINGS.iter().map(|row| row.0)).collect();
+        assert_eq!(numbers, known);
     }
 
     #[test]
@@ -164,7 +181,7 @@ mod tests {
 
     #[test]
     fn a_number_that_is_not_known_is_no_panic() {
-        for number in [18, u32::MAX] {
+        for number in [19, u32::MAX] {
             let refusal = answered(number, 0).unwrap_err();
             assert_eq!(refusal, Refusal { reason: Reason::Unknown(number), offset: 0 });
             assert_eq!(refusal.to_string(), format!("refused {number}: a refusal that is not known here"));

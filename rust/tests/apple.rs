@@ -6,7 +6,7 @@ mod common;
 use common::{complex, simple, GLYPHS};
 use just::{
     Act, Action, Direction, Entry, Found, Justified, Limits, Line, Lookup, Meaning, Pair, Reason, Refusal, Rule, Sheet,
-    Sizes, Table, Units, Verdict, DELETED, POINT,
+    Sizes, Table, Units, Verdict, DELETED, GX_RULE, POINT,
 };
 
 const WAY: Direction = Direction::Horizontal;
@@ -64,6 +64,7 @@ fn a_line_of_letters_takes_a_kashida() {
         direction: WAY,
         starts: true,
         ends: true,
+        edition: GX_RULE,
         sizes: &[POINT; 3],
         glyphs: &[3, 4, 2],
         advances: &[0; 3],
@@ -99,8 +100,16 @@ fn components_are_a_stretch_of_the_table() {
 fn more_verdicts_than_glyphs_are_all_given() {
     let bytes = common::with_actions(3);
     let table = Table::new(&bytes, 1).expect("a table");
-    let line =
-        Line { direction: WAY, starts: true, ends: true, sizes: &[POINT], glyphs: &[0], advances: &[0], target: 5 };
+    let line = Line {
+        direction: WAY,
+        starts: true,
+        ends: true,
+        edition: GX_RULE,
+        sizes: &[POINT],
+        glyphs: &[0],
+        advances: &[0],
+        target: 5,
+    };
     let verdicts = table.justify(&line).expect("a justified line").verdicts;
     assert_eq!(verdicts.iter().map(|verdict| verdict.action).collect::<Vec<_>>(), [0, 1, 2]);
 }

@@ -1,10 +1,10 @@
-//! Lines in two sizes: the README's, and what is refused of them. The numbers are worked out by hand from document 01's rule,
-//! with each glyph's own size as document 02 has it (request 5/14).
+//! Lines in two sizes and by both editions: the README's, and what is refused of them. The numbers are worked out by hand from
+//! document 01's rule, with each glyph's own size and with the second edition as document 02 has them (requests 5 and 7/14).
 
 mod common;
 
 use common::{simple, with_ligature, GLYPHS};
-use just::{one_size, Direction, Justified, Line, Reason, Refusal, Table, DELETED, POINT};
+use just::{one_size, Direction, Justified, Line, Reason, Refusal, Table, DELETED, GX_RULE, POINT, WITHIN_LIMITS};
 
 /// An eighth of a point.
 const EIGHTH: i32 = POINT as i32 / 8;
@@ -15,7 +15,8 @@ const GLOSS: u32 = 9 * POINT;
 /// A line of glyph 0, which starts and ends the text, of advances 0.
 fn line<'a>(sizes: &'a [u32], glyphs: &'a [u16], target: i32) -> Line<'a> {
     let advances = &[0; 8][..glyphs.len()];
-    Line { direction: Direction::Horizontal, starts: true, ends: true, sizes, glyphs, advances, target }
+    let direction = Direction::Horizontal;
+    Line { direction, starts: true, ends: true, edition: GX_RULE, sizes, glyphs, advances, target }
 }
 
 /// The README's line: a letter and a space at 14 pt, then letter, space and letter at 9 pt, 21.75 pt wide in all.
@@ -24,6 +25,7 @@ fn entry(target: i32) -> Line<'static> {
         direction: Direction::Horizontal,
         starts: true,
         ends: false,
+        edition: GX_RULE,
         sizes: &[HEADWORD, HEADWORD, GLOSS, GLOSS, GLOSS],
         glyphs: &[3, 2, 3, 2, 3],
         advances: &[56 * EIGHTH, 28 * EIGHTH, 36 * EIGHTH, 18 * EIGHTH, 36 * EIGHTH],
@@ -46,6 +48,36 @@ fn spaces_grow_by_their_own_size() {
     // In one size, 14 pt, each side of a space may grow by 7 pt, and gets a quarter of the gap.
     let one = Line { sizes: &one_size(HEADWORD, entry(0).glyphs), ..entry(266 * EIGHTH) };
     assert_eq!(justified(&one).after, [0, 23 * EIGHTH, 0, 23 * EIGHTH, 0]);
+}
+
+#[test]
+fn the_editions_side_by_side() {
+    // The spaces of stage 1 may grow by 23 pt, the letters of stage 2 by 2 × 132,608 units and 4 × 85,248, which is 9.25 pt:
+    // 32.25 pt in all. The gap is 43.75 pt, so 11.5 pt are left: half of what stage 1 may grow by.
+    let wide = entry(524 * EIGHTH);
+    let gx = justified(&wide);
+    let passed = [132_608, (56 + 28) * EIGHTH, 85_248, (36 + 18) * EIGHTH, 85_248];
+    assert_eq!((gx.before, gx.after, gx.remainder), (passed.into(), passed.into(), 0));
+    let within = justified(&Line { edition: WITHIN_LIMITS, ..wide });
+    let full = [132_608, 56 * EIGHTH, 85_248, 36 * EIGHTH, 85_248];
+    assert_eq!((within.before, within.after, within.remainder), (full.into(), full.into(), 92 * EIGHTH));
+    // A gap that the limits can take is shared alike.
+    let narrow = entry(266 * EIGHTH);
+    assert_eq!(justified(&narrow), justified(&Line { edition: WITHIN_LIMITS, ..narrow }));
+}
+
+#[test]
+fn editions_are_1_and_2() {
+    let bytes = simple();
+    let table = Table::new(&bytes, GLYPHS).expect("a table");
+    for edition in [0, 3, u32::MAX] {
+        let of = |line: Line| table.justify(&Line { edition, ..line }).expect_err("a refusal").reason;
+        assert_eq!(of(line(&[POINT], &[0], 0)), Reason::UnknownEdition);
+        assert_eq!(of(line(&[], &[], 0)), Reason::UnknownEdition);
+        // Between 10 and 11.
+        assert_eq!(of(line(&[0], &[0], 0)), Reason::UnknownEdition);
+        assert_eq!(of(line(&[], &[0], 0)), Reason::UnequalLengths);
+    }
 }
 
 #[test]

@@ -15,12 +15,12 @@ mod table;
 pub use answers::{
     Action, Answer, Checked, Direction, Entry, Flags, Found, Limits, Lookup, Pair, Part, Sizes, Stretch, Units, Value,
 };
-pub use line::{Lent, Line, Said, Verdict};
+pub use line::{Lent, Line, Said, Verdict, GX_RULE, WITHIN_LIMITS};
 pub use sheet::Sheet;
 pub use table::Table;
 
 /// The version of the C header that these functions follow.
-pub const VERSION: u32 = 4;
+pub const VERSION: u32 = 5;
 
 /// What is asked for the parts of its meaning: a table or a sheet. It is judged first each time.
 ///

@@ -10,6 +10,7 @@ extern "C" {
         direction: u32,
         starts: bool,
         ends: bool,
+        edition: u32,
         sizes: *const u32,
         sizes_length: usize,
         glyphs: *const u16,
@@ -28,6 +29,13 @@ extern "C" {
     ) -> Answer<Said>;
 }
 
+/// Edition 1 of the rule: what is left after the last stage goes back to the first stage that has limits above 0, whose
+/// glyphs then pass them.
+pub const GX_RULE: u32 = 1;
+
+/// Edition 2: what is left after the last stage is the remainder.
+pub const WITHIN_LIMITS: u32 = 2;
+
 /// A line. Sizes, advances and target are in units.
 #[derive(Clone, Copy, Debug)]
 pub struct Line<'a> {
@@ -35,6 +43,8 @@ pub struct Line<'a> {
     pub direction: u32,
     pub starts: bool,
     pub ends: bool,
+    /// [`GX_RULE`] or [`WITHIN_LIMITS`].
+    pub edition: u32,
     pub sizes: &'a [u32],
     pub glyphs: &'a [u16],
     pub advances: &'a [i32],
@@ -88,6 +98,7 @@ impl Table<'_> {
                 line.direction,
                 line.starts,
                 line.ends,
+                line.edition,
                 line.sizes.as_ptr(),
                 line.sizes.len(),
                 line.glyphs.as_ptr(),
