@@ -92,5 +92,6 @@ pub fn draw(asked: &mut Questions) -> LineCase {
     };
     let sizes = glyphs.iter().map(&mut size_of).collect();
     let (advances, target) = widths(glyphs.len(), grow, asked);
-    LineCase { sizes, advances, target, ..drafts::line(drafts::table(&records, &[], &[]), 3, glyphs) }
+    let edition = 1 + asked.below(2) as u32;
+    LineCase { edition, sizes, advances, target, ..drafts::line(drafts::table(&records, &[], &[]), 3, glyphs) }
 }

@@ -50,7 +50,7 @@ pub fn grows(before: u32, after: u32, flags: u16) -> WidthRecord {
     }
 }
 
-/// A horizontal line at 1 pt that starts and ends the text, of advances and target 0, with buffers of the right length and
+/// A horizontal line at 1 pt that starts and ends the text, by the first edition, of advances and target 0, with buffers of the right length and
 /// no room for verdicts.
 pub fn line(table: Vec<u8>, n: u32, glyphs: Vec<u16>) -> LineCase {
     let count = glyphs.len();
@@ -60,6 +60,7 @@ pub fn line(table: Vec<u8>, n: u32, glyphs: Vec<u16>) -> LineCase {
         direction: Direction::Horizontal,
         starts: true,
         ends: true,
+        edition: 1,
         sizes: one_size(65_536, count),
         glyphs,
         advances: vec![0; count],

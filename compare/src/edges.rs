@@ -1,4 +1,5 @@
-//! A glyph's edges under a narrower and a wider target (document 02, request 1/14): none may lie further back under the wider.
+//! A glyph's edges under a narrower and a wider target (document 02, request 1/14): none may lie further back under the wider, in either
+//! edition (request 7/14).
 
 use crate::questions::Questions;
 use crate::refused::said;
@@ -11,11 +12,20 @@ use reference::line::MOST_WIDTH;
 /// The most actions that fire for one glyph.
 const MOST_ACTIONS: usize = 64;
 
-/// What a run has to meet: two targets of one line that are both accepted.
-pub const BOTH_GROW: &str = "edges, both targets growing";
-pub const BOTH_SHRINK: &str = "edges, both targets shrinking";
-pub const ONE_OF_EACH: &str = "edges, one target shrinking and one growing";
-pub const MARKS: [&str; 3] = [BOTH_GROW, BOTH_SHRINK, ONE_OF_EACH];
+/// On which sides of the advances' sum two targets of one line stand.
+const BOTH_GROW: &str = "both targets growing";
+const BOTH_SHRINK: &str = "both targets shrinking";
+const ONE_OF_EACH: &str = "one target shrinking and one growing";
+
+/// What a run has to meet: two targets of one line that are both accepted, in each edition.
+pub fn marks() -> impl Iterator<Item = String> {
+    let all = [BOTH_GROW, BOTH_SHRINK, ONE_OF_EACH];
+    [1, 2].into_iter().flat_map(move |edition| all.map(|sides| mark(edition, sides)))
+}
+
+fn mark(edition: u32, sides: &str) -> String {
+    format!("edges in edition {edition}, {sides}")
+}
 
 /// The left and right edge of each glyph, in line order.
 type Edges = Vec<(i64, i64)>;
@@ -75,14 +85,13 @@ pub fn compare(case: &LineCase, asked: &mut Questions, tally: &mut Tally) -> Out
         targets(sum, asked).into_iter().filter_map(|target| Some((target, edges(case, &inputs, target)?))).collect();
     for pair in shown.windows(2) {
         let [(narrow, narrow_edges), (wide, wide_edges)] = pair else { continue };
-        tally.note(mark(*narrow, *wide, sum).into());
+        tally.note(mark(case.edition, sides(*narrow, *wide, sum)));
         hold(narrow_edges, wide_edges, (*narrow, *wide))?;
     }
     Ok(())
 }
 
-/// On which sides of the advances' sum two targets stand.
-fn mark(narrow: i64, wide: i64, sum: i64) -> &'static str {
+fn sides(narrow: i64, wide: i64, sum: i64) -> &'static str {
     if narrow >= sum {
         BOTH_GROW
     } else if wide < sum {

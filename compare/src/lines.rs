@@ -104,6 +104,7 @@ impl Inputs {
             direction: library::number(case.direction),
             starts: case.starts,
             ends: case.ends,
+            edition: case.edition,
             sizes: self.sizes.held(),
             glyphs: self.glyphs.held(),
             advances: self.advances.held(),

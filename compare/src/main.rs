@@ -180,8 +180,8 @@ fn run(asked: &Asked) -> u32 {
 
 /// Says how often lines were refused, and what a long run met too rarely; gives how many those are.
 fn missed(lines: u64, tally: &Tally) -> u32 {
-    let refused: Vec<u64> = (9..=16).map(|number| tally.count(&format!("refusal {number}"))).collect();
-    println!("compare: lines accepted {}, refused 9 to 16: {refused:?}", tally.count("accepted"));
+    let refused: Vec<u64> = marks::REFUSALS.iter().map(|number| tally.count(&format!("refusal {number}"))).collect();
+    println!("compare: lines accepted {}, refused 9, 10, 18, 11 to 16: {refused:?}", tally.count("accepted"));
     if lines < marks::LONG_RUN {
         return 0;
     }

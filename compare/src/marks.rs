@@ -11,6 +11,10 @@ use reference::{justify, read_table, totals, Fault, Justified};
 /// How many lines a run has at least before marks are asked of it.
 pub const LONG_RUN: u64 = 20_000;
 
+/// The refusals of a line beside its table's, in their order.
+pub const REFUSALS: [u32; 9] = [9, 10, 18, 11, 12, 13, 14, 15, 16];
+
+const EDITIONS: [u32; 5] = [0, 1, 2, 3, u32::MAX];
 const SIZES: [i64; 4] = [0, 1, 67_108_864, 67_108_865];
 const PLACES: [usize; 3] = [0, 1_024, 1_025];
 const WAYS: [&str; 2] = ["growing", "shrinking"];
@@ -22,7 +26,7 @@ const ROOMS: [&str; 3] = ["one short", "exact", "long"];
 /// What an accepted line may show, and the test for it.
 type Shown = (&'static str, fn(&LineCase, &Justified) -> bool);
 
-const SHOWN: [Shown; 6] = [
+const SHOWN: [Shown; 8] = [
     ("a line in one size", |case, _| case.sizes.len() > 1 && !in_two_sizes(case)),
     ("a line in two sizes", |case, _| in_two_sizes(case)),
     ("a walk that stays and ends", |case, answer| answer.entries > case.glyphs.len() as u64 + 1),
@@ -30,8 +34,15 @@ const SHOWN: [Shown; 6] = [
         case.glyphs.iter().zip(&answer.classes).any(|(&glyph, &class)| glyph == DELETED && class > 0)
     }),
     ("a remainder", |_, answer| answer.remainder != 0),
+    ("left at the limits, growing", |_, answer| is_stretched(answer) && answer.remainder > 0),
+    ("left at the limits, shrinking", |_, answer| is_stretched(answer) && answer.remainder < 0),
     ("a substituting verdict", |_, answer| answer.verdicts.iter().any(|verdict| verdict.substituting)),
 ];
+
+/// Whether something moves.
+fn is_stretched(answer: &Justified) -> bool {
+    answer.before.iter().chain(&answer.after).any(|&units| units != 0)
+}
 
 fn in_two_sizes(case: &LineCase) -> bool {
     case.sizes.windows(2).any(|two| two[0] != two[1])
@@ -64,13 +75,15 @@ fn length_mark(buffer: &str, longer: bool) -> String {
 
 /// Every mark, and how often it is wanted.
 pub fn wanted() -> Vec<(String, u64)> {
-    let mut wanted: Vec<(String, u64)> = (9..=16).map(|number| (format!("refusal {number}"), 100)).collect();
+    let mut wanted: Vec<(String, u64)> = REFUSALS.iter().map(|number| (format!("refusal {number}"), 100)).collect();
     let mut want = |mark: String| wanted.push((mark, 20));
+    EDITIONS.iter().for_each(|edition| want(format!("edition {edition}")));
     sizes().for_each(|(size, deleted)| want(size_mark(size, deleted)));
     PLACES.iter().for_each(|count| want(format!("{count} glyphs")));
     ROOMS.iter().for_each(|room| want(format!("room {room}")));
     SHOWN.iter().for_each(|(shown, _)| want(shown.to_string()));
-    edges::MARKS.iter().chain(&finds::MARKS).for_each(|mark| want(mark.to_string()));
+    edges::marks().for_each(&mut want);
+    finds::MARKS.iter().for_each(|mark| want(mark.to_string()));
     for stage in 0..STAGES {
         BESIDE.iter().for_each(|beside| want(cap_mark(beside, stage)));
     }
@@ -97,6 +110,7 @@ pub fn note(case: &LineCase, second: &Result<Justified, Fault>, tally: &mut Tall
         }
         Err(fault) => tally.note(format!("refusal {}", fault.number)),
     }
+    tally.note(format!("edition {}", case.edition));
     for (size, deleted) in sizes() {
         let mut places = case.sizes.iter().zip(&case.glyphs);
         if places.any(|(&own, &glyph)| own == size && (glyph == DELETED) == deleted) {

@@ -45,6 +45,10 @@ fn threes(priority: u16, gap: i64) -> LineCase {
     line(table(&[grows(3, 3, priority), grows(3, 0, priority)], &[], &[]), 2, &[0, 1], gap, POINT)
 }
 
+fn of_edition(edition: u32, case: LineCase) -> LineCase {
+    LineCase { edition, ..case }
+}
+
 /// The line with other sizes.
 fn sized(case: LineCase, sizes: &[i64]) -> LineCase {
     LineCase { sizes: sizes.to_vec(), ..case }
@@ -124,6 +128,21 @@ fn two_sizes() -> Vec<(&'static str, LineCase, Says)> {
     ]
 }
 
+/// Lines of document 02, request 7/14: each is the second edition's.
+fn within_limits() -> Vec<(&'static str, LineCase, Says)> {
+    let open = table(&[grows(0, 0, 0x1001)], &[], &[]);
+    let one_left = Says::Moves(vec![3, 3], vec![3, 0], 1, 0);
+    let answered = vec![
+        ("within the limits, gap 7", threes(0, 7), moves(&[2, 3], &[2, 0])),
+        ("within the limits, gap 9", threes(0, 9), moves(&[3, 3], &[3, 0])),
+        ("within the limits, gap 10", threes(0, 10), one_left.clone()),
+        ("within the limits of stage 3, gap 10", threes(3, 10), one_left),
+        ("unlimited within the limits", line(open, 2, &[0, 1, 0], 5, POINT), moves(&[0, 0, 0], &[2, 0, 3])),
+        ("an empty line, within the limits", line(empty(), 1, &[], 4, POINT), Says::Moves(vec![], vec![], 4, 0)),
+    ];
+    answered.into_iter().map(|(name, case, says)| (name, of_edition(2, case), says)).collect()
+}
+
 /// Movements with no remainder and no verdict.
 fn moves(before: &[i64], after: &[i64]) -> Says {
     Says::Moves(before.to_vec(), after.to_vec(), 0, 0)
@@ -137,6 +156,13 @@ fn refusals() -> Vec<(&'static str, LineCase, u32)> {
         ("more movements before", with(bare(), |case| case.before_len = 2), 9),
         ("fewer movements after", with(bare(), |case| case.after_len = 0), 9),
         ("1,025 glyphs", line(empty(), 1, &[0; 1_025], 0, POINT), 10),
+        ("edition 0", of_edition(0, bare()), 18),
+        ("edition 3", of_edition(3, bare()), 18),
+        ("edition 2^32 - 1", of_edition(u32::MAX, bare()), 18),
+        ("edition 0 of an empty line", of_edition(0, line(empty(), 1, &[], 0, POINT)), 18),
+        ("glyphs before the edition", of_edition(0, line(empty(), 1, &[0; 1_025], 0, POINT)), 10),
+        ("edition before size", of_edition(0, line(empty(), 1, &[0], 0, 0)), 18),
+        ("a total above the cap, within the limits", of_edition(2, cap(2, true)), 15),
         ("size 0", with(bare(), |case| case.sizes[0] = 0), 11),
         ("size 67,108,865", with(bare(), |case| case.sizes[0] = 67_108_865), 11),
         ("size 0 at the second glyph", with(pair.clone(), |case| case.sizes[1] = 0), 11),
@@ -158,7 +184,7 @@ fn refusals() -> Vec<(&'static str, LineCase, u32)> {
 /// All samples, in a fixed order.
 pub static ALL: LazyLock<Vec<Sample>> = LazyLock::new(|| {
     let refused = refusals().into_iter().map(|(name, case, number)| (name, case, Says::Refused(number)));
-    let answered = sharing().into_iter().chain(null_priority()).chain(two_sizes());
+    let answered = sharing().into_iter().chain(null_priority()).chain(two_sizes()).chain(within_limits());
     answered.chain(refused).map(|(name, case, says)| Sample { name, case, says }).collect()
 });
 

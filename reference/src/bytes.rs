@@ -36,6 +36,7 @@ pub const MACHINE: u32 = 7;
 pub const ACTIONS: u32 = 8;
 pub const ROOM: u32 = 16;
 pub const SHEET: u32 = 17;
+pub const EDITION: u32 = 18;
 
 /// Passes over a field that keeps its rule; otherwise gives the fault.
 pub fn judge(kept: bool, number: u32, at: u64) -> Result<(), Fault> {

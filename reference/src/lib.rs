@@ -25,7 +25,7 @@ pub use line::{justify, justify_with, one_size, Justified, Line, LineInput};
 pub use lookup::Found;
 pub use machine::Machine;
 pub use meaning::{Action, Cell, Direction, Parts, Sizes, Stretch, WidthRecord};
-pub use share::{factor, share, totals, Room, Shares};
+pub use share::{factor, share, share_to_limits, totals, Room, Shares};
 pub use sheet_read::{check_sheet, open_sheet, read_sheet, Meaning};
 pub use sheet_write::{sheet_length, sheet_of, write_sheet, write_sheet_within};
 pub use table::{check_table, component_bytes, component_list, find, read_table, Table, Which};

@@ -1,16 +1,17 @@
-//! The call for one line: every refusal in its order, then classes, movements,
-//! remainder, count of entries and verdicts.
+//! The call for one line: every refusal in its order (9, 10, 18, then 11 to
+//! 16), then classes, movements, remainder, count of entries and verdicts.
 
 use crate::actions;
-use crate::bytes::{refuse, Fault, ROOM};
+use crate::bytes::{refuse, Fault, EDITION, ROOM};
 use crate::machine::DELETED_CLASS;
 use crate::meaning::{Direction, Parts, WidthRecord, DELETED, PRIORITY, UNLIMITED};
-use crate::share::{factor, share, totals, Room, Shares};
+use crate::share::{factor, share, share_to_limits, totals, Room, Shares};
 use crate::table::{read_table, Table};
 use crate::verdict::{decide, Fires, VerdictRecord};
 use crate::walk::walk;
 
 pub const MOST_PLACES: usize = 1_024;
+pub const LAST_EDITION: u32 = 2;
 pub const MOST_SIZE: i64 = 67_108_864;
 pub const MOST_WIDTH: i64 = 1_073_741_823;
 pub const MOST_TOTAL: u64 = 8_589_934_592;
@@ -23,6 +24,8 @@ pub struct Line<'a> {
     pub starts: bool,
     /// The line ends the text.
     pub ends: bool,
+    /// The edition of the sharing rule, 1 or 2 (document 02, request 7/14).
+    pub edition: u32,
     /// Each glyph's own point size (document 02, request 5/14).
     pub sizes: &'a [i64],
     pub glyphs: &'a [u16],
@@ -82,6 +85,7 @@ pub fn justify_with(
     let (classes, entries) = classes_of(table, line).ok_or(Fault::plain(14))?;
     let rooms = rooms_of(table, line, &classes, gap >= 0);
     refuse(totals(&rooms).iter().any(|&total| total > MOST_TOTAL), 15)?;
+    let share = if line.edition == 1 { share } else { share_to_limits };
     let shares = share(&rooms, gap.unsigned_abs());
     let (before, after, remainder) = signed(shares, gap < 0);
     let verdicts = verdicts_of(table, line, &classes, &before, &after);
@@ -89,10 +93,11 @@ pub fn justify_with(
     Ok(Justified { classes, before, after, remainder, entries, verdicts })
 }
 
-/// Refusals 10 to 13; gives the gap. A deleted glyph's size is judged like any
+/// Refusals 10, 18 and 11 to 13; gives the gap. A deleted glyph's size is judged like any
 /// other, and an empty line has none.
 fn check_line(n: u32, line: &Line) -> Result<i64, Fault> {
     refuse(line.glyphs.len() > MOST_PLACES, 10)?;
+    refuse(!(1..=LAST_EDITION).contains(&line.edition), EDITION)?;
     refuse(line.sizes.iter().any(|size| !(1..=MOST_SIZE).contains(size)), 11)?;
     let width = 0..=MOST_WIDTH;
     refuse(line.advances.iter().any(|advance| !width.contains(advance)), 12)?;

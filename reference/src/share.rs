@@ -1,5 +1,5 @@
 //! Sharing the gap (document 01, the section of that name; document 02,
-//! request 2/14, for stage 3).
+//! request 2/14, for stage 3, and request 7/14 for the second edition).
 //!
 //! Everything here is on sizes; the line puts signs on at the end.
 
@@ -39,8 +39,21 @@ pub fn totals(rooms: &[Option<Room>]) -> [u64; STAGES] {
     totals
 }
 
-/// Shares `gap` stage by stage. A place with `None` takes no part.
+/// Shares `gap` under edition 1: what is left after the last stage goes back to
+/// the first stage with a total. A place with `None` takes no part.
 pub fn share(rooms: &[Option<Room>], gap: u64) -> Shares {
+    let mut shares = share_to_limits(rooms, gap);
+    let totals = totals(rooms);
+    if let Some(stage) = totals.iter().position(|&total| total > 0) {
+        let left = std::mem::take(&mut shares.remainder);
+        add_portions(rooms, stage, left, totals[stage], &mut shares);
+    }
+    shares
+}
+
+/// Shares `gap` under edition 2, stage by stage: what is left after the last
+/// stage is the remainder.
+pub fn share_to_limits(rooms: &[Option<Room>], gap: u64) -> Shares {
     let totals = totals(rooms);
     let mut shares = Shares { before: vec![0; rooms.len()], after: vec![0; rooms.len()], remainder: 0 };
     let mut left = gap;
@@ -55,10 +68,7 @@ pub fn share(rooms: &[Option<Room>], gap: u64) -> Shares {
             return shares;
         }
     }
-    match totals.iter().position(|&total| total > 0) {
-        Some(stage) => add_portions(rooms, stage, left, totals[stage], &mut shares),
-        None => shares.remainder = left,
-    }
+    shares.remainder = left;
     shares
 }
 

@@ -201,7 +201,7 @@ fn faults_fall_on_every_kind_of_field() {
 
 #[test]
 fn lines_meet_every_refusal() {
-    let mut counts = [0usize; 17];
+    let mut counts = [0usize; 19];
     let mut kinds = Kinds::new();
     let mut past = [0usize; 4];
     for index in 0..DRAWS {
@@ -219,10 +219,11 @@ fn lines_meet_every_refusal() {
             }
         }
     }
-    println!("lines accepted {}, refused 1 to 8: {:?}, 9 to 16: {:?}", counts[0], &counts[1..9], &counts[9..]);
+    println!("lines accepted {}, refused 1 to 8: {:?}, 9 to 18: {:?}", counts[0], &counts[1..9], &counts[9..]);
     println!("past the cap in stages 0 to 3: {past:?}; {kinds:?}");
     about_half(counts[0]);
-    assert!(counts[9..].iter().all(|&count| count >= 20), "{counts:?}");
+    assert_eq!(counts[17], 0);
+    assert!((9..=18).all(|number| number == 17 || counts[number] >= 20), "{counts:?}");
     assert!(past.iter().all(|&count| count >= 10), "{past:?}");
     let rare: Vec<String> =
         wanted_kinds().into_iter().filter(|kind| kinds.get(kind).is_none_or(|&met| met < 15)).collect();
@@ -236,12 +237,20 @@ type Kinds = BTreeMap<String, usize>;
 fn wanted_kinds() -> Vec<String> {
     let ways = ["done in", "unlimited in", "back to"];
     let stages = ways.iter().flat_map(|way| (0..4).map(move |stage| format!("{way} stage {stage}")));
-    let others = ["remainder", "stage 3 after another", "classes", "verdicts", "substituting"];
+    let others = [
+        "remainder",
+        "at the limits, growing",
+        "at the limits, shrinking",
+        "stage 3 after another",
+        "classes",
+        "verdicts",
+        "substituting",
+    ];
     stages.chain(others.map(String::from)).collect()
 }
 
-/// Which way through the sharing a gap takes.
-fn way_of(rooms: &[Option<Room>], gap: u64) -> String {
+/// Which way through the sharing a gap takes under an edition.
+fn way_of(rooms: &[Option<Room>], gap: u64, edition: u32) -> String {
     let sums = totals(rooms);
     let open = |stage: usize| rooms.iter().flatten().any(|room| room.stage as usize == stage && room.unlimited);
     let mut left = gap;
@@ -254,7 +263,11 @@ fn way_of(rooms: &[Option<Room>], gap: u64) -> String {
             return format!("unlimited in stage {stage}");
         }
     }
-    sums.iter().position(|&sum| sum > 0).map_or("remainder".into(), |stage| format!("back to stage {stage}"))
+    match sums.iter().position(|&sum| sum > 0) {
+        None => "remainder".into(),
+        Some(stage) if edition == 1 => format!("back to stage {stage}"),
+        Some(_) => "at the limits".into(),
+    }
 }
 
 fn note_kinds(case: &generate::LineCase, answer: &Justified, kinds: &mut Kinds) {
@@ -263,8 +276,10 @@ fn note_kinds(case: &generate::LineCase, answer: &Justified, kinds: &mut Kinds) 
     let table = read_table(&case.table, case.n).unwrap();
     let (classes, _) = classes_of(&table, &case.line()).unwrap();
     let rooms = rooms_of(&table, &case.line(), &classes, gap >= 0);
-    let way = way_of(&rooms, gap.unsigned_abs());
+    let way = way_of(&rooms, gap.unsigned_abs(), case.edition);
     note(&way, gap != 0);
+    note("at the limits, growing", way == "at the limits" && gap > 0);
+    note("at the limits, shrinking", way == "at the limits" && gap < 0);
     note("stage 3 after another", way == "done in stage 3" && totals(&rooms)[..3].iter().any(|&sum| sum > 0));
     note("classes", answer.classes.iter().any(|&class| class != 0));
     note("verdicts", !answer.verdicts.is_empty());
@@ -278,6 +293,17 @@ fn stages_past_the_cap(case: &generate::LineCase) -> Vec<usize> {
     let (classes, _) = classes_of(&table, &case.line()).unwrap();
     let sums = totals(&rooms_of(&table, &case.line(), &classes, gap >= 0));
     (0..sums.len()).filter(|&stage| sums[stage] > 1 << 33).collect()
+}
+
+#[test]
+fn lines_name_every_edition() {
+    let mut counts: BTreeMap<u32, usize> = BTreeMap::new();
+    for index in 0..DRAWS {
+        *counts.entry(generate::line(SEED, index).edition).or_default() += 1;
+    }
+    println!("{counts:?}");
+    assert_eq!(counts.keys().copied().collect::<Vec<_>>(), [0, 1, 2, 3, u32::MAX]);
+    assert!(counts.values().all(|&count| count >= 15), "{counts:?}");
 }
 
 #[test]
@@ -316,7 +342,7 @@ fn lines_have_sizes_of_every_kind() {
 }
 
 /// What the greatest numbers of a line are; document 02, request 3/14.
-const GREATEST: [&str; 8] = [
+const GREATEST: [&str; 9] = [
     "a factor of 2^30",
     "a total of 2^33, the widest gap growing",
     "a total of 2^33, the widest gap shrinking",
@@ -325,6 +351,7 @@ const GREATEST: [&str; 8] = [
     "the widest gap shrinking",
     "the widest gap to unlimited glyphs",
     "the widest gap back to a stage",
+    "the widest gap left at the limits",
 ];
 
 fn note_greatest(case: &generate::LineCase, notes: &mut [usize; GREATEST.len()]) -> Option<()> {
@@ -333,7 +360,7 @@ fn note_greatest(case: &generate::LineCase, notes: &mut [usize; GREATEST.len()])
     let (classes, _) = classes_of(&table, &case.line())?;
     let gap = case.target - case.advances.iter().sum::<i64>();
     let rooms = rooms_of(&table, &case.line(), &classes, gap >= 0);
-    let (sums, way) = (totals(&rooms), way_of(&rooms, gap.unsigned_abs()));
+    let (sums, way) = (totals(&rooms), way_of(&rooms, gap.unsigned_abs(), case.edition));
     let (at_cap, widest) = (sums.contains(&(1 << 33)), gap.abs() == WIDEST);
     let shown = [
         rooms.iter().flatten().any(|room| room.before == 1 << 30 || room.after == 1 << 30),
@@ -344,6 +371,7 @@ fn note_greatest(case: &generate::LineCase, notes: &mut [usize; GREATEST.len()])
         gap == -WIDEST,
         widest && way.starts_with("unlimited"),
         widest && way.starts_with("back"),
+        widest && way.starts_with("at the limits"),
     ];
     notes.iter_mut().zip(shown).for_each(|(note, shown)| *note += shown as usize);
     Some(())

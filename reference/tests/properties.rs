@@ -304,7 +304,7 @@ fn row_counts_are_the_least() {
 }
 
 /// The sharing by the letter, over a plain list of sides.
-fn plain_share(rooms: &[Option<Room>], gap: u64) -> (Vec<u64>, u64) {
+fn plain_share(rooms: &[Option<Room>], gap: u64, edition: u32) -> (Vec<u64>, u64) {
     let side = |k: usize| rooms[k / 2].map(|room| (room.stage, if k % 2 == 1 { room.after } else { room.before }));
     let of = |k: usize, stage: u8| side(k).filter(|&(s, _)| s == stage).map_or(0, |(_, factor)| factor as u128);
     let count = 2 * rooms.len();
@@ -336,7 +336,7 @@ fn plain_share(rooms: &[Option<Room>], gap: u64) -> (Vec<u64>, u64) {
             return (given, 0);
         }
     }
-    match (0..4).find(|&stage| total(stage) > 0) {
+    match (0..4).find(|&stage| total(stage) > 0 && edition == 1) {
         Some(stage) => (0..count).for_each(|k| given[k] += portion(stage, left, k)),
         None => return (given, left as u64),
     }
@@ -364,10 +364,17 @@ fn shares_agree_with_plain_sums() {
             1 => rng.below(2 * marks[4] + 10),
             _ => rng.below(1 << 30),
         };
-        let shares = share(&rooms, gap);
-        let sides: Vec<u64> = shares.before.iter().zip(&shares.after).flat_map(|(&b, &a)| [b, a]).collect();
-        assert_eq!(sides.iter().sum::<u64>() + shares.remainder, gap);
-        assert_eq!((sides, shares.remainder), plain_share(&rooms, gap));
+        for (edition, shares) in [(1, share(&rooms, gap)), (2, share_to_limits(&rooms, gap))] {
+            let sides: Vec<u64> = shares.before.iter().zip(&shares.after).flat_map(|(&b, &a)| [b, a]).collect();
+            assert_eq!(sides.iter().sum::<u64>() + shares.remainder, gap);
+            if edition == 2 && shares.remainder > 0 {
+                // Every side has its full factor, and nothing is unlimited.
+                let full = rooms.iter().flat_map(|room| room.map_or([0, 0], |room| [room.before, room.after]));
+                assert_eq!(sides, full.collect::<Vec<_>>());
+                assert!(!rooms.iter().flatten().any(|room| room.unlimited));
+            }
+            assert_eq!((sides, shares.remainder), plain_share(&rooms, gap, edition));
+        }
     }
 }
 
@@ -399,7 +406,7 @@ fn from_sheet(meaning: &Meaning, line: &Line) -> Justified {
         Some(Room { stage, unlimited: flags & 0x1000 != 0, before: factor(before), after: factor(after) })
     };
     let rooms: Vec<_> = (0..line.glyphs.len()).map(room).collect();
-    let (sides, left) = plain_share(&rooms, gap.unsigned_abs());
+    let (sides, left) = plain_share(&rooms, gap.unsigned_abs(), line.edition);
     let sign = if gap < 0 { -1 } else { 1 };
     let before: Vec<i64> = sides.iter().step_by(2).map(|&side| sign * side as i64).collect();
     let after: Vec<i64> = sides.iter().skip(1).step_by(2).map(|&side| sign * side as i64).collect();
@@ -471,7 +478,8 @@ fn lines_are_refused_for_their_first_fault() {
         let lent = [case.advances.len(), case.sizes.len(), case.classes_len, case.before_len, case.after_len];
         note(lent != [count; 5], 9);
         note(count > 1_024, 10);
-        note(case.sizes.iter().any(|&size| size < 1 || size > 67_108_864), 11);
+        note(case.edition != 1 && case.edition != 2, 18);
+        note(case.sizes.iter().any(|&size| !(1..=67_108_864).contains(&size)), 11);
         let sum: i64 = case.advances.iter().sum();
         let negative = case.advances.iter().any(|&advance| advance < 0) || case.target < 0;
         note(negative || sum > 1_073_741_823 || case.target > 1_073_741_823, 12);

@@ -440,3 +440,71 @@ fn verdicts_are_at_the_glyphs_own_size() {
     assert_eq!(of([nine, fourteen]).verdicts, [verdict(0, 0, false), verdict(0, 1, true), verdict(1, 1, false)]);
     assert_eq!(of([fourteen, fourteen]).verdicts, [verdict(0, 1, false), verdict(1, 1, false)]);
 }
+
+// Document 02, request 7/14.
+
+#[test]
+fn editions_are_1_and_2() {
+    let table = empty_table();
+    let of = |edition: u32, line: Line| run(&table, 1, Line { edition, ..line }, 0).map(|_| ());
+    let good = line(&[0], &[0], 0, 1);
+    assert_eq!((of(1, good), of(2, good)), (Ok(()), Ok(())));
+    let (glyphs, advances) = ([0; 1_025], [0; 1_025]);
+    for edition in [0, 3, u32::MAX] {
+        // Gap 0 as well as others, and empty lines too.
+        assert_eq!(of(edition, good), Err(18));
+        assert_eq!(of(edition, line(&[0], &[0], 5, 1)), Err(18));
+        assert_eq!(of(edition, line(&[], &[], 0, 1)), Err(18));
+        // After 9 and 10, before 11, 12 and 13.
+        assert_eq!(of(edition, line(&[0], &[], 0, 1)), Err(9));
+        assert_eq!(of(edition, line(&glyphs, &advances, 0, 1)), Err(10));
+        assert_eq!(of(edition, line(&[1], &[-1], 0, 0)), Err(18));
+    }
+    assert_eq!(of(2, line(&[1], &[-1], 0, 0)), Err(11));
+    // After the table too, and before the walk.
+    let input = LineInput { table: &table[..9], n: 1, line: Line { edition: 0, ..good } };
+    assert_eq!(justify(&input, 1, 1, 1, 0), Err(Fault::plain(1)));
+    let table = table_with_machine(&machine(&[], &[(0, 0x4000)]));
+    assert_eq!(run(&table, 1, good, 0), Err(14));
+    assert_eq!(run(&table, 1, Line { edition: 3, ..good }, 0), Err(18));
+}
+
+#[test]
+fn edition_2_stops_at_the_limits() {
+    // Stages 0 to 3 with factors 4, 3, 2 and, on two sides, 1 and 5: 15 in all.
+    let rooms = [side(3, 1, 5), side(2, 0, 2), side(1, 0, 3), side(0, 0, 4)];
+    for gap in 0..=15 {
+        assert_eq!(share_to_limits(&rooms, gap), share(&rooms, gap));
+    }
+    let shares = share_to_limits(&rooms, 20);
+    assert_eq!((in_order(&shares), shares.remainder), (vec![1, 5, 0, 2, 0, 3, 0, 4], 5));
+    // Factors 3, 3, 3 and R = 10: 3, 3, 3, and 1 is left.
+    let table = table_with_records(&[([3, 3, 3, 3], [0, 0]), ([3, 0, 3, 0], [0, 0])]);
+    for sign in [1, -1] {
+        let long = Line { edition: 2, ..line(&[0, 1], &[100, 50], 150 + sign * 10, 65_536) };
+        let answer = run(&table, 2, long, 0).unwrap();
+        assert_eq!((answer.before, answer.after), (vec![3 * sign, 3 * sign], vec![3 * sign, 0]));
+        assert_eq!(answer.remainder, sign);
+    }
+    // Without any room both editions leave the gap.
+    let answer = run(&empty_table(), 1, Line { edition: 2, ..line(&[], &[], 4, 65_536) }, 0).unwrap();
+    assert_eq!(answer.remainder, 4);
+}
+
+#[test]
+fn edition_2_keeps_unlimited_glyphs() {
+    let open = Some(Room { stage: 1, unlimited: true, before: 0, after: 0 });
+    let rooms = [open, side(0, 2, 0), open, side(3, 0, 9)];
+    let shares = share_to_limits(&rooms, 7);
+    assert_eq!((in_order(&shares), shares.remainder), (vec![0, 2, 2, 0, 0, 3, 0, 0], 0));
+    assert_eq!(shares, share(&rooms, 7));
+}
+
+#[test]
+fn edition_2_is_capped_as_well() {
+    // Five glyphs of two sides of 2^30 pass 2^33, though no gap can use them.
+    let table = table_with_records(&[([16 << 16, 16 << 16, 0, 0], [3, 3])]);
+    let long = |target| Line { edition: 2, ..line(&[0; 5], &[0; 5], target, 67_108_864) };
+    assert_eq!(run(&table, 1, long(0), 0), Err(15));
+    assert_eq!(run(&table, 1, long(5), 0), Err(15));
+}

@@ -4,7 +4,7 @@
 //! Document 02, request 3/14, is about these: there the product of what is
 //! left and a running total comes close to 2^63.
 
-use super::lines::LineCase;
+use super::lines::{edition, LineCase};
 use super::rng::Rng;
 use crate::cluster::write_record;
 use crate::examples::Fields;
@@ -75,6 +75,7 @@ pub fn draw(rng: &mut Rng) -> LineCase {
         direction: rng.pick(&Direction::BOTH),
         starts: rng.chance(50),
         ends: rng.chance(50),
+        edition: edition(rng),
         sizes: sizes_of(rng, &plan),
         glyphs: plan.glyphs,
         advances,

@@ -19,6 +19,7 @@ pub struct LineCase {
     pub direction: Direction,
     pub starts: bool,
     pub ends: bool,
+    pub edition: u32,
     pub sizes: Vec<i64>,
     pub glyphs: Vec<u16>,
     pub advances: Vec<i64>,
@@ -35,6 +36,7 @@ impl LineCase {
             direction: self.direction,
             starts: self.starts,
             ends: self.ends,
+            edition: self.edition,
             sizes: &self.sizes,
             glyphs: &self.glyphs,
             advances: &self.advances,
@@ -59,6 +61,7 @@ enum Aim {
     Table,
     Lengths,
     Places,
+    Edition,
     Size,
     Width,
     Glyph,
@@ -68,11 +71,12 @@ enum Aim {
     Room,
 }
 
-const AIMS: [(Aim, u64); 11] = [
+const AIMS: [(Aim, u64); 12] = [
     (Aim::Sound, 42),
     (Aim::Table, 8),
     (Aim::Lengths, 6),
     (Aim::Places, 3),
+    (Aim::Edition, 3),
     (Aim::Size, 5),
     (Aim::Width, 7),
     (Aim::Glyph, 5),
@@ -148,6 +152,7 @@ fn plain(rng: &mut Rng, aim: Aim) -> LineCase {
         direction: rng.pick(&Direction::BOTH),
         starts: rng.chance(50),
         ends: rng.chance(50),
+        edition: edition(rng),
         sizes: sizes(rng, aim, count),
         glyphs,
         advances,
@@ -196,6 +201,11 @@ fn glyph(rng: &mut Rng, n: u32) -> u16 {
         1 => (n - 1) as u16,
         _ => rng.below(n as u64) as u16,
     }
+}
+
+/// Either edition.
+pub fn edition(rng: &mut Rng) -> u32 {
+    rng.pick(&[1, 2])
 }
 
 /// One size for the whole line, two sizes in stretches or mixed, or a size of
@@ -304,6 +314,7 @@ fn sharpen(rng: &mut Rng, case: &mut LineCase) {
 fn spoil(rng: &mut Rng, case: &mut LineCase, aim: Aim, fired: usize) {
     match aim {
         Aim::Lengths => spoil_lengths(rng, case),
+        Aim::Edition => case.edition = rng.pick(&[0, 3, u32::MAX]),
         Aim::Size => spoil_size(rng, case),
         Aim::Width => spoil_width(rng, case),
         Aim::Glyph => spoil_glyph(rng, case),

@@ -34,11 +34,12 @@ pub fn table_with_records(records: &[([u32; 4], [u16; 2])]) -> Vec<u8> {
     fields.done()
 }
 
-/// A plain horizontal line that starts and ends the text, in one size. Its
-/// sizes are never given back, which tests can bear.
+/// A plain horizontal line that starts and ends the text, in one size and under
+/// edition 1. Its sizes are never given back, which tests can bear.
 pub fn line<'a>(glyphs: &'a [u16], advances: &'a [i64], target: i64, size: i64) -> Line<'a> {
     let sizes = one_size(size, glyphs.len()).leak();
-    Line { direction: reference::Direction::Horizontal, starts: true, ends: true, sizes, glyphs, advances, target }
+    let direction = reference::Direction::Horizontal;
+    Line { direction, starts: true, ends: true, edition: 1, sizes, glyphs, advances, target }
 }
 
 /// The number of a refusal that has no offset.
