@@ -2,6 +2,7 @@ pub mod Few
 pub mod Machines
 pub mod Faults
 pub mod Only
+pub mod Numbers
 pub mod Placed
 pub mod Offsets
 pub mod Valid

@@ -9,6 +9,7 @@ use Rattle.fields.specs.declared.Refusal.the-variants.{TableLength, GlyphCount,
 use Rattle.fields.specs.declared.Fault.{Fault}
 use Rattle.fields.specs.declared.Fault.the-variants.{Clear, Bad}
 use Rattle.fields.specs.Field.{u16At, u32At}
+use Rattle.fields.specs.Refusals.{numberOf}
 use Rattle.fields.specs.Faults.{inside}
 use Rattle.lookup_targets.specs.declared.Kind.the-variants.{Clusters}
 use Rattle.lookup_targets.specs.Values.{valuesFault}
@@ -63,3 +64,9 @@ pub data Only (r : Refusal) : Fault → Type 0 where
   clear : Only r Clear
   outside : (at : ℕ) → Only r (Bad Outside at)
   own : (at : ℕ) → Only r (Bad r at)
+
+-- a table's fault: none; one of its header, 1 to 3, with offset 0; or one of its parts, 4 to 8
+pub data OfTable : Fault → Type 0 where
+  of-none : OfTable Clear
+  of-header : (r : Refusal) → numberOf r ≤ 3 → OfTable (Bad r 0)
+  of-part : (r : Refusal) (at : ℕ) → 4 ≤ numberOf r → numberOf r ≤ 8 → OfTable (Bad r at)
