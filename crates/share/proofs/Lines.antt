@@ -1,20 +1,21 @@
 -- From lists of parts to a line of glyphs; and the rule's theorems on a line.
-use mathlib.Core.Path.{_≡_, refl, sym, ap, _∙_}
+use mathlib.Core.Path.{_≡_, refl, sym, ap, ap₂, _∙_}
 use mathlib.Core.List.{List, [], _∷_, map}
-use mathlib.Core.Bool.{Bool, true, false, cond, _&&_}
+use mathlib.Core.Logic.{_↔_}
+use mathlib.Core.Bool.{Bool, true, false, cond, _&&_, _||_, false≢true}
 use Prim.Native.Nat.{ℕ, zero, suc, _+_, _-_, _≤_, _<_}
 use native.Mathlib.Omega.{arith}
 use native.Mathlib.Nat.{zero-add, le-of-suc-le-suc}
 use native.Mathlib.Numerals.{add-one}
-use lib.Dec.{leb}
+use lib.Dec.{leb, eqb}
 use lib.IntN.{ℤ, pos, negℤ, _+ℤ_, negℤ-+ℤ}
 use lib.ListN.{length, drop, take, getD, replicate}
-use borrow.Author.Tests.{leb-true}
-use Rattle.share.specs.Share.{total, still, plus, stages, noPart, movements, remainder, most, within}
-use Rattle.share.specs.Line.{Glyph, apart, sideStages, sideFactors, sideExtras, evens, odds, lineMoves, beforeMoves, afterMoves, lineLeft, lineFits, signedOf, glyphsOf, Parts, Lent, nothingMoves, noneUnlimited, fullMoves, fullTotal, sumℤ}
+use borrow.Author.Tests.{leb-true, eqb-true, eq-eqb}
+use Rattle.share.specs.Share.{total, still, plus, ofStage, stages, noPart, movements, remainder, most, within, among, empty}
+use Rattle.share.specs.Line.{Glyph, apart, sideStages, sideFactors, sideExtras, evens, odds, lineMoves, beforeMoves, afterMoves, lineLeft, lineFits, signedOf, glyphsOf, Parts, Lent, nothingMoves, noneUnlimited, EachLimited, fullMoves, fullTotal, sumℤ}
 use Rattle.share.specs.Inner.{weave, factorsAt, lineOf, Moved, stageCount}
 use Rattle.share.proofs.Lists.{length-still}
-use Rattle.share.proofs.Theory.{sum-is-gap, length-movesBy, no-part-still, both, remainder-is, stopped-remainder, stopped-full}
+use Rattle.share.proofs.Theory.{sum-is-gap, length-movesBy, no-part-still, both, remainder-is, limits-remainder, limits-reached}
 use Rattle.share.proofs.Halves.{total-halves, length-halves, getD-evens, getD-odds, length-weave}
 use Rattle.share.proofs.Stages.{at-stage}
 
@@ -172,16 +173,65 @@ pub line-remainder : (gs : List Glyph) (gap : ℕ) → lineLeft true gs gap ≡ 
 unfolding lineLeft
 line-remainder gs gap = remainder-is (sideStages gs) (sideFactors gs) (sideExtras gs) gap
 
-pub line-stopped : (gs : List Glyph) (gap : ℕ) → lineLeft false gs gap ≡ cond (noneUnlimited gs) (gap - fullTotal gs) 0
+pub line-limits : (gs : List Glyph) (gap : ℕ) → lineLeft false gs gap ≡ cond (noneUnlimited gs) (gap - fullTotal gs) 0
 unfolding lineLeft
-line-stopped gs gap = stopped-remainder (sideStages gs) (sideFactors gs) (sideExtras gs) stages gap
+line-limits gs gap = limits-remainder (sideStages gs) (sideFactors gs) (sideExtras gs) stages gap
+
+-- NONE UNLIMITED: the total of each stage's extra weights is 0 exactly when no glyph of a stage is unlimited
+module _ (s : ℕ) where
+  extra-none : (gs : List Glyph) (i : ℕ) → total (ofStage s (sideStages gs) (sideExtras gs)) ≡ 0 → i < length gs → eqb (getD gs i apart .stage) s ≡ true
+      → getD gs i apart .extra ≡ 0
+  extra-none [] i e h q = absurd (omega arith)
+  extra-none (g ∷ gs) zero e h q = omega (arith, ap (λ (b : Bool). cond b (g .extra) 0) q)
+  extra-none (g ∷ gs) (suc i) e h q = extra-none gs i (omega arith) (omega arith) q
+
+  none-extra : (gs : List Glyph) → ((i : ℕ) → i < length gs → eqb (getD gs i apart .stage) s ≡ true → getD gs i apart .extra ≡ 0)
+      → total (ofStage s (sideStages gs) (sideExtras gs)) ≡ 0
+  none-extra [] h = refl
+  none-extra (g ∷ gs) h =
+      let first : _≡_ {A = ℕ} (cond (eqb (g .stage) s) 0 0) 0 = go (eqb (g .stage) s) refl .0 in
+      let second : cond (eqb (g .stage) s) (g .extra) 0 ≡ 0 = go (eqb (g .stage) s) refl .1 in
+      omega (arith, first, second, none-extra gs (λ i l q. h (suc i) (omega arith) q))
+    where
+      go : (b : Bool) → eqb (g .stage) s ≡ b → (_≡_ {A = ℕ} (cond b 0 0) 0) × (cond b (g .extra) 0 ≡ 0)
+      go true e = (refl, h 0 (omega arith) e)
+      go false e = (refl, refl)
+
+module _ (gs : List Glyph) where
+  empty-each : (ss : List ℕ) → empty (sideStages gs) (sideExtras gs) ss ≡ true → (i : ℕ) → i < length gs → among (getD gs i apart .stage) ss ≡ true
+      → getD gs i apart .extra ≡ 0
+  empty-each [] e i h q = absurd (false≢true q)
+  empty-each (s ∷ ss) e i h q = go (eqb (getD gs i apart .stage) s) refl q (empty-each ss (p .1) i h)
+    where
+      p : (eqb (total (ofStage s (sideStages gs) (sideExtras gs))) 0 ≡ true) × (empty (sideStages gs) (sideExtras gs) ss ≡ true)
+      p = both _ _ e
+
+      go : (b : Bool) → eqb (getD gs i apart .stage) s ≡ b → (b || among (getD gs i apart .stage) ss) ≡ true
+          → (among (getD gs i apart .stage) ss ≡ true → getD gs i apart .extra ≡ 0) → getD gs i apart .extra ≡ 0
+      go true w r ih = extra-none s gs i (eqb-true _ _ (p .0)) h w
+      go false w r ih = ih r
+
+  each-empty : (ss : List ℕ) → ((i : ℕ) → i < length gs → among (getD gs i apart .stage) ss ≡ true → getD gs i apart .extra ≡ 0)
+      → empty (sideStages gs) (sideExtras gs) ss ≡ true
+  each-empty [] h = refl
+  each-empty (s ∷ ss) h =
+      ap₂ (λ (x y : Bool). x && y)
+      (eq-eqb _ _ (none-extra s gs (λ i l q. h i l (ap (λ (b : Bool). b || among (getD gs i apart .stage) ss) q))))
+      (each-empty ss (λ i l q. h i l (either-one (eqb (getD gs i apart .stage) s) q)))
+    where
+      either-one : (b : Bool) {c : Bool} → c ≡ true → (b || c) ≡ true
+      either-one true q = refl
+      either-one false q = q
+
+  pub none-unlimited : (noneUnlimited gs ≡ true) ↔ EachLimited gs
+  none-unlimited = (empty-each stages, each-empty stages)
 
 -- FULL FACTORS: in edition 2 a remainder other than 0 means that every side taking part has its full factor and that no stage has an unlimited glyph
 pub line-full : (gs : List Glyph) (gap : ℕ) → 0 < lineLeft false gs gap → (lineMoves false gs gap ≡ fullMoves gs) × (noneUnlimited gs ≡ true)
 unfolding lineLeft lineMoves
 line-full gs gap h =
     let i = length-sides gs in
-    stopped-full (length gs + length gs) (sideStages gs) (sideFactors gs) (sideExtras gs) (i .0) (i .1) (i .2) gap h
+    limits-reached (length gs + length gs) (sideStages gs) (sideFactors gs) (sideExtras gs) (i .0) (i .1) (i .2) gap h
 
 -- STAYS STILL: a glyph that takes no part does not move
 stage-at : (gs : List Glyph) (i : ℕ) → (getD (sideStages gs) (i + i) noPart ≡ getD gs i apart .stage) × (getD (sideStages gs) (i + i + 1) noPart ≡ getD gs i apart .stage)

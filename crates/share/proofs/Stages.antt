@@ -157,12 +157,12 @@ module _ (ks us bs cs : List ℕ) (gap : ℕ) {xs ys xs₁ ys₁ : List ℕ} whe
   )
 
   -- edition 2
-  pub whole-stopped : (back : Bool) {n q : ℕ} → back ≡ false → length ks ≡ n → Sides n xs₁ ys₁ → q ≡ lineOf stagesLeft ks us bs cs stages gap
+  pub whole-limits : (back : Bool) {n q : ℕ} → back ≡ false → length ks ≡ n → Sides n xs₁ ys₁ → q ≡ lineOf stagesLeft ks us bs cs stages gap
       → Moved (lineOf stagesMoves ks us bs cs stages gap) xs ys xs₁ ys₁
       → (q ≡ lineOf (remainder back) ks us bs cs gap) × Moved (lineOf (movements back) ks us bs cs gap) xs ys xs₁ ys₁
   unfolding movesBy leftBy
-  whole-stopped true b k d e m = absurd (false≢true (sym b))
-  whole-stopped false {n} b k d e m =
+  whole-limits true b k d e m = absurd (false≢true (sym b))
+  whole-limits false {n} b k d e m =
       (e, moved-both m (moved-nothing n (still (weave ks ks)) xs₁ ys₁ (total-still (weave ks ks)) (length-still (weave ks ks) ∙ length-weave n ks ks k k) (d .before) (d .after)))
 
 -- what is left can still be added

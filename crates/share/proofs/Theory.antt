@@ -197,9 +197,9 @@ module _ (ks fs us : List ℕ) where
       go true i = i ∙ ap (λ (n : ℕ). cond (empty ks us ss) n 0) (omega arith)
 
   -- WHEN THERE IS A REMAINDER without going back: what is past all factors, where no stage has an unlimited glyph; else nothing
-  pub stopped-remainder : (ss : List ℕ) (gap : ℕ) → leftBy ss false ks fs us gap ≡ cond (empty ks us ss) (gap - allTotal ks fs ss) 0
+  pub limits-remainder : (ss : List ℕ) (gap : ℕ) → leftBy ss false ks fs us gap ≡ cond (empty ks us ss) (gap - allTotal ks fs ss) 0
   unfolding leftBy
-  stopped-remainder ss gap = stages-left ss gap
+  limits-remainder ss gap = stages-left ss gap
 
 module _ (ks fs us : List ℕ) where
   back-none : (ss : List ℕ) (r : ℕ) → empty ks fs ss ≡ true → backLeft ks fs ss r ≡ r
@@ -289,9 +289,9 @@ module _ (n : ℕ) (ks fs us : List ℕ) (k : length ks ≡ n) (f : length fs �
       (ap₂ plus (one .0) (i .0), ap₂ (λ (x y : Bool). x && y) (one .1) (i .1))
 
   -- FULL FACTORS: without going back a remainder other than 0 means that every side of a stage has its full factor, and that no stage has an unlimited glyph
-  pub stopped-full : (gap : ℕ) → 0 < leftBy stages false ks fs us gap → (movesBy stages false ks fs us gap ≡ full stages ks fs) × (empty ks us stages ≡ true)
+  pub limits-reached : (gap : ℕ) → 0 < leftBy stages false ks fs us gap → (movesBy stages false ks fs us gap ≡ full stages ks fs) × (empty ks us stages ≡ true)
   unfolding leftBy movesBy
-  stopped-full gap h =
+  limits-reached gap h =
       let w = stages-full stages gap h in
       let l = length-stagesMoves n ks fs us k f u stages gap in
       (plus-nothing (stagesMoves ks fs us stages gap) (still ks) (total-still ks) (omega (arith, length-still ks)) ∙ w .0 ∙ stacked-full ks fs (omega arith), w .1)

@@ -1,12 +1,12 @@
 -- The sharing rule on a line's glyphs (document 01, "Sharing the gap" and refusal 15), for one direction of the gap: from each glyph's part to the
 -- movements of its two sides.
-use Prim.Native.Nat.{ℕ, _≤_}
+use Prim.Native.Nat.{ℕ, _≤_, _<_}
 use mathlib.Core.Path.{_≡_}
 use mathlib.Core.Bool.{Bool, true, false, _&&_}
 use mathlib.Core.List.{List, [], _∷_}
 use lib.ListN.{length, getD}
 use lib.IntN.{ℤ, pos, negℤ, _+ℤ_}
-use Rattle.share.specs.Share.{stages, noPart, movements, remainder, within, empty, full, allTotal}
+use Rattle.share.specs.Share.{stages, noPart, movements, remainder, within, among, empty, full, allTotal}
 use Rattle.share.specs.Carry.{widest}
 
 -- a glyph's part: its stage priority, 1 where it is unlimited and else 0, and the factors of its two sides
@@ -72,6 +72,10 @@ signedOf false x = pos x
 -- no stage has an unlimited glyph
 abbrev pub noneUnlimited : List Glyph → Bool
 noneUnlimited gs = empty (sideStages gs) (sideExtras gs) stages
+
+-- the same, glyph by glyph: none whose stage priority is one of the stages is unlimited
+abbrev pub EachLimited : List Glyph → Type 0
+EachLimited gs = (place : ℕ) → place < length gs → among (getD gs place apart .stage) stages ≡ true → getD gs place apart .extra ≡ 0
 
 -- no stage has a factor total above 0, and none an unlimited glyph
 abbrev pub nothingMoves : List Glyph → Bool

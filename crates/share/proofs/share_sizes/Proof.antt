@@ -2,7 +2,7 @@
 use mathlib.Core.Path.{refl}
 use native.Mathlib.Omega.{arith}
 use borrow.Author.Needs.{needs}
-use Rattle.share.proofs.Stages.{whole, whole-stopped, staged-holds}
+use Rattle.share.proofs.Stages.{whole, whole-limits, staged-holds}
 use Rattle.share.proofs.Steps.{lent-parts}
 use Rattle.share.proofs.share_sizes.Statement.{statement}
 use Rattle.share.proofs.share_sizes.Tie as tie
@@ -42,7 +42,7 @@ returns-2 c = let a = c .before .before .before .before .before .before .before 
     let e = c .before .before .before .before .before .share-stages .ensures in
     let k = c .before .before .before .before .before .share-stages .kept in
     let d = p .0 .1 in
-    whole-stopped (a .priorities .now) (a .extras .now) (a .first .now) (a .second .now) (a .gap) (a .back) (c .if1 .left) refl (record { before = omega arith; after = omega arith }) (e .0) (e .1)
+    whole-limits (a .priorities .now) (a .extras .now) (a .first .now) (a .second .now) (a .gap) (a .back) (c .if1 .left) refl (record { before = omega arith; after = omega arith }) (e .0) (e .1)
 
 pub share-sizes-spec : {M : Type 1} → statement M
 share-sizes-spec =
