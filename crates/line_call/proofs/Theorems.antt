@@ -1,6 +1,6 @@
 -- What holds of every line's call (document 01, demand 2): a refusal changes nothing; movements and remainder sum to the gap; when there is a remainder, in each edition, and
 -- what it means in edition 2; the walk of an accepted table's machine ends as reported, or never ends; and what is stored has room.
-use Prim.Native.Nat.{ℕ, zero, suc, _+_, _-_, _*_, _≤_, _<_}
+use Prim.Native.Nat.{ℕ, zero, suc, _+_, _*_, _≤_, _<_}
 use mathlib.Core.Path.{_≡_, refl, ap, ap₂, _∙_, subst}
 use mathlib.Core.Logic.{_⊎_, inl, inr}
 use mathlib.Core.Bool.{Bool, true, false, cond}
@@ -27,8 +27,8 @@ use Rattle.table_ask.proofs.Rows.{index-below}
 use Rattle.class_walk.specs.Walk.{Fits, Ends, Never, Walk, going, stopped}
 use Rattle.class_walk.specs.Line.{lineOf}
 use Rattle.class_walk.proofs.Laws.{walked-ends, walked-never, ends-within}
-use Rattle.share.specs.Line.{Glyph, evens, odds, lineMoves, lineLeft, beforeMoves, afterMoves, signedOf, nothingMoves, noneUnlimited, fullMoves, fullTotal, sumℤ}
-use Rattle.share.proofs.Lines.{line-sum-signed, line-remainder, line-stopped, line-full, line-lengths}
+use Rattle.share.specs.Line.{Glyph, evens, odds, lineMoves, lineLeft, beforeMoves, afterMoves, signedOf, nothingMoves, noneUnlimited, fullMoves, sumℤ}
+use Rattle.share.proofs.Lines.{line-sum-signed, line-remainder, line-limits, line-full, line-lengths}
 use Rattle.line_rule.specs.Line.{Line, goesBack, gapOf, shrinks, gapSize, walkMachine, columnOf, walkOf, hasStopped, classesOf, entriesOf, partsFor, beforeOf, afterOf, remainderOf, verdictsOf}
 use Rattle.line_rule.proofs.Still.{none-signed}
 use Rattle.line_moves.specs.Parts.{Known}
@@ -36,6 +36,7 @@ use Rattle.line_moves.proofs.Walks.{walk-length}
 use Rattle.line_moves.proofs.Parts.{parts-length}
 use Rattle.line_call.specs.Justified.{Lent, justifies, refuses, lengthsOf, workedFault, lineFault, settled, justified}
 use Rattle.line_call.specs.Settle.{storedIn}
+use Rattle.line_call.specs.FullFactors.{partsIn, LimitsFull, LimitsIs}
 use Rattle.line_call.proofs.Tests.{lengths-hold, known-each}
 
 -- ---- refusals
@@ -116,40 +117,9 @@ module _ (t : List ℕ) (n : ℕ) (l : Line) (b : Lent) where
       go false = none-signed (shrinks l)
 
   -- the remainder in edition 2, which does not go back
-  left-stopped : (z : ℤ) (k v : ℕ) → l .edition ≡ 2 → justified t n l b .answer ≡ justifies z k v → z ≡ signedOf (shrinks l) (lineLeft false (partsFor side l) (gapSize l))
+  limits-left : (z : ℤ) (k v : ℕ) → l .edition ≡ 2 → justified t n l b .answer ≡ justifies z k v → z ≡ signedOf (shrinks l) (lineLeft false (partsFor side l) (gapSize l))
   unfolding remainderOf
-  left-stopped z k v two e = answered z k v e .remainder ∙ ap (λ (x : Bool). signedOf (shrinks l) (lineLeft x (partsFor side l) (gapSize l))) (ap goesBack two)
-
-  -- WHEN THERE IS A REMAINDER in edition 2: what is past all factors, where no stage has an unlimited glyph, and 0 otherwise
-  pub stopped-is : (z : ℤ) (k v : ℕ) → l .edition ≡ 2 → justified t n l b .answer ≡ justifies z k v
-      → z ≡ signedOf (shrinks l) (cond (noneUnlimited (partsFor side l)) (gapSize l - fullTotal (partsFor side l)) 0)
-  stopped-is z k v two e = left-stopped z k v two e ∙ ap (signedOf (shrinks l)) (line-stopped (partsFor side l) (gapSize l))
-
-  -- every side that takes part has its full factor, each other side 0, and no stage has an unlimited glyph
-  pub record FullFactors : Type 0 where
-    pub before : justified t n l b .lent .before ≡ map (signedOf (shrinks l)) (evens (fullMoves (partsFor side l)))
-    pub after : justified t n l b .lent .after ≡ map (signedOf (shrinks l)) (odds (fullMoves (partsFor side l)))
-    pub limited : noneUnlimited (partsFor side l) ≡ true
-
-  -- FULL FACTORS: what a remainder other than 0 means in edition 2
-  pub stopped-full : (z : ℤ) (k v : ℕ) → l .edition ≡ 2 → justified t n l b .answer ≡ justifies z k v → (z ≡ pos 0 → ⊥) → FullFactors
-  unfolding beforeOf afterOf
-  stopped-full z k v two e other =
-      let w = answered z k v e in
-      let m = ap (λ (x : Bool). lineMoves x (partsFor side l) (gapSize l)) (ap goesBack two) ∙ full .0 in
-      record {
-        before = w .before ∙ ap (λ (x : List ℕ). map (signedOf (shrinks l)) (evens x)) m;
-        after = w .after ∙ ap (λ (x : List ℕ). map (signedOf (shrinks l)) (odds x)) m;
-        limited = full .1;
-      }
-    where
-      above : (x : ℕ) → (x ≡ 0 → ⊥) → 0 < x
-      above zero h = absurd (h refl)
-      above (suc x) h = omega arith
-
-      full : (lineMoves false (partsFor side l) (gapSize l) ≡ fullMoves (partsFor side l)) × (noneUnlimited (partsFor side l) ≡ true)
-      full = line-full (partsFor side l) (gapSize l)
-          (above (lineLeft false (partsFor side l) (gapSize l)) (λ q. other (left-stopped z k v two e ∙ ap (signedOf (shrinks l)) q ∙ none-signed (shrinks l))))
+  limits-left z k v two e = answered z k v e .remainder ∙ ap (λ (x : Bool). signedOf (shrinks l) (lineLeft x (partsFor side l) (gapSize l))) (ap goesBack two)
 
   -- ---- what is stored
 
@@ -208,6 +178,32 @@ module _ (t : List ℕ) (n : ℕ) (l : Line) (b : Lent) where
         before = length-map (beforeMoves (goesBack (l .edition)) (partsFor side l) (gapSize l)) (signedOf (shrinks l)) ∙ moves .0 ∙ parts;
         after = length-map (afterMoves (goesBack (l .edition)) (partsFor side l) (gapSize l)) (signedOf (shrinks l)) ∙ moves .1 ∙ parts;
       }
+
+-- ---- edition 2
+
+-- WHEN THERE IS A REMAINDER in edition 2
+pub limits-is : LimitsIs
+limits-is t n l b z k v two e = limits-left t n l b z k v two e ∙ ap (signedOf (shrinks l)) (line-limits (partsIn t n l) (gapSize l))
+
+-- FULL FACTORS: what a remainder other than 0 means in edition 2
+pub limits-full : LimitsFull
+unfolding beforeOf afterOf
+limits-full t n l b z k v two e other =
+    let w = answered t n l b z k v e in
+    let m = ap (λ (x : Bool). lineMoves x (partsIn t n l) (gapSize l)) (ap goesBack two) ∙ full .0 in
+    record {
+      before = w .before ∙ ap (λ (x : List ℕ). map (signedOf (shrinks l)) (evens x)) m;
+      after = w .after ∙ ap (λ (x : List ℕ). map (signedOf (shrinks l)) (odds x)) m;
+      limited = full .1;
+    }
+  where
+    above : (x : ℕ) → (x ≡ 0 → ⊥) → 0 < x
+    above zero h = absurd (h refl)
+    above (suc x) h = omega arith
+
+    full : (lineMoves false (partsIn t n l) (gapSize l) ≡ fullMoves (partsIn t n l)) × (noneUnlimited (partsIn t n l) ≡ true)
+    full = line-full (partsIn t n l) (gapSize l)
+        (above (lineLeft false (partsIn t n l) (gapSize l)) (λ q. other (limits-left t n l b z k v two e ∙ ap (signedOf (shrinks l)) q ∙ none-signed (shrinks l))))
 
 -- ---- the class walk
 

@@ -1,3 +1,4 @@
 pub mod Justified
 pub mod Settle
 pub mod Steps
+pub mod FullFactors

@@ -36,7 +36,7 @@ inputFault t n l lengths = firstFault (tableFault t n ∷ inputTests l lengths)
 
 -- ---- 12: the advances' sum, and the gap
 
--- a line of which only its advances and its target are said
+-- a line of which only its advances and its target are said: no size and no edition
 abbrev pub measuredLine : List ℤ → ℤ → Line
 measuredLine advances target =
     record { direction = Horizontal; starts = false; ends = false; sizes = []; glyphs = []; advances = advances; target = target; edition = 0 }

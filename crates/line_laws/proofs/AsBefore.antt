@@ -24,11 +24,11 @@ use Rattle.line_rule.specs.Line.{gapOf, shrinks, gapSize, walkOf, hasStopped, c
 use Rattle.line_call.specs.Justified.{Lent, allLong, lengthsOf, equalLengths, goodSize, goodSizes, goodAdvances, allKnown, firstFault, workedFault, lineFault, justifies, settled, justified}
 use Rattle.line_laws.specs.OneSize as one
 use Rattle.line_laws.specs.OneSize.{unsized}
-use Rattle.line_laws.specs.AsBefore.{spread, AsBefore, EmptyAsBefore}
+use Rattle.line_laws.specs.AsBefore.{inOneSize, AsBefore, EmptyAsBefore}
 
 -- ---- the line
 
-walk-same : (m : Option Machine) (l : one.Line) → walkOf m (spread l) ≡ walkOf m (unsized l)
+walk-same : (m : Option Machine) (l : one.Line) → walkOf m (inOneSize l) ≡ walkOf m (unsized l)
 unfolding walkOf
 walk-same none l = refl
 walk-same (some m) l = refl
@@ -50,25 +50,25 @@ verdicts-same s size place (g ∷ gs) (c ∷ cs) (b ∷ bs) (f ∷ fs) =
     ap (λ (l : List Verdict). firings place c size (b +ℤ f) 0 (getD (s .lists) g []) ++ l) (verdicts-same s size (suc place) gs cs bs fs)
 
 module _ (s : Side) (l : one.Line) where
-  parts-for : partsFor s (spread l) ≡ one.partsFor s l
+  parts-for : partsFor s (inOneSize l) ≡ one.partsFor s l
   unfolding gapOf
   parts-for =
       ap (λ (w : Walk). partsOf s (shrinks (unsized l)) (replicate (length (l .glyphs)) (l .size)) (l .glyphs) (classesOf w)) (walk-same (s .machine) l)
       ∙ parts-same s (shrinks (unsized l)) (l .size) (l .glyphs) (classesOf (walkOf (s .machine) (unsized l)))
 
-  before-same : beforeOf s (spread l) ≡ one.beforeOf s l
+  before-same : beforeOf s (inOneSize l) ≡ one.beforeOf s l
   unfolding beforeOf one.beforeOf gapOf
   before-same = ap (λ (gs : List Glyph). map (signedOf (shrinks (unsized l))) (beforeMoves true gs (gapSize (unsized l)))) parts-for
 
-  after-same : afterOf s (spread l) ≡ one.afterOf s l
+  after-same : afterOf s (inOneSize l) ≡ one.afterOf s l
   unfolding afterOf one.afterOf gapOf
   after-same = ap (λ (gs : List Glyph). map (signedOf (shrinks (unsized l))) (afterMoves true gs (gapSize (unsized l)))) parts-for
 
-  remainder-same : remainderOf s (spread l) ≡ one.remainderOf s l
+  remainder-same : remainderOf s (inOneSize l) ≡ one.remainderOf s l
   unfolding remainderOf one.remainderOf gapOf
   remainder-same = ap (λ (gs : List Glyph). signedOf (shrinks (unsized l)) (lineLeft true gs (gapSize (unsized l)))) parts-for
 
-  verdicts-all : verdictsOf s (spread l) ≡ one.verdictsOf s l
+  verdicts-all : verdictsOf s (inOneSize l) ≡ one.verdictsOf s l
   unfolding verdictsOf one.verdictsOf
   verdicts-all =
       (λ i. verdictsFrom s 0 (replicate (length (l .glyphs)) (l .size)) (l .glyphs) (classesOf (walk-same (s .machine) l i)) (before-same i) (after-same i))
@@ -76,7 +76,7 @@ module _ (s : Side) (l : one.Line) where
 
 -- ---- refusals 9 and 11
 
-lengths-same : (l : one.Line) (lengths : List ℕ) → equalLengths (spread l) lengths ≡ one.equalLengths l lengths
+lengths-same : (l : one.Line) (lengths : List ℕ) → equalLengths (inOneSize l) lengths ≡ one.equalLengths l lengths
 lengths-same l lengths =
     ap (λ (b : Bool). b && allLong (length (l .glyphs)) (length (l .advances) ∷ lengths)) (eq-eqb _ _ (length-replicate (length (l .glyphs)) (l .size)))
 
@@ -99,7 +99,7 @@ module _ (t : List ℕ) (n : ℕ) (l : one.Line) (b : Lent) (judged : goodSizes 
   abbrev side : Side
   side = sideOf (l .direction) (meaningOf t n)
 
-  fault-same : lineFault t n (spread l) b ≡ one.lineFault t n l b
+  fault-same : lineFault t n (inOneSize l) b ≡ one.lineFault t n l b
   unfolding lineFault workedFault one.lineFault rule _then_
   fault-same = λ i.
       firstFault (
@@ -114,7 +114,7 @@ module _ (t : List ℕ) (n : ℕ) (l : one.Line) (b : Lent) (judged : goodSizes 
       ∷ [])
       then rule (leb (length (verdicts-all side l i)) (length (b .verdicts))) ShortRoom 0
 
-  settled-same : (f : Fault) → settled f side (spread l) b ≡ one.settled f side l b
+  settled-same : (f : Fault) → settled f side (inOneSize l) b ≡ one.settled f side l b
   settled-same (Bad r at) = refl
   settled-same Clear = λ i.
       record {
@@ -128,9 +128,9 @@ module _ (t : List ℕ) (n : ℕ) (l : one.Line) (b : Lent) (judged : goodSizes 
             };
       }
 
-  same-outcome : justified t n (spread l) b ≡ one.justified t n l b
+  same-outcome : justified t n (inOneSize l) b ≡ one.justified t n l b
   unfolding justified one.justified
-  same-outcome = ap (λ (f : Fault). settled f side (spread l) b) fault-same ∙ settled-same (one.lineFault t n l b)
+  same-outcome = ap (λ (f : Fault). settled f side (inOneSize l) b) fault-same ∙ settled-same (one.lineFault t n l b)
 
 -- A LINE OF EQUAL SIZES ANSWERS AS BEFORE
 pub as-before : AsBefore

@@ -1,5 +1,5 @@
--- A line that is answered under a narrower and a wider target, one of which shrinks it and one of which stretches it, and in edition 2 with a remainder: `never-back` and
--- `stopped-full` do not speak of nothing.
+-- A line that is answered, in each edition, under a narrower and a wider target, one of which shrinks it and one of which stretches it, and in edition 2 with a remainder
+-- either way: `never-back` and `limits-full` do not speak of nothing.
 use Prim.Native.Nat.{ℕ}
 use mathlib.Core.Path.{_≡_, refl}
 use mathlib.Core.Bool.{true}
@@ -36,9 +36,13 @@ onePair =
     ∷ 0 ∷ 0 ∷ 0 ∷ 1 ∷ 0 ∷ 0 ∷ 0 ∷ 0 ∷ 0 ∷ 0 ∷ 0 ∷ 10 ∷ 0 ∷ 0 ∷ 0 ∷ 10 ∷ 0 ∷ 0 ∷ 0 ∷ 20
     ∷ 0 ∷ 0 ∷ 0 ∷ 30 ∷ 0 ∷ 0 ∷ 0 ∷ 0 ∷ []
 
+-- a horizontal line that is a whole text: its edition, sizes, glyphs, advances and target
+abbrev pub textLine : ℕ → List ℕ → List ℕ → List ℤ → ℤ → Line
+textLine edition sizes glyphs advances target = lineBy (record { direction = Horizontal; starts = true; ends = true; target = target; edition = edition }) sizes glyphs advances
+
 -- one glyph of 100 units at 1 pt
 abbrev pub oneGlyph : ℕ → Line
-oneGlyph edition = lineBy (record { direction = Horizontal; starts = true; ends = true; target = pos 100; edition = edition }) (65536 ∷ []) (0 ∷ []) (pos 100 ∷ [])
+oneGlyph edition = textLine edition (65536 ∷ []) (0 ∷ []) (pos 100 ∷ []) (pos 100)
 
 abbrev pub room : Lent
 room = lentBy (7 ∷ []) (pos 7 ∷ []) (pos 7 ∷ []) []
@@ -50,15 +54,18 @@ pub record Stands (edition : ℕ) (target from to remainder : ℤ) : Type 0 wher
   pub left-at : left onePair 1 (aimed (oneGlyph edition) target) room 0 ≡ from
   pub right-at : right onePair 1 (aimed (oneGlyph edition) target) room 0 ≡ to
 
--- 40 units narrower, each side shrinks by its limit; 30 units wider, each grows by its limit; 40 units wider, edition 1 goes back with 10 units and edition 2 leaves them
+-- 40 units narrower, each side shrinks by its limit; 30 units wider, each grows by its limit; 40 units wider, edition 1 goes back with 10 units and edition 2 leaves them;
+-- 50 units narrower, each side shrinks by its limit and edition 2 leaves a remainder of minus 10
 pub columns : Stands 1 (pos 60) (negℤ (pos 10)) (pos 60) (pos 0)
     × Stands 1 (pos 130) (pos 10) (pos 130) (pos 0)
     × Stands 1 (pos 140) (pos 13) (pos 140) (pos 0)
     × Stands 2 (pos 140) (pos 10) (pos 130) (pos 10)
+    × Stands 2 (pos 50) (negℤ (pos 10)) (pos 60) (negℤ (pos 10))
 unfolding onePair justified lineFault workedFault tableFault headerFault directionFault present offsetsFault machinePart actionPart u16At u32At inside rule _then_ walk valuesFault lookupFault formatFault placeFault glyphFault valueOf valueFrom clusterFault pairFault classAt classFault growFault shrinkFault flagsFault fixedSize widthFlags pairAt pairsAt clusterAt clusterOf machineOf listsOf sideAt directionOf meaningOf emptySide from stages shares stageMoves stageLeft movesBy leftBy lineFits lineMoves lineLeft gapOf walkOf partsOf beforeOf afterOf remainderOf verdictsFrom verdictsOf firings
 columns = (
   record { shown = record { remainder = pos 0; entries = 0; verdicts = 0; answer = refl }; left-over = refl; left-at = refl; right-at = refl },
   record { shown = record { remainder = pos 0; entries = 0; verdicts = 0; answer = refl }; left-over = refl; left-at = refl; right-at = refl },
   record { shown = record { remainder = pos 0; entries = 0; verdicts = 0; answer = refl }; left-over = refl; left-at = refl; right-at = refl },
   record { shown = record { remainder = pos 10; entries = 0; verdicts = 0; answer = refl }; left-over = refl; left-at = refl; right-at = refl },
+  record { shown = record { remainder = negℤ (pos 10); entries = 0; verdicts = 0; answer = refl }; left-over = refl; left-at = refl; right-at = refl },
 )

@@ -1,5 +1,5 @@
--- A wider column never pulls a glyph back (document 02, request 1/14): for one line, table, sizes and pair of flags, and any two targets that are both accepted, every
--- glyph's left and right edge under the wider target are at or beyond their places under the narrower.
+-- A wider column never pulls a glyph back (document 02, request 1/14): for one line, table, sizes, pair of flags and edition, and any two targets that are both accepted,
+-- every glyph's left and right edge under the wider target are at or beyond their places under the narrower.
 use Prim.Native.Nat.{ℕ}
 use mathlib.Core.Path.{_≡_, sym, ap₂, subst}
 use mathlib.Core.List.{List}

@@ -1,5 +1,5 @@
 -- A line is refused exactly when one of the listed faults holds, with the number and the offset of the first (document 01, "Numbers of refusal").
-use Prim.Native.Nat.{ℕ}
+use Prim.Native.Nat.{ℕ, _<_}
 use mathlib.Core.Path.{_≡_, refl, sym, ap, ap₂, _∙_}
 use mathlib.Core.Logic.{inl, inr, _↔_}
 use mathlib.Core.Bool.{Bool, true, false, true≢false}
@@ -14,8 +14,10 @@ use Rattle.fields.specs.declared.Fault.the-variants.{Clear, Bad}
 use Rattle.fields.specs.Faults.{rule}
 use Rattle.fields.specs.Laws.{then-assoc, then-clear}
 use Rattle.encoding.specs.Codes.{All}
+use Rattle.table.specs.Table.{tableFault}
 use Rattle.table_laws.specs.Order.{First, Free}
 use Rattle.table_laws.proofs.Faults.{clear-not-bad, rule-bad, chain, chain-first, first-chain, chain-free, free-chain}
+use Rattle.table_laws.proofs.Numbers.{table-number}
 use Rattle.line_rule.specs.Line.{Line}
 use Rattle.fields.specs.Refusals.{numberOf, one-number}
 use Rattle.line_call.specs.Justified.{Lent, justifies, refuses, workedFault, lineFault, settled, justified}
@@ -28,6 +30,10 @@ Spares r f = (at : ℕ) → f ≡ Bad r at → ⊥
 
 pub clear-spares : {r : Refusal} {f : Fault} → f ≡ Clear → Spares r f
 clear-spares {r} {f} e at q = clear-not-bad e q
+
+-- a table is refused with 1 to 8 alone
+pub table-spares : (t : List ℕ) (n : ℕ) {r : Refusal} → 8 < numberOf r → Spares r (tableFault t n)
+table-spares t n {r} h at e = omega (arith, table-number t n e)
 
 pub rule-spares : (r : Refusal) (test : Bool) {s : Refusal} → eqb (numberOf r) (numberOf s) ≡ false → Spares s (rule test r 0)
 rule-spares r test {s} h at q = true≢false (sym (eq-eqb (numberOf r) (numberOf s) (ap numberOf (rule-bad test r s 0 at q .1))) ∙ h)

@@ -7,7 +7,7 @@ use mathlib.Core.List.{List, [], _∷_, _++_}
 use native.Mathlib.Omega.{arith}
 use native.Mathlib.Decide.{decLt}
 use lib.Dec.{leb}
-use lib.IntN.{ℤ, pos}
+use lib.IntN.{pos}
 use lib.ListN.{length, getD}
 use borrow.Author.Tests.{leb-true, le-leb}
 use Rattle.fields.specs.declared.Refusal.the-variants.{UnequalLengths, LongLine, UnknownEdition, PointSize, Advances, UnknownGlyph, EndlessWalk, StageTotal, ShortRoom}
@@ -19,7 +19,6 @@ use Rattle.fields.specs.Laws.{rule-holds, rule-clear, rule-fails}
 use Rattle.fields.specs.Walk.{walk}
 use Rattle.encoding.specs.Codes.{All}
 use Rattle.encoding.specs.Upto.{from}
-use Rattle.types.specs.declared.Direction.the-variants.{Horizontal}
 use Rattle.units.specs.Fixed.{fixedSize}
 use Rattle.units.specs.Flags.{widthFlags}
 use Rattle.meaning.specs.Meaning.{emptySide}
@@ -36,11 +35,11 @@ use Rattle.share.specs.Share.{stages, shares, stageMoves, stageLeft, movesBy, l
 use Rattle.share.specs.Line.{lineFits, lineMoves, lineLeft}
 use Rattle.line_rule.specs.Line.{Line, knownEdition, gapOf, walkOf, partsOf, beforeOf, afterOf, remainderOf, firings, verdictsFrom, verdictsOf}
 use Rattle.line_call.specs.Justified.{Lent, lengthsOf, equalLengths, goodSize, goodSizes, workTests, roomTest, justifies, refuses, workedFault, lineFault, justified}
-use Rattle.line_call.specs.Settle.{lineBy, lentBy}
+use Rattle.line_call.specs.Settle.{lentBy}
 use Rattle.line_laws.specs.Bars.{sideFor, OneLength, KnownEdition, OutOfRange}
 use Rattle.line_laws.proofs.Tests.{lengths-are, edition-is, size-is, sizes-are}
-use Rattle.line_laws.proofs.Refusals.{Spares, clear-spares, rule-spares, only-first, first-after, call-refused}
-use Rattle.line_laws.proofs.Columns.{onePair}
+use Rattle.line_laws.proofs.Refusals.{Spares, table-spares, rule-spares, only-first, first-after, call-refused}
+use Rattle.line_laws.proofs.Columns.{onePair, textLine}
 
 -- ---- refusal 11
 
@@ -72,12 +71,12 @@ wrong-sizes zs r = go (goodSizes zs) refl
         against (inr h) = let w = sizes-are zs .0 q (r .place) (r .there) .1 in omega arith
 
 module _ (t : List ℕ) (n : ℕ) (l : Line) (b : Lent) where
-  -- REFUSAL 11 exactly when nothing before it bars the line and the size of some glyph is out of range
-  pub sizes-barred : Accepted t n → (justified t n l b .answer ≡ refuses 11 0) ↔ (OneLength l b × (length (l .glyphs) ≤ 1024) × KnownEdition (l .edition) × OutOfRange (l .sizes))
+  -- REFUSAL 11 exactly when the table is accepted, nothing else before it bars the line, and the size of some glyph is out of range
+  pub sizes-barred : (justified t n l b .answer ≡ refuses 11 0) ↔ (Accepted t n × OneLength l b × (length (l .glyphs) ≤ 1024) × KnownEdition (l .edition) × OutOfRange (l .sizes))
   unfolding Accepted
-  sizes-barred ok = (
+  sizes-barred = (
     λ e. refused (only-first ahead sized behind spared spared-behind (call-refused t n l b PointSize 0 .0 e)),
-    λ h. call-refused t n l b PointSize 0 .1 (first-after ahead sized behind (free (h .0) (h .1) (h .2)) (rule-fails PointSize 0 (wrong-sizes (l .sizes) (h .3)))),
+    λ h. call-refused t n l b PointSize 0 .1 (first-after ahead sized behind (free (h .0) (h .1) (h .2) (h .3)) (rule-fails PointSize 0 (wrong-sizes (l .sizes) (h .4)))),
   )
     where
       ahead : List Fault
@@ -95,19 +94,20 @@ module _ (t : List ℕ) (n : ℕ) (l : Line) (b : Lent) where
       behind = workTests (sideFor t n l) n l ++ (roomTest (sideFor t n l) l (length (b .verdicts)) ∷ [])
 
       spared : All (Spares PointSize) ahead
-      spared = (clear-spares ok, (rule-spares UnequalLengths _ refl, (rule-spares LongLine _ refl, (rule-spares UnknownEdition _ refl, tt))))
+      spared = (table-spares t n (omega arith), (rule-spares UnequalLengths _ refl, (rule-spares LongLine _ refl, (rule-spares UnknownEdition _ refl, tt))))
 
       spared-behind : All (Spares PointSize) behind
       spared-behind = (rule-spares Advances _ refl, (rule-spares UnknownGlyph _ refl, (rule-spares EndlessWalk _ refl, (rule-spares StageTotal _ refl, (rule-spares ShortRoom _ refl, tt)))))
 
-      free : OneLength l b → length (l .glyphs) ≤ 1024 → KnownEdition (l .edition) → Free ahead
-      free one short known = (
+      free : Accepted t n → OneLength l b → length (l .glyphs) ≤ 1024 → KnownEdition (l .edition) → Free ahead
+      free ok one short known = (
         ok,
         (rule-clear UnequalLengths 0 (lengths-are l b .1 one), (rule-clear LongLine 0 (le-leb _ _ short), (rule-clear UnknownEdition 0 (edition-is (l .edition) .1 known), tt))),
       )
 
-      refused : Free ahead × (sized ≡ Bad PointSize 0) → OneLength l b × (length (l .glyphs) ≤ 1024) × KnownEdition (l .edition) × OutOfRange (l .sizes)
-      refused ((_, (p9, (p10, (p18, _)))), q) = (
+      refused : Free ahead × (sized ≡ Bad PointSize 0) → Accepted t n × OneLength l b × (length (l .glyphs) ≤ 1024) × KnownEdition (l .edition) × OutOfRange (l .sizes)
+      refused ((ok, (p9, (p10, (p18, _)))), q) = (
+        ok,
         lengths-are l b .0 (rule-holds _ UnequalLengths 0 p9),
         leb-true _ _ (rule-holds _ LongLine 0 p10),
         edition-is (l .edition) .0 (rule-holds _ UnknownEdition 0 p18),
@@ -115,25 +115,22 @@ module _ (t : List ℕ) (n : ℕ) (l : Line) (b : Lent) where
       )
 
   -- so NEVER FOR AN EMPTY LINE
-  pub empty-unbarred : Accepted t n → l .glyphs ≡ [] → justified t n l b .answer ≡ refuses 11 0 → ⊥
-  empty-unbarred ok none e =
-      let h = sizes-barred ok .0 e in
-      let long : length (l .sizes) ≡ 0 = h .0 .sizes ∙ ap (λ (gs : List ℕ). length gs) none in
-      let there = h .3 .there in
+  pub empty-unbarred : l .glyphs ≡ [] → justified t n l b .answer ≡ refuses 11 0 → ⊥
+  empty-unbarred none e =
+      let h = sizes-barred .0 e in
+      let long : length (l .sizes) ≡ 0 = h .1 .sizes ∙ ap (λ (gs : List ℕ). length gs) none in
+      let there = h .4 .there in
       omega arith
 
 -- ---- lines of one table, whose glyph 0 has one record: 10 and 20 units at 1 pt for growing
-
-abbrev lineAt : List ℕ → List ℕ → List ℤ → ℤ → Line
-lineAt sizes glyphs advances target = lineBy (record { direction = Horizontal; starts = true; ends = true; target = target; edition = 1 }) sizes glyphs advances
 
 abbrev lentTwo : Lent
 lentTwo = lentBy (7 ∷ 7 ∷ []) (pos 7 ∷ pos 7 ∷ []) (pos 7 ∷ pos 7 ∷ []) []
 
 -- at 1 and 2 pt, by as much as all sides may grow, the second glyph's move twice as far; a size of 0 is refused under a deleted glyph too
 pub in-two-sizes :
-    (justified onePair 1 (lineAt (65536 ∷ 131072 ∷ []) (0 ∷ 0 ∷ []) (pos 100 ∷ pos 100 ∷ []) (pos 290)) lentTwo
+    (justified onePair 1 (textLine 1 (65536 ∷ 131072 ∷ []) (0 ∷ 0 ∷ []) (pos 100 ∷ pos 100 ∷ []) (pos 290)) lentTwo
     ≡ record { answer = justifies (pos 0) 0 0; lent = lentBy (0 ∷ 0 ∷ []) (pos 10 ∷ pos 20 ∷ []) (pos 20 ∷ pos 40 ∷ []) [] })
-    × (justified onePair 1 (lineAt (65536 ∷ 0 ∷ []) (0 ∷ 0xFFFF ∷ []) (pos 100 ∷ pos 0 ∷ []) (pos 100)) lentTwo ≡ record { answer = refuses 11 0; lent = lentTwo })
+    × (justified onePair 1 (textLine 1 (65536 ∷ 0 ∷ []) (0 ∷ 0xFFFF ∷ []) (pos 100 ∷ pos 0 ∷ []) (pos 100)) lentTwo ≡ record { answer = refuses 11 0; lent = lentTwo })
 unfolding onePair justified lineFault workedFault tableFault headerFault directionFault present offsetsFault machinePart actionPart u16At u32At inside rule _then_ walk valuesFault lookupFault formatFault placeFault glyphFault valueOf valueFrom clusterFault pairFault classAt classFault growFault shrinkFault flagsFault fixedSize widthFlags pairAt pairsAt clusterAt clusterOf machineOf listsOf sideAt directionOf meaningOf emptySide from stages shares stageMoves stageLeft movesBy leftBy lineFits lineMoves lineLeft gapOf walkOf partsOf beforeOf afterOf remainderOf verdictsFrom verdictsOf firings
 in-two-sizes = (refl, refl)

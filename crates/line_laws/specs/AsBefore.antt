@@ -9,8 +9,8 @@ use Rattle.line_call.specs.Justified.{Lent, goodSize, justified}
 use Rattle.line_laws.specs.OneSize as one
 
 -- a line in one size, handed in with that size for each of its glyphs, and in edition 1
-abbrev pub spread : one.Line → Line
-spread l =
+abbrev pub inOneSize : one.Line → Line
+inOneSize l =
     record {
       direction = l .direction;
       starts = l .starts;
@@ -24,8 +24,8 @@ spread l =
 
 -- one glyph or more: the answer, its refusals too, and every lent buffer are what they were, whatever the table
 abbrev pub AsBefore : Type 0
-AsBefore = (t : List ℕ) (n : ℕ) (l : one.Line) (b : Lent) → 0 < length (l .glyphs) → justified t n (spread l) b ≡ one.justified t n l b
+AsBefore = (t : List ℕ) (n : ℕ) (l : one.Line) (b : Lent) → 0 < length (l .glyphs) → justified t n (inOneSize l) b ≡ one.justified t n l b
 
 -- no glyph, and so no size that could be judged: what they were in a size that was not refused
 abbrev pub EmptyAsBefore : Type 0
-EmptyAsBefore = (t : List ℕ) (n : ℕ) (l : one.Line) (b : Lent) → l .glyphs ≡ [] → goodSize (l .size) ≡ true → justified t n (spread l) b ≡ one.justified t n l b
+EmptyAsBefore = (t : List ℕ) (n : ℕ) (l : one.Line) (b : Lent) → l .glyphs ≡ [] → goodSize (l .size) ≡ true → justified t n (inOneSize l) b ≡ one.justified t n l b

@@ -1,5 +1,5 @@
--- The call for a line in one point size, as it was before each glyph had its own (document 02, request 5/14) and before there was a second edition of the rule: the line and all that looks at its size; whatever looks at
--- none is cited. Only `AsBefore` and `EmptyAsBefore` speak of it.
+-- The call for a line in one point size, as it was before each glyph had its own (document 02, request 5/14) and before there was a second edition of the rule: the line
+-- and all that looks at its size; whatever looks at none is cited. Only `AsBefore` and `EmptyAsBefore` speak of it.
 use Prim.Native.Nat.{ℕ, suc}
 use mathlib.Core.Bool.{Bool, true, _&&_}
 use mathlib.Core.List.{List, [], _∷_, _++_, map}
@@ -32,10 +32,10 @@ pub record Line : Type 0 where
   pub advances : List ℤ
   pub target : ℤ
 
--- of the line that which the gap, the class walk and refusal 12 look at, and so no size
+-- of the line that which the gap, the class walk and refusal 12 look at, and so no size and no edition
 abbrev pub unsized : Line → sized.Line
 unsized l =
-    record { direction = l .direction; starts = l .starts; ends = l .ends; sizes = []; glyphs = l .glyphs; advances = l .advances; target = l .target; edition = 1 }
+    record { direction = l .direction; starts = l .starts; ends = l .ends; sizes = []; glyphs = l .glyphs; advances = l .advances; target = l .target; edition = 0 }
 
 -- ---- the movements
 

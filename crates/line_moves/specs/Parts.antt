@@ -24,7 +24,7 @@ use Rattle.line_moves.specs.declared.Shared.the-variants.{Left, Over}
 abbrev pub Known : ℕ → List ℕ → Type 0
 Known n gs = (place : ℕ) → place < length gs → (getD gs place 0 ≡ 0xFFFF) ⊎ (getD gs place 0 < n)
 
--- a line of which only that is said which the class walk looks at: its glyphs, and whether it starts and ends the text
+-- a line of which only that is said which the class walk looks at: its glyphs, and whether it starts and ends the text; no size and no edition
 abbrev pub bareLine : List ℕ → Bool → Bool → Line
 bareLine glyphs starts ends =
     record { direction = Horizontal; starts = starts; ends = ends; sizes = []; glyphs = glyphs; advances = []; target = pos 0; edition = 0 }

@@ -39,7 +39,8 @@ pub record Line : Type 0 where
 
 -- ---- the editions
 
--- edition 1 goes back, by step 3; edition 2 stops at the limits, and what is left after stage 3 is its remainder. No other is known
+-- edition 1 goes back, by step 3; edition 2 stops at the limits, and what is left after stage 3 is its remainder. No other goes back either: the call refuses it before
+-- anything is shared
 abbrev pub goesBack : ℕ → Bool
 goesBack edition = eqb edition 1
 
