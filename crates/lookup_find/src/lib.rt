@@ -131,9 +131,8 @@ fn halved(
     }
 }
 
-// The value at a glyph in the lookup at `at`, of a format with units, and the looks that it took. The format is given
-// besides: where a caller names it, the search is compiled for it alone.
-pub fn find_units(
+// The value at a glyph in the lookup at `at`, of a format with units, and the looks that it took.
+fn find_units(
     table: &[u8],
     format: usize,
     glyphs: usize,
@@ -160,6 +159,19 @@ pub fn find_units(
         };
     }
     looked
+}
+
+// The value at a glyph in the lookup at `at`, of format 2, which fonts have most: the search is compiled for it alone.
+pub fn find_range(table: &[u8], glyphs: usize, at: usize, head: Head, glyph: u16) -> Found
+    requires { ⌜ Searchable (now table) glyphs at head × (head .format ≡ 2) ⌝ }
+    ensures { λ r. ⌜ r ≡ valueOf (now (table .entry)) glyphs at glyph ⌝ }
+{
+    let number = glyph as usize;
+    if glyphs <= number {
+        return Found::Nothing;
+    }
+    let looked = halved(table, 2, at, number, head.units, at + 12);
+    looked.found
 }
 
 // The value at a glyph in format 0.

@@ -1,8 +1,10 @@
 -- The steps to a place of specs/Places.antt, over values as read.
-use Prim.Native.Nat.{ℕ, _<_, _^_}
+use Prim.Native.Nat.{ℕ, _<_, _≤_, _^_}
 use native.Mathlib.Omega.{arith}
-use mathlib.Core.Path.{_≡_, sym, ap, subst, _∙_}
+use mathlib.Core.Path.{_≡_, sym, ap, ap₂, subst, _∙_}
 use mathlib.Core.List.{List}
+use mathlib.Core.Bool.{Bool, cond}
+use borrow.Author.Tests.{le-ltb, lt-ltb}
 use Rattle.fields.specs.declared.Fault.{Fault}
 use Rattle.fields.specs.declared.Fault.the-variants.{Clear}
 use Rattle.lookup.specs.declared.Found.{Found}
@@ -15,7 +17,7 @@ use Rattle.meaning.specs.Ask.{Answer}
 use Rattle.answers.specs.Says.{unlessBad}
 use Rattle.lookup.specs.Find.{valueOf}
 use Rattle.actions.specs.declared.Spot.{Spot}
-use Rattle.actions.specs.declared.Spot.the-variants.{At}
+use Rattle.actions.specs.declared.Spot.the-variants.{At, Nowhere}
 use Rattle.actions.specs.declared.Stretch.{Stretch}
 use Rattle.actions.specs.Actions.{Below}
 use Rattle.lookup_targets.specs.declared.Source.{Source}
@@ -25,12 +27,19 @@ use Rattle.table.specs.Table.{directionAt, sourceAt, tableFault}
 use Rattle.table.proofs.Laws.{direction-clear, source-clear, few-glyphs}
 use Rattle.table_ask.specs.declared.Lookup.{Lookup}
 use Rattle.table_ask.specs.declared.Lookup.the-variants.{There}
-use Rattle.table_ask.specs.Places.{headed, lookupIn, Readable, Sound, spotBy, spotIn}
+use Rattle.table_ask.specs.Places.{headed, lookupIn, Readable, Sound, spotBy, spotFrom, spotIn}
 use Rattle.table_ask.specs.Components.{unlessFault}
 
 -- the offset of a spot that is there
 pub below-at : {n p : ℕ} {s : Spot} → s ≡ At p → Below n s → p < n
 below-at {n} {p} {s} e b = subst (Below n) e b
+
+-- a spot by a plain number
+pub from-near : (p : ℕ) → p < 2 ^ 17 → spotFrom p ≡ At p
+from-near p h = ap (λ (b : Bool). cond b (At p) Nowhere) (lt-ltb p (2 ^ 17) h)
+
+pub from-far : (p : ℕ) → 2 ^ 17 ≤ p → spotFrom p ≡ Nowhere
+from-far p h = ap (λ (b : Bool). cond b (At p) Nowhere) (le-ltb p (2 ^ 17) h)
 
 -- a call answers by the fault that was found
 pub judged : {f g : Fault} (a : Answer) → f ≡ g → unlessBad f a ≡ unlessBad g a
@@ -74,6 +83,12 @@ module _ (t : List ℕ) (n : ℕ) {l : Lookup} {at base : ℕ} {head : Head} (e 
 
   pub there-base : Readable t l → base < 2 ^ 16
   there-base r = subst (Readable t) e r .1 .0
+
+  pub there-sound : Readable t l → Sound t n l → Readable t (There at base head) × Sound t n (There at base head)
+  there-sound r s = (subst (Readable t) e r, subst (Sound t n) e s)
+
+  pub spot-by-kind : (kind k : Kind) (g : ℕ) {s : Spot} → kind ≡ k → s ≡ spotBy t n k (There at base head) g → s ≡ spotBy t n kind l g
+  spot-by-kind kind k g q a = a ∙ sym (ap₂ (λ (i : Kind) (m : Lookup). spotBy t n i m g) q e)
 
   pub spot-there : (kind : Kind) (g : ℕ) {f : Found} {s : Spot} → s ≡ spotOf kind base f → f ≡ valueOf t n at g → s ≡ spotBy t n kind l g
   spot-there kind g a b = a ∙ ap (spotOf kind base) b ∙ sym (ap (λ (k : Lookup). spotBy t n kind k g) e)

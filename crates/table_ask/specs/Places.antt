@@ -3,6 +3,8 @@
 use Prim.Native.Nat.{ℕ, _<_, _^_}
 use mathlib.Core.Path.{_≡_}
 use mathlib.Core.List.{List}
+use mathlib.Core.Bool.{cond}
+use lib.Dec.{ltb}
 use Rattle.types.specs.declared.Direction.{Direction}
 use Rattle.meaning.specs.Ask.{Answer, nothing, number, both, entry, pair, act}
 use Rattle.fields.specs.declared.Fault.the-variants.{Clear}
@@ -48,6 +50,10 @@ Sound t n (There at base head) = (lookupFault t n at ≡ Clear) × (n < 65536)
 abbrev pub spotBy : List ℕ → ℕ → Kind → Lookup → ℕ → Spot
 spotBy t n kind Absent glyph = Nowhere
 spotBy t n kind (There at base head) glyph = spotOf kind base (valueOf t n at glyph)
+
+-- a spot by a plain number: past every place to which a base and a value lead, nowhere
+abbrev pub spotFrom : ℕ → Spot
+spotFrom p = cond (ltb p (2 ^ 17)) (At p) Nowhere
 
 -- where a glyph's cluster or list stands in a direction
 unfoldable pub spotIn : List ℕ → ℕ → Direction → Kind → ℕ → Spot

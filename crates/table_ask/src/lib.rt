@@ -11,7 +11,7 @@ ghost use Rattle.cluster.specs.Pairs.{clusterAt};
 ghost use Rattle.actions.specs.Actions.{Below};
 ghost use Rattle.table.specs.Table.{tableFault};
 ghost use Rattle.table.specs.Means.{meaningOf};
-ghost use Rattle.table_ask.specs.Places.{machineIn, lookupIn, Readable, Sound, spotBy, spotIn, actionSpot, cut};
+ghost use Rattle.table_ask.specs.Places.{machineIn, lookupIn, Readable, Sound, spotBy, spotFrom, spotIn, actionSpot, cut};
 ghost use Rattle.table_ask.specs.Components.{componentsOf, stretch, placeIn};
 use actions::Spot;
 use actions::Stretch;
@@ -103,7 +103,46 @@ pub fn lookup_in(table: &[u8], direction: Direction, kind: Kind) -> Lookup
     }
 }
 
-// Where a glyph's cluster or list stands, by a direction's lookup of that kind.
+// Past every place to which a base and a value lead.
+const FAR: usize = 131072;
+
+// A spot by a plain number.
+fn spot_from(place: usize) -> Spot
+    ensures { λ r. ⌜ (r ≡ spotFrom place) × Below (2 ^ 17) r ⌝ }
+{
+    if place < FAR {
+        return Spot::At(place);
+    }
+    Spot::Nowhere
+}
+
+// A spot as a plain number.
+fn plain(spot: Spot) -> usize
+    requires { ⌜ Below (2 ^ 17) spot ⌝ }
+    ensures { λ r. ⌜ spotFrom r ≡ spot ⌝ }
+{
+    match spot {
+        Spot::At(place) => place,
+        Spot::Nowhere => FAR,
+    }
+}
+
+// Where a glyph's cluster or list stands, by a direction's lookup of that kind, of any format; a plain number, which costs a
+// call the least.
+fn place_by(table: &[u8], count: u32, kind: Kind, lookup: Lookup, glyph: u16) -> usize
+    requires { ⌜ Readable (now table) lookup × Sound (now table) count lookup ⌝ }
+    ensures { λ r. ⌜ spotFrom r ≡ spotBy (now (table .entry)) count kind lookup glyph ⌝ }
+{
+    let Lookup::There { at, base, head } = lookup else {
+        return FAR;
+    };
+    let looked = lookup_find::find_by(table, count as usize, at, head, glyph);
+    let found = looked.found;
+    plain(lookup_targets::spot_of(kind, base, found))
+}
+
+// Where a glyph's cluster or list stands, by a direction's lookup of that kind. A line asks this of each glyph, mostly by
+// format 2. The other formats are called for each kind, which keeps them out of the loops into which this is compiled.
 pub fn spot_by(table: &[u8], count: u32, kind: Kind, lookup: Lookup, glyph: u16) -> Spot
     requires { ⌜ Readable (now table) lookup × Sound (now table) count lookup ⌝ }
     ensures { λ r. ⌜ (r ≡ spotBy (now (table .entry)) count kind lookup glyph) × Below (2 ^ 17) r ⌝ }
@@ -112,13 +151,13 @@ pub fn spot_by(table: &[u8], count: u32, kind: Kind, lookup: Lookup, glyph: u16)
         return Spot::Nowhere;
     };
     if head.format == 2 {
-        let looked = lookup_find::find_units(table, 2, count as usize, at, head, glyph);
-        let found = looked.found;
+        let found = lookup_find::find_range(table, count as usize, at, head, glyph);
         return lookup_targets::spot_of(kind, base, found);
     }
-    let looked = lookup_find::find_by(table, count as usize, at, head, glyph);
-    let found = looked.found;
-    lookup_targets::spot_of(kind, base, found)
+    match kind {
+        Kind::Clusters => spot_from(place_by(table, count, Kind::Clusters, lookup, glyph)),
+        Kind::Lists => spot_from(place_by(table, count, Kind::Lists, lookup, glyph)),
+    }
 }
 
 // Where a glyph's cluster or list stands in a direction.
