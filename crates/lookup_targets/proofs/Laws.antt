@@ -30,7 +30,7 @@ use Rattle.actions.specs.Notes.{Passing}
 use Rattle.actions.proofs.Notes.{set-here, no-note, each-fewer, blank-passed}
 use Rattle.lookup_targets.specs.declared.Kind.{Kind}
 use Rattle.lookup_targets.specs.declared.Kind.the-variants.{Clusters, Lists}
-use Rattle.lookup_targets.specs.Values.{spotOf, itemFault, spotFault, placeFault, glyphFault, Tells, besides, Judged, Told, Ahead, noteAt, noteEach, noteAlong, Noted}
+use Rattle.lookup_targets.specs.Values.{spotOf, itemFault, spotFault, placeFault, glyphFault, fromGlyph, Tells, besides, Judged, Told, Ahead, noteAt, noteEach, noteAlong, Noted}
 
 -- what is judged of a value, from what its steps found
 pub place-of : (t : List ℕ) (glyphs : ℕ) (kind : Kind) (base p : ℕ) {fault : Fault} {spot : Spot}
@@ -458,6 +458,12 @@ module _ (t : List ℕ) (glyphs : ℕ) (kind : Kind) (at base glyph : ℕ) (r : 
           ≡ (fault then each (glyphFault t glyphs kind at base) (λ k. k + 1) (glyphs - r .until) (r .until))
       go true e f = array-judged e h ∙ ap (λ (x : Fault). x then each (glyphFault t glyphs kind at base) (λ k. k + 1) (glyphs - r .until) (r .until)) (sym f)
       go false e f = one-judged e h ∙ ap (λ (x : Fault). x then each (glyphFault t glyphs kind at base) (λ k. k + 1) (glyphs - r .until) (r .until)) (sym f)
+
+  -- a run whose one value leads to what the notes tell of is passed
+  pub run-told : r .from < glyphs → r .array ≡ false → (judged : List ℕ) → Judged t glyphs judged → Told t kind base judged (r .place)
+      → fromGlyph t glyphs kind at base glyph ≡ fromGlyph t glyphs kind at base (r .until)
+  run-told h e judged m told =
+      run-judged h Clear (sym (told .clear glyphs m) ∙ one-value (placeFault t glyphs kind base) (r .array) (min (r .until) glyphs - r .from) (r .place) e) ∙ then-go _ refl
 
 -- at first all glyphs are left
 pub all-left : (one : ℕ → Fault) (n : ℕ) → each one (λ k. k + 1) n 0 ≡ each one (λ k. k + 1) (n - 0) 0

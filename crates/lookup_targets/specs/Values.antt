@@ -53,6 +53,10 @@ placeFault t glyphs kind base p = spotFault t glyphs kind (spotOf kind base (Val
 unfoldable pub glyphFault : List ℕ → ℕ → Kind → ℕ → ℕ → ℕ → Fault
 glyphFault t glyphs kind at base glyph = spotFault t glyphs kind (spotOf kind base (valueOf t glyphs at glyph))
 
+-- what the glyphs from one on lead to
+abbrev pub fromGlyph : List ℕ → ℕ → Kind → ℕ → ℕ → ℕ → Fault
+fromGlyph t glyphs kind at base glyph = each (glyphFault t glyphs kind at base) (λ g. g + 1) (glyphs - glyph) glyph
+
 -- the lookup, then what its values lead to, glyphs upward
 unfoldable pub valuesFault : List ℕ → ℕ → Kind → ℕ → ℕ → Fault
 valuesFault t glyphs kind at base = lookupFault t glyphs at then each (glyphFault t glyphs kind at base) (λ g. g + 1) glyphs 0

@@ -8,10 +8,12 @@ ghost use Rattle.fields.specs.Field.{u16At};
 ghost use Rattle.fields.specs.Walk.{each};
 ghost use Rattle.lookup.specs.declared.Found.the-variants.{Value};
 ghost use Rattle.lookup.specs.Lookup.{lookupFault};
+ghost use Rattle.lookup.specs.Pass.{Serves};
 ghost use Rattle.actions.specs.Actions.{Below};
-ghost use Rattle.lookup_targets.specs.Values.{spotOf, itemFault, placeFault, glyphFault, valuesFault, Tells, besides, Judged, Told, Ahead, noteAt, noteEach, noteAlong};
+ghost use Rattle.lookup_targets.specs.Values.{spotOf, itemFault, placeFault, glyphFault, fromGlyph, valuesFault, Tells, besides, Judged, Told, Ahead, noteAt, noteEach, noteAlong};
 use actions::Spot;
 use fields::Fault;
+use lookup::Cursor;
 use lookup::Found;
 use lookup_runs::Run;
 
@@ -352,6 +354,50 @@ fn run_fault(
     places_fault(table, glyphs, kind, base, run.place, count, judged, ahead)
 }
 
+// Where a pass over a lookup's runs has come: the cursor serves the glyphs from `glyph` on.
+struct Passed {
+    cursor: Cursor,
+    glyph: usize,
+}
+
+// Passes the runs after a run whose values lead to what the notes tell of. Only in format 2, which fonts have most: the loop is
+// compiled for it alone.
+fn pass_told(
+    table: &[u8],
+    format: usize,
+    glyphs: usize,
+    kind: Kind,
+    at: usize,
+    base: usize,
+    run: Run,
+    judged: &[u8],
+) -> Passed
+    requires { ⌜ (at < 2 ^ 32) × ((base < 2 ^ 16) × ((glyphs < 2 ^ 16) × (format ≡ u16At (now table) at))) ⌝ }
+    requires { ⌜ Judged (now table) glyphs (now judged) × Serves (now table) at (run .until) (run .cursor) ⌝ }
+    ensures { λ r. ⌜ (run .until ≤ r .glyph) × (Serves (now (table .entry)) at (r .glyph) (r .cursor) × (fromGlyph (now (table .entry)) glyphs kind at base (run .until) ≡ fromGlyph (now (table .entry)) glyphs kind at base (r .glyph))) ⌝ }
+{
+    let mut cursor = run.cursor;
+    let mut glyph = run.until;
+    if format != 2 {
+        return Passed { cursor, glyph };
+    }
+    while glyph < glyphs {
+        let next = lookup_runs::next_run(table, 2, at, cursor, glyph);
+        if glyphs <= next.from {
+            return Passed { cursor, glyph };
+        }
+        if next.array {
+            return Passed { cursor, glyph };
+        }
+        if !is_judged(table, kind, base, next.place, judged) {
+            return Passed { cursor, glyph };
+        }
+        cursor = next.cursor;
+        glyph = next.until;
+    }
+    Passed { cursor, glyph }
+}
+
 // The first fault of what the values of the lookup at `at`, which has none itself, lead to.
 fn glyphs_fault(
     table: &[u8],
@@ -378,8 +424,9 @@ fn glyphs_fault(
         if let Fault::Bad { refusal: _, at: _ } = fault {
             return fault;
         }
-        cursor = run.cursor;
-        glyph = run.until;
+        let passed = pass_told(table, format, glyphs, kind, at, base, run, judged);
+        cursor = passed.cursor;
+        glyph = passed.glyph;
     }
     Fault::Clear
 }

@@ -74,18 +74,24 @@ returns-2 c =
 enum-told-2 : tie.Need-enum-told-2 Inv-loop μ-loop
 enum-told-2 c = search needs
 
+pass-told-requires : tie.Need-pass-told-requires Inv-loop μ-loop
+pass-told-requires c κs =
+    let q = c .before .before .before .before .before .before .before .before .before .before .before .before .before .before .before .before .before .before .before .before .pre .0 in
+    ((q .0, (q .1 .0, (q .1 .1 .0, c .before .before .before .before .before .before .before .before .before .before .before .before .before .before .before .before .u16-at .ensures .0))), (c .before .before .before .before .before .before .before .run-fault .ensures .1 .0, c .before .before .before .before .before .before .before .before .before .before .before .before .next-run .ensures .1 .serves))
+
 loop-less : tie.Need-loop-less Inv-loop μ-loop
-loop-less c = let w = c .before .before .before .before .before .before .before .before .before .before .before .before .next-run .ensures .1 in omega (arith, w .begins, w .more)
+loop-less c = let w = c .before .before .before .before .before .before .before .before .before .before .before .before .before .before .next-run .ensures .1 in omega (arith, w .begins, w .more, c .before .pass-told .ensures .0)
 
 loop-again : tie.Need-loop-again Inv-loop μ-loop
 loop-again c =
-    let a = c .before .before .before .before .before .before .before .before .before .before .before .before .before .before .before .before .before .before .before .before .args in
-    let w = c .before .before .before .before .before .before .before .before .before .before .before .before .next-run .ensures .1 in (
-      c .before .before .before .before .before .before .before .before .before .before .before .before .before .before .loop .inv .0
-          ∙ run-judged (now (a .table)) (a .glyphs) (a .kind) (a .at) (a .base) (c .before .before .before .before .before .before .before .before .before .before .before .before .before .before .loop .glyph) _ w (c .before .before .before .before .before .before .before .before .before .before .before .before .before .before .before .before .before .before .before .before .pre .0 .1 .1 .0) (c .before .before .before .before .before .before .before .before .before .before .if1 .left) _ (c .before .before .before .before .before .before .before .run-fault .ensures .0)
-          ∙ then-go _ (c .before .enum-told2 .given .1),
-      w .serves,
-      c .before .before .before .before .before .before .before .run-fault .ensures .1,
+    let a = c .before .before .before .before .before .before .before .before .before .before .before .before .before .before .before .before .before .before .before .before .before .before .args in
+    let w = c .before .before .before .before .before .before .before .before .before .before .before .before .before .before .next-run .ensures .1 in (
+      c .before .before .before .before .before .before .before .before .before .before .before .before .before .before .before .before .loop .inv .0
+          ∙ run-judged (now (a .table)) (a .glyphs) (a .kind) (a .at) (a .base) (c .before .before .before .before .before .before .before .before .before .before .before .before .before .before .before .before .loop .glyph) _ w (c .before .before .before .before .before .before .before .before .before .before .before .before .before .before .before .before .before .before .before .before .before .before .pre .0 .1 .1 .0) (c .before .before .before .before .before .before .before .before .before .before .before .before .if1 .left) _ (c .before .before .before .before .before .before .before .before .before .run-fault .ensures .0)
+          ∙ then-go _ (c .before .before .before .enum-told2 .given .1)
+          ∙ c .before .pass-told .ensures .1 .1,
+      c .before .pass-told .ensures .1 .0,
+      c .before .before .before .before .before .before .before .before .before .run-fault .ensures .1,
       search needs,
       search needs,
     )
@@ -120,6 +126,7 @@ glyphs-fault-spec =
     same-length-4
     returns-2
     enum-told-2
+    pass-told-requires
     loop-less
     loop-again
     same-length-5
