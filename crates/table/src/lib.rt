@@ -186,6 +186,10 @@ pub fn table_fault(table: &[u8], count: u32) -> Fault
         let mut judged = [0u8; 4096];
         return fault_by(table, count, &mut judged);
     }
+    if table.len() <= 8192 {
+        let mut judged = [0u8; 8192];
+        return fault_by(table, count, &mut judged);
+    }
     let mut judged = [0u8; 32768];
     fault_by(table, count, &mut judged)
 }

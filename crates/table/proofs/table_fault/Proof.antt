@@ -26,10 +26,19 @@ slice-aggregate-fault-by-3 : tie.Need-slice-aggregate-fault-by-3
 slice-aggregate-fault-by-3 c = search needs
 
 fault-by-requires-3 : tie.Need-fault-by-requires-3
-fault-by-requires-3 c κs = none-judged _ _ 32768
+fault-by-requires-3 c κs = none-judged _ _ 8192
 
 returns-3 : tie.Need-returns-3
 returns-3 c = search needs
+
+slice-aggregate-fault-by-4 : tie.Need-slice-aggregate-fault-by-4
+slice-aggregate-fault-by-4 c = search needs
+
+fault-by-requires-4 : tie.Need-fault-by-requires-4
+fault-by-requires-4 c κs = none-judged _ _ 32768
+
+returns-4 : tie.Need-returns-4
+returns-4 c = search needs
 
 pub table-fault-spec : {M : Type 1} → statement M
 table-fault-spec =
@@ -43,4 +52,7 @@ table-fault-spec =
     returns-2
     slice-aggregate-fault-by-3
     fault-by-requires-3
-    returns-3)
+    returns-3
+    slice-aggregate-fault-by-4
+    fault-by-requires-4
+    returns-4)
