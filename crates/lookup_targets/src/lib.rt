@@ -345,6 +345,10 @@ fn run_fault(
     ensures { λ r. ⌜ (r ≡ each (placeFault (now (table .entry)) glyphs kind base) (λ p. p + 2) (cond (run .array) (min (run .until) glyphs - run .from) 1) (run .place)) × (Judged (now (table .entry)) glyphs (now (judged .exit)) × Ahead (now (table .entry)) glyphs kind base (now (ahead .exit))) ⌝ }
 {
     if !run.array {
+        // In format 2 what the notes tell of was passed, after a lookup's first run.
+        if format == 2 {
+            return judge_value(table, glyphs, kind, base, run.place, judged);
+        }
         return value_fault(table, glyphs, kind, base, run.place, judged);
     }
     let count = value_count(glyphs, run.from, run.until);
