@@ -1,10 +1,12 @@
 -- One step of the loops over a row's cells and over the rows, and what is known of what is clear.
 use Prim.Native.Nat.{ℕ, zero, suc, _+_, _-_, _*_, _/_, _%_, _≤_, _<_, _^_, max}
-use mathlib.Core.Path.{_≡_, refl, _∙_, ap, ap₂}
+use mathlib.Core.Path.{_≡_, refl, sym, _∙_, ap, ap₂}
 use mathlib.Core.List.{List}
 use native.Mathlib.Omega.{arith}
 use native.Mathlib.Nat.{mul-le-mul}
-use lib.ListN.{length, getD}
+use native.Mathlib.Decide.{ℕ-discrete}
+use lib.ListN.{length, getD, set, replicate, getD-replicate}
+use lib.Seq.{getD-set-other}
 use borrow.Author.Tests.{leb-true, le-leb, lt-leb, lt-ltb, le-ltb, eq-eqb}
 use Rattle.fields.specs.declared.Refusal.{Refusal}
 use Rattle.fields.specs.declared.Refusal.the-variants.{BadMachine}
@@ -16,7 +18,7 @@ use Rattle.fields.specs.Laws.{then-first, then-second, then-go, clear-inside, i
 use Rattle.fields.specs.Walk.{walk, walk-stop, walk-next, walk-none}
 use Rattle.machine.specs.declared.Scan.the-variants.{Broken, Count}
 use Rattle.machine.specs.Cells.{classCount, classTable, classAt, entryAt, numberAt, cellAt}
-use Rattle.machine.specs.Rows.{cellPlace, entryPlace, entryFault, cellFault, cellsFault, rowFault, raised, raisedBy, faultFrom, countFrom, unless, faultOf, countOf}
+use Rattle.machine.specs.Rows.{cellPlace, entryPlace, entryFault, cellFault, cellsFault, rowFault, raised, raisedBy, faultFrom, countFrom, unless, faultOf, countOf, Met}
 use Rattle.machine.specs.Machine.{classFault, classesFault}
 
 -- ---- a fault, or else a number
@@ -35,7 +37,7 @@ unless-fault Clear k = refl
 unless-fault (Bad r p) k = refl
 
 -- what a number, or a fault, says of the fault before it
-unless-count : (f : Fault) (k : ℕ) {j : ℕ} → unless f k ≡ Count j → (f ≡ Clear) × (k ≡ j)
+pub unless-count : (f : Fault) (k : ℕ) {j : ℕ} → unless f k ≡ Count j → (f ≡ Clear) × (k ≡ j)
 unfolding unless
 unless-count Clear k e = (refl, cc)
 unless-count (Bad r p) k e = let z : _≡_ {A = ℕ} 0 1 = cc in absurd (omega arith)
@@ -56,13 +58,13 @@ cell-few t here row class e = leb-true _ _ (rule-holds _ BadMachine _ (then-firs
 
 module _ (t : List ℕ) (here row : ℕ) where
   -- `k` is the row count as the code has it
-  raised-next : (n class s k : ℕ) → 0 < n → k ≡ max s (cellAt t here row class .row + 1)
+  pub raised-next : (n class s k : ℕ) → 0 < n → k ≡ max s (cellAt t here row class .row + 1)
       → raised t here row n class s ≡ raised t here row (n - 1) (class + 1) k
   unfolding raised
   raised-next zero class s k h q = absurd (omega arith)
   raised-next (suc n) class s k h q = simp (down n, q)
 
-  raised-none : (n class s : ℕ) → n ≤ 0 → raised t here row n class s ≡ s
+  pub raised-none : (n class s : ℕ) → n ≤ 0 → raised t here row n class s ≡ s
   unfolding raised
   raised-none zero class s h = refl
   raised-none (suc n) class s h = absurd (omega arith)
@@ -80,6 +82,11 @@ module _ (t : List ℕ) (here row : ℕ) where
 
   pub cells-none : (n class s : ℕ) → n ≤ 0 → unless (cellsFault t here row n class) (raised t here row n class s) ≡ Count s
   cells-none n class s h = unless-clear _ (walk-none _ _ _ n class 0 h) ∙ ap Count (raised-none n class s h)
+
+  raised-more : (n class s : ℕ) → s ≤ raised t here row n class s
+  unfolding raised
+  raised-more zero class s = omega arith
+  raised-more (suc n) class s = omega (arith, raised-more n (class + 1) (max s (cellAt t here row class .row + 1)))
 
   pub raised-within : (n class s : ℕ) → s ≤ 256 → cellsFault t here row n class ≡ Clear → raised t here row n class s ≤ 256
   unfolding raised walk
@@ -115,6 +122,52 @@ module _ (t : List ℕ) (here : ℕ) where
   rows-within row s j h e =
       let u = unless-count (rowFault t here row) (raisedBy t here row s) e in
       omega (arith, u .1, raised-within t here row (classCount t here) 0 s h (u .0))
+
+-- ---- entries that were met
+
+-- at first none
+pub met-none : (t : List ℕ) (here s : ℕ) → Met t here s (replicate 256 0)
+met-none t here s =
+    record {
+      clear = λ i h o. absurd (omega (arith, getD-replicate {A = ℕ} 256 i 0 0 h));
+      below = λ i h o. absurd (omega (arith, getD-replicate {A = ℕ} 256 i 0 0 h));
+    }
+
+-- the row count only grows
+pub met-more : {t : List ℕ} {here s : ℕ} {met : List ℕ} (k : ℕ) → s ≤ k → Met t here s met → Met t here k met
+met-more k l m = record { clear = m .clear; below = λ i h o. omega (arith, m .below i h o) }
+
+-- what is met up to a cell leads below what the cells from it on raise the row count to
+pub met-next : (t : List ℕ) (here row n class s : ℕ) {met : List ℕ} → 0 < n → Met t here (max s (cellAt t here row class .row + 1)) met
+    → Met t here (raised t here row n class s) met
+met-next t here row n class s h =
+    met-more (raised t here row n class s)
+    (omega (arith, raised-next t here row n class s (max s (cellAt t here row class .row + 1)) h refl, raised-more t here row (n - 1) (class + 1) (max s (cellAt t here row class .row + 1))))
+
+-- the entry of a cell is met, or comes to be
+module _ (t : List ℕ) (here row class number s : ℕ) (met : List ℕ) (q : number ≡ numberAt t here row class) (few : number < 256) (m : Met t here s met) where
+  -- a cell whose entry was met has no fault, and leaves the row count as it is
+  pub met-cell : cellPlace t here row class < length t → 0 < getD met number 0
+      → (cellFault t here row class ≡ Clear) × (s ≡ max s (cellAt t here row class .row + 1))
+  unfolding cellFault cellAt
+  met-cell h told = (
+    then-go _ (clear-inside t (cellPlace t here row class) 1 (omega arith)) ∙ sym (ap (entryFault t here) q) ∙ m .clear number few told,
+    rw (sym q) (omega (arith, m .below number few told)),
+  )
+
+  -- that of a cell without fault comes to be
+  pub met-entry : cellFault t here row class ≡ Clear → Met t here (max s (cellAt t here row class .row + 1)) (set met number 1)
+  unfolding cellFault cellAt
+  met-entry e = record { clear = λ i l h. clear i l h (ℕ-discrete i number); below = λ i l h. below i l h (ℕ-discrete i number) }
+    where
+      clear : (i : ℕ) → i < 256 → 0 < getD (set met number 1) i 0 → Dec (i ≡ number) → entryFault t here i ≡ Clear
+      clear i l h (yes o) = ap (entryFault t here) (o ∙ q) ∙ then-second _ _ e
+      clear i l h (no n) = m .clear i l (rw (getD-set-other met number i 1 0 n) at h)
+
+      below : (i : ℕ) → i < 256 → 0 < getD (set met number 1) i 0 → Dec (i ≡ number)
+          → entryAt t here i .row < max s (entryAt t here (numberAt t here row class) .row + 1)
+      below i l h (yes o) = rw (o ∙ q) (omega arith)
+      below i l h (no n) = omega (arith, m .below i l (rw (getD-set-other met number i 1 0 n) at h))
 
 -- ---- class bytes, and places
 

@@ -2,6 +2,8 @@
 use Prim.Native.Nat.{ℕ, zero, suc, _+_, _-_, _*_, _%_, _≤_, _<_, max}
 use mathlib.Core.Bool.{cond}
 use mathlib.Core.List.{List}
+use mathlib.Core.Path.{_≡_}
+use lib.ListN.{getD}
 use lib.Dec.{leb, ltb, eqb}
 use Rattle.fields.specs.declared.Refusal.the-variants.{BadMachine}
 use Rattle.fields.specs.declared.Fault.{Fault}
@@ -102,3 +104,10 @@ rowsOf t here = unless (rowsFault t here) (countFrom t here 256 0 2)
 -- the row count; 0 where the rows are at fault
 unfoldable pub rowCount : List ℕ → ℕ → ℕ
 rowCount t here = countOf (rowsOf t here)
+
+-- ---- entries that were met
+
+-- a byte for each number that a cell may store: where it is not 0, the entry has no fault and leads below the row count s
+pub record Met (t : List ℕ) (here s : ℕ) (met : List ℕ) : Type 0 where
+  pub clear : (number : ℕ) → number < 256 → 0 < getD met number 0 → entryFault t here number ≡ Clear
+  pub below : (number : ℕ) → number < 256 → 0 < getD met number 0 → entryAt t here number .row < s

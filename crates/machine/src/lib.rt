@@ -4,11 +4,11 @@
 ghost use mathlib.Core.Path.{_≡_};
 ghost use mathlib.Core.Bool.{true};
 ghost use Rattle.fields.specs.declared.Fault.the-variants.{Clear};
-ghost use Prim.Native.Nat.{ℕ, _+_, _<_, _^_};
+ghost use Prim.Native.Nat.{ℕ, _+_, _<_, _^_, max};
 ghost use Rattle.machine.specs.declared.Scan.the-variants.{Count};
 ghost use Rattle.machine.specs.Cells.{classCount, classTable, arrayOffset, stateArray, entryTable, classAt, entryAt, cellAt};
 ghost use Rattle.machine.specs.Classes.{Near, ClassesAt};
-ghost use Rattle.machine.specs.Rows.{cellPlace, entryPlace, entryFault, cellFault, rowFault, raisedBy, unless, faultOf, countOf, rowsOf, rowCount};
+ghost use Rattle.machine.specs.Rows.{cellPlace, entryPlace, entryFault, cellFault, rowFault, raisedBy, unless, faultOf, countOf, rowsOf, rowCount, Met};
 ghost use Rattle.machine.specs.Machine.{headFault, classFault, classesFault, covered, classTableFault, machineFault};
 use fields::Fault;
 use fields::Refusal;
@@ -307,10 +307,40 @@ fn clear_row(table: &[u8], classes: usize, array: usize, entries: usize, at: usi
     past / classes
 }
 
+// The row count `s` as far as the cell whose byte stands at `at` raises it, where the cell is seen to be without fault; else 0. What
+// entries were seen to be so is kept in `met`: they are not judged again, and the row count is above the rows that they lead to.
+fn clear_cell(
+    table: &[u8],
+    classes: usize,
+    array: usize,
+    entries: usize,
+    at: usize,
+    s: usize,
+    met: &mut [u8],
+) -> usize
+    requires { ⌜ (0 < classes) × ((array < 2 ^ 16) × (entries < 2 ^ 34)) ⌝ }
+    ensures { λ r. ⌜ ((here row class : ℕ) → classes ≡ classCount (now (table .entry)) here → array ≡ arrayOffset (now (table .entry)) here → entries ≡ entryTable (now (table .entry)) here → at ≡ cellPlace (now (table .entry)) here row class → Met (now (table .entry)) here s (now (met .entry)) → (0 < r → (cellFault (now (table .entry)) here row class ≡ Clear) × (r ≡ max s (cellAt (now (table .entry)) here row class .row + 1))) × Met (now (table .entry)) here (max s (cellAt (now (table .entry)) here row class .row + 1)) (now (met .exit))) ⌝ }
+{
+    if table.len() <= at {
+        return 0;
+    }
+    let number = fields::u8_at(table, at);
+    if 0 < fields::u8_at(met, number) {
+        return s;
+    }
+    let next = clear_row(table, classes, array, entries, at);
+    if 255 < next {
+        return 0;
+    }
+    fields::put_u8(met, number, 1);
+    fields::larger(s, next + 1)
+}
+
 // The row count `s` as far as a row raises it, where the row is seen to be without fault; else 0.
-fn clear_count(table: &[u8], here: usize, row: usize, s: usize) -> usize
+fn clear_count(table: &[u8], here: usize, row: usize, s: usize, met: &mut [u8]) -> usize
     requires { ⌜ (here < 2 ^ 32) × (row < 2 ^ 16) ⌝ }
-    ensures { λ r. ⌜ (0 < r → Count r ≡ unless (rowFault (now (table .entry)) here row) (raisedBy (now (table .entry)) here row s)) ⌝ }
+    requires { ⌜ Met (now table) here s (now met) ⌝ }
+    ensures { λ r. ⌜ (0 < r → Count r ≡ unless (rowFault (now (table .entry)) here row) (raisedBy (now (table .entry)) here row s)) × Met (now (table .entry)) here (raisedBy (now (table .entry)) here row s) (now (met .exit)) ⌝ }
 {
     let classes = class_count(table, here);
     let array = array_offset(table, here);
@@ -320,11 +350,11 @@ fn clear_count(table: &[u8], here: usize, row: usize, s: usize) -> usize
     let mut left = classes;
     let mut rows = s;
     while 0 < left {
-        let next = clear_row(table, classes, array, entries, first + class);
-        if 255 < next {
+        let count = clear_cell(table, classes, array, entries, first + class, rows, met);
+        if count == 0 {
             return 0;
         }
-        rows = fields::larger(rows, next + 1);
+        rows = count;
         class += 1;
         left -= 1;
     }
@@ -332,11 +362,12 @@ fn clear_count(table: &[u8], here: usize, row: usize, s: usize) -> usize
 }
 
 // The first fault of a row, or the row count: most rows have none, and a chain of fields is slower.
-fn row_scan(table: &[u8], here: usize, row: usize, s: usize) -> Scan
+fn row_scan(table: &[u8], here: usize, row: usize, s: usize, met: &mut [u8]) -> Scan
     requires { ⌜ (here < 2 ^ 32) × (row < 2 ^ 16) ⌝ }
-    ensures { λ r. ⌜ r ≡ unless (rowFault (now (table .entry)) here row) (raisedBy (now (table .entry)) here row s) ⌝ }
+    requires { ⌜ Met (now table) here s (now met) ⌝ }
+    ensures { λ r. ⌜ (r ≡ unless (rowFault (now (table .entry)) here row) (raisedBy (now (table .entry)) here row s)) × Met (now (table .entry)) here (raisedBy (now (table .entry)) here row s) (now (met .exit)) ⌝ }
 {
-    let count = clear_count(table, here, row, s);
+    let count = clear_count(table, here, row, s, met);
     if 0 < count {
         return Scan::Count(count);
     }
@@ -361,15 +392,16 @@ fn count_of(scan: Scan) -> usize
     }
 }
 
-// The first fault of the rows, or the row count.
-fn rows_of(table: &[u8], here: usize) -> Scan
+// The first fault of the rows, or the row count, with room for what entries were met.
+fn rows_from(table: &[u8], here: usize, met: &mut [u8]) -> Scan
     requires { ⌜ here < 2 ^ 32 ⌝ }
+    requires { ⌜ Met (now table) here 2 (now met) ⌝ }
     ensures { λ r. ⌜ r ≡ rowsOf (now (table .entry)) here ⌝ }
 {
     let mut row: usize = 0;
     let mut s: usize = 2;
     while row < s {
-        let scan = row_scan(table, here, row, s);
+        let scan = row_scan(table, here, row, s, met);
         if let Scan::Broken(_) = scan {
             return scan;
         }
@@ -377,6 +409,15 @@ fn rows_of(table: &[u8], here: usize) -> Scan
         row += 1;
     }
     Scan::Count(s)
+}
+
+// The first fault of the rows, or the row count.
+fn rows_of(table: &[u8], here: usize) -> Scan
+    requires { ⌜ here < 2 ^ 32 ⌝ }
+    ensures { λ r. ⌜ r ≡ rowsOf (now (table .entry)) here ⌝ }
+{
+    let mut met = [0u8; 256];
+    rows_from(table, here, &mut met)
 }
 
 // The first fault of the machine, for a font of `glyphs` glyphs.
