@@ -428,6 +428,69 @@ fn settle_in<'a, 'b>(
     }
 }
 
+// The same, with that room. Most lines are short, and less room is sooner cleared.
+fn settle_clear<'a, 'b>(
+    table: &'a [u8],
+    count: u32,
+    shape: LineShape,
+    sizes: &'a [u32],
+    glyphs: &'a [u16],
+    advances: &'a [i32],
+    room: usize,
+    classes: &'b mut [u8],
+    before: &'b mut [i32],
+    after: &'b mut [i32],
+) -> Settled
+    requires { ⌜ (tableFault (now table) count ≡ Clear) × (length (now glyphs) ≤ 1024) × (length (now sizes) ≡ length (now glyphs)) ⌝ }
+    requires { ⌜ LineRoom (length (now glyphs)) (now classes) (now before) (now after) × SmallSizes (now sizes) ⌝ }
+    ensures { λ r. ⌜
+        SettledIn (sideOf (shape .direction) (meaningOf (now (table .entry)) count)) count
+        (lineBy shape (now (sizes .entry)) (now (glyphs .entry)) (now (advances .entry))) room
+        (now (classes .entry)) (now (before .entry)) (now (after .entry))
+        r (now (classes .exit)) (now (before .exit)) (now (after .exit))
+        ⌝ }
+{
+    let n = glyphs.len();
+    if n <= 128 {
+        let mut held = [0u8; 128];
+        let mut befores = [0i32; 128];
+        let mut afters = [0i32; 128];
+        return settle_in(
+            table,
+            count,
+            shape,
+            sizes,
+            glyphs,
+            advances,
+            room,
+            &mut held[..n],
+            &mut befores[..n],
+            &mut afters[..n],
+            classes,
+            before,
+            after,
+        );
+    }
+    let mut held = [0u8; 1024];
+    let mut befores = [0i32; 1024];
+    let mut afters = [0i32; 1024];
+    settle_in(
+        table,
+        count,
+        shape,
+        sizes,
+        glyphs,
+        advances,
+        room,
+        &mut held[..n],
+        &mut befores[..n],
+        &mut afters[..n],
+        classes,
+        before,
+        after,
+    )
+}
+
 // All of a line's call but the storing of its verdicts, for which there is `room`.
 pub fn settle<'a, 'b>(
     table: &'a [u8],
@@ -449,7 +512,6 @@ pub fn settle<'a, 'b>(
         (lentBy (now (classes .entry)) (now (before .entry)) (now (after .entry)) verdicts)))
         ⌝ }
 {
-    let n = glyphs.len();
     let fault = input_fault(
         table,
         count,
@@ -467,10 +529,7 @@ pub fn settle<'a, 'b>(
             stored: 0,
         };
     }
-    let mut held = [0u8; 1024];
-    let mut befores = [0i32; 1024];
-    let mut afters = [0i32; 1024];
-    settle_in(
+    settle_clear(
         table,
         count,
         shape,
@@ -478,9 +537,6 @@ pub fn settle<'a, 'b>(
         glyphs,
         advances,
         room,
-        &mut held[..n],
-        &mut befores[..n],
-        &mut afters[..n],
         classes,
         before,
         after,
