@@ -9,8 +9,8 @@ use native.Mathlib.Decide.{ℕ-discrete}
 use native.Mathlib.Nat.{add-assoc}
 use native.Mathlib.Numerals.{add-one}
 use lib.IntN.{ℤ, pos, _+ℤ_}
-use lib.ListN.{length, getD, drop, take, length-append, length-drop}
-use lib.Seq.{drop-cons, getD-drop, take-length}
+use lib.ListN.{length, getD, drop, length-append}
+use lib.Seq.{drop-cons}
 use borrow.Author.Tests.{eq-eqb, ne-eqb}
 use Rattle.fields.specs.declared.Fault.the-variants.{Clear}
 use Rattle.fields.specs.Field.{u16At, u32At}
@@ -31,6 +31,7 @@ use Rattle.lookup_targets.specs.Values.{listHere}
 use Rattle.verdict.specs.declared.Fires.{Fires}
 use Rattle.verdict.specs.declared.Fires.the-variants.{No, Plain, Substitutes}
 use Rattle.verdict.specs.Verdict.{breaks, substitutes, typeFires, firesOf}
+use Rattle.verdict.proofs.Laws.{u32-dropped}
 use Rattle.table.specs.Table.{tableFault}
 use Rattle.table.specs.Means.{meaningOf}
 use Rattle.table.proofs.Laws.{short}
@@ -410,10 +411,6 @@ module _ (s : Side) (l : Moved) (glyphs : List ℕ) where
 
 -- ---- an action's limits where they stand
 
-u32-dropped : (t : List ℕ) (n k : ℕ) → u32At (drop n t) k ≡ u32At t (n + k)
-unfolding u32At u16At
-u32-dropped t n k = simp (getD-drop, add-assoc)
-
 byte-copied : (t : List ℕ) (first n i : ℕ) → i < n → getD (bytesAt t first n) i 0 ≡ getD t (first + i) 0
 unfolding bytesAt
 byte-copied t first n i h = getD-from (λ (j : ℕ). getD t j 0) n first i 0 h
@@ -461,15 +458,10 @@ module _ (t : List ℕ) (at class : ℕ) (g : ℤ) (s : ℕ) where
   unfolding firesOf actionAt
   other-class e = sym (ap (λ (b : Bool). cond b (typeFires (u16At t (at + 2)) (contentAt t at (u16At t (at + 2))) g s) No) (ne-eqb (u16At t at) class e))
 
-  pub own-class : {r : Fires} {ty : ℕ} {content : List ℕ} → r ≡ typeFires ty content g s → u16At t at ≡ class → ty ≡ u16At t (at + 2) → content ≡ drop (at + 8) t
-      → r ≡ firesOf (actionAt t at) class g s
+  pub own-class : {r : Fires} {ty : ℕ} → r ≡ typeFires ty (drop (at + 8) t) g s → u16At t at ≡ class → ty ≡ u16At t (at + 2) → r ≡ firesOf (actionAt t at) class g s
   unfolding firesOf actionAt
-  own-class {r} {ty} {content} f e k q =
+  own-class {r} {ty} f e k =
       f
-      ∙ ap₂ (λ (x : ℕ) (y : List ℕ). typeFires x y g s) k q
+      ∙ ap (λ (x : ℕ). typeFires x (drop (at + 8) t) g s) k
       ∙ ty-where t at g s (u16At t (at + 2))
       ∙ sym (ap (λ (b : Bool). cond b (typeFires (u16At t (at + 2)) (contentAt t at (u16At t (at + 2))) g s) No) (eq-eqb (u16At t at) class e))
-
--- what stands from a position to the end
-pub rest-whole : (t : List ℕ) (n : ℕ) → take (length t - n) (drop n t) ≡ drop n t
-rest-whole t n = ap (λ (k : ℕ). take k (drop n t)) (sym (length-drop n t)) ∙ take-length (drop n t)

@@ -50,7 +50,7 @@ fn fires_here(table: &[u8], at: usize, class: u8, growth: Units, size: u32) -> F
         return Fires::No;
     }
     let ty = fields::u16_in(table, at + 2) as u16;
-    verdict::type_fires(ty, &table[at + 8..], growth, size)
+    verdict::type_fires(table, at + 8, ty, growth, size)
 }
 
 // What a glyph grows by: its two movements.

@@ -2,17 +2,20 @@
 use Prim.Native.Nat.{ℕ, zero, suc, _+_, _-_, _*_, _^_, _≤_, _<_}
 use mathlib.Core.Bool.{Bool, true, false, cond, not, _||_}
 use mathlib.Core.Path.{_≡_, refl, sym, ap, ap₂, _∙_, subst}
-use native.Mathlib.Nat.{mul-le-mul, div-le-self}
+use native.Mathlib.Nat.{mul-le-mul, div-le-self, add-assoc, add-zero}
 use native.Mathlib.Omega.{arith}
 use mathlib.Core.List.{List}
 use mathlib.Core.Logic.{_⊎_, inl, inr, ⊎-elim}
 use lib.Dec.{ltb, eqb}
 use lib.IntN.{ℤ, pos, negsuc, negℤ, natAbs, negℤ-negℤ, _-ℤ_, _*ℤ_, +ℤ-idl}
+use lib.ListN.{drop}
+use lib.Seq.{getD-drop}
 use lib.Signed.{ltZ, leZ, shrZ}
 use mir.Syntax.{w64}
 use mir.Val.{SFits, toZ, ofZ}
 use mir.ValLaws.{toZ-ofZ}
 use borrow.Author.Tests.{ltb-true, ltb-false, eq-eqb, ne-eqb}
+use Rattle.fields.specs.Field.{u16At, u32At}
 use Rattle.units.specs.Fixed.{fixedOf, farOut, factorOf}
 use Rattle.units.proofs.Rounding.{turned, above-factor, below-factor, not-below, fixed-near, negative-near}
 use Rattle.verdict.specs.Verdict.{below, above, reaches, lower, upper, threshold, grows, breaks, adds, substitutes, stretches, typeFires}
@@ -165,6 +168,14 @@ module _ (content : List ℕ) (g : ℤ) (s : ℕ) where
   pub breaks-is : (a b : Bool) → below g (lower content) s ≡ a → above g (upper content) s ≡ b → cond (a || b) Plain No ≡ breaks content g s
   unfolding breaks
   breaks-is a b e f = sym (ap₂ (λ (x y : Bool). cond (x || y) Plain No) e f)
+
+-- data that begins at a position of the table, read where it stands
+pub u32-dropped : (t : List ℕ) (n k : ℕ) → u32At (drop n t) k ≡ u32At t (n + k)
+unfolding u32At u16At
+u32-dropped t n k = simp (getD-drop, add-assoc)
+
+pub first-limit : (t : List ℕ) (n : ℕ) → u32At t n ≡ u32At (drop n t) 0
+first-limit t n = sym (u32-dropped t n 0 ∙ ap (u32At t) (add-zero n))
 
 -- a test that was made with bits that were read
 module _ (test : ℤ → ℤ → ℕ → Bool) (g : ℤ) (s : ℕ) where

@@ -2,6 +2,8 @@
 use units::Ems;
 use units::Units;
 ghost use mathlib.Core.Path.{_≡_};
+ghost use Prim.Native.Nat.{_≤_};
+ghost use lib.ListN.{length, drop};
 ghost use Rattle.fields.specs.Field.{u32At};
 ghost use Rattle.units.specs.Fixed.{fixedOf};
 ghost use Rattle.verdict.specs.Verdict.{below, above, breaks, adds, substitutes, stretches, typeFires};
@@ -31,21 +33,22 @@ fn is_above(growth: Units, bits: u32, size: u32) -> bool
     most.0 < growth.0
 }
 
-// The Fixed number in an action's data, as its bits.
-fn limit_at(content: &[u8], at: usize) -> u32
-    ensures { λ r. ⌜ r ≡ u32At (now (content .entry)) at ⌝ }
+// The Fixed number at a position of the table, as its bits.
+fn limit_at(table: &[u8], at: usize) -> u32
+    ensures { λ r. ⌜ r ≡ u32At (now (table .entry)) at ⌝ }
 {
-    fields::u32_at(content, at) as u32
+    fields::u32_at(table, at) as u32
 }
 
-// Type 0: outside its two limits, of which the lower stands first.
-fn breaks_at(content: &[u8], growth: Units, size: u32) -> Fires
-    ensures { λ r. ⌜ r ≡ breaks (now (content .entry)) (growth .0) size ⌝ }
+// Type 0, its data at `at`: outside its two limits, of which the lower stands first.
+fn breaks_at(table: &[u8], at: usize, growth: Units, size: u32) -> Fires
+    requires { ⌜ at ≤ length (now table) ⌝ }
+    ensures { λ r. ⌜ r ≡ breaks (drop at (now (table .entry))) (growth .0) size ⌝ }
 {
-    if is_below(growth, limit_at(content, 0), size) {
+    if is_below(growth, limit_at(table, at), size) {
         return Fires::Plain;
     }
-    if is_above(growth, limit_at(content, 4), size) {
+    if is_above(growth, limit_at(table, at + 4), size) {
         return Fires::Plain;
     }
     Fires::No
@@ -62,14 +65,14 @@ fn adds_at(growth: Units) -> Fires
     }
 }
 
-// Type 2: its threshold stands first.
-fn substitutes_at(content: &[u8], growth: Units, size: u32) -> Fires
-    ensures { λ r. ⌜ r ≡ substitutes (now (content .entry)) (growth .0) size ⌝ }
+// Type 2, its data at `at`: its threshold stands first.
+fn substitutes_at(table: &[u8], at: usize, growth: Units, size: u32) -> Fires
+    ensures { λ r. ⌜ r ≡ substitutes (drop at (now (table .entry))) (growth .0) size ⌝ }
 {
     if growth.0 <= 0 {
         return Fires::No;
     }
-    if is_below(growth, limit_at(content, 0), size) {
+    if is_below(growth, limit_at(table, at), size) {
         return Fires::Plain;
     }
     Fires::Substitutes
@@ -86,14 +89,15 @@ fn stretches_at(growth: Units) -> Fires
     }
 }
 
-// Whether an action of this type and data fires for a glyph of its class.
-pub fn type_fires(ty: u16, content: &[u8], growth: Units, size: u32) -> Fires
-    ensures { λ r. ⌜ r ≡ typeFires ty (now (content .entry)) (growth .0) size ⌝ }
+// Whether an action of this type, its data at `at`, fires for a glyph of its class.
+pub fn type_fires(table: &[u8], at: usize, ty: u16, growth: Units, size: u32) -> Fires
+    requires { ⌜ at ≤ length (now table) ⌝ }
+    ensures { λ r. ⌜ r ≡ typeFires ty (drop at (now (table .entry))) (growth .0) size ⌝ }
 {
     match ty {
-        0 => breaks_at(content, growth, size),
+        0 => breaks_at(table, at, growth, size),
         1 | 5 => adds_at(growth),
-        2 => substitutes_at(content, growth, size),
+        2 => substitutes_at(table, at, growth, size),
         3 | 4 => stretches_at(growth),
         _ => Fires::No,
     }

@@ -1,7 +1,6 @@
 -- `line_verdicts::fires_here` meets its contract.
-use Prim.Native.Nat.{_+_}
 use mathlib.Core.Path.{sym, _∙_}
-use Rattle.line_verdicts.proofs.Laws.{other-class, own-class, rest-whole}
+use Rattle.line_verdicts.proofs.Laws.{other-class, own-class}
 use borrow.Author.Needs.{needs}
 use Rattle.line_verdicts.proofs.fires_here.Statement.{statement}
 use Rattle.line_verdicts.proofs.fires_here.Tie as tie
@@ -26,23 +25,13 @@ cast-ty c = search needs
 add-type-fires : tie.Need-add-type-fires
 add-type-fires c = search needs
 
-sub-type-fires : tie.Need-sub-type-fires
-sub-type-fires c = search needs
-
-part-type-fires-start : tie.Need-part-type-fires-start
-part-type-fires-start c = search needs
-
-part-type-fires-end : tie.Need-part-type-fires-end
-part-type-fires-end c = search needs
-
 type-fires-requires : tie.Need-type-fires-requires
 type-fires-requires c κs = search needs
 
 returns-2 : tie.Need-returns-2
 returns-2 c =
-    let a = c .before .before .before .before .before .before .args in
-    own-class (a .table .now) (a .at) (a .class) (a .growth .0) (a .size) (c .type-fires .ensures) (sym (c .before .before .before .before .u16-in .ensures .0) ∙ c .before .before .before .if1 .left) (c .before .before .u16-in2 .ensures .0)
-    (rest-whole (a .table .now) (a .at + 8))
+    let a = c .before .before .before .before .before .args in
+    own-class (a .table .now) (a .at) (a .class) (a .growth .0) (a .size) (c .type-fires .ensures) (sym (c .before .before .before .u16-in .ensures .0) ∙ c .before .before .if1 .left) (c .before .u16-in2 .ensures .0)
 
 pub fires-here-spec : {M : Type 1} → statement M
 fires-here-spec =
@@ -54,8 +43,5 @@ fires-here-spec =
     u16-in-requires-2
     cast-ty
     add-type-fires
-    sub-type-fires
-    part-type-fires-start
-    part-type-fires-end
     type-fires-requires
     returns-2)
