@@ -1,5 +1,5 @@
 -- What is left of a line's verdicts at a cursor, and how a step takes one of them; and of an accepted table, that the list of a glyph can be passed.
-use Prim.Native.Nat.{ℕ, zero, suc, _+_, _-_, _*_, _≤_, _<_}
+use Prim.Native.Nat.{ℕ, zero, suc, _+_, _-_, _*_, _/_, _≤_, _<_}
 use mathlib.Core.Path.{_≡_, refl, sym, ap, ap₂, _∙_, subst}
 use mathlib.Core.Bool.{Bool, true, false, cond}
 use mathlib.Core.Option.{none}
@@ -8,6 +8,7 @@ use native.Mathlib.Omega.{arith}
 use native.Mathlib.Decide.{ℕ-discrete}
 use native.Mathlib.Nat.{add-assoc}
 use native.Mathlib.Numerals.{add-one}
+use lib.Dec.{ltb}
 use lib.IntN.{ℤ, pos, _+ℤ_}
 use lib.ListN.{length, getD, drop, length-append}
 use lib.Seq.{drop-cons}
@@ -41,7 +42,7 @@ use Rattle.table_ask.proofs.Laws.{list-clear}
 use Rattle.line_rule.specs.Line.{recordIf, firings, verdictsFrom}
 use Rattle.line_verdicts.specs.declared.Cursor.{Cursor}
 use Rattle.line_verdicts.specs.declared.Step.{Step}
-use Rattle.line_verdicts.specs.Cursor.{Moved, sizeAt, classAt, growthAt, verdictsAt, listLeft, leftAt, startCursor, endCursor, handCursor, firesCount, given, stepOf, nothingAt, pastOf, judgedAt, Serves, Begins, InList, Here, InLine, Fits}
+use Rattle.line_verdicts.specs.Cursor.{Moved, sizeAt, classAt, growthAt, verdictsAt, listLeft, leftAt, startCursor, endCursor, handCursor, firesCount, firesNumber, given, stepOf, nothingAt, pastOf, judgedAt, Serves, Begins, InList, Here, InLine, Fits}
 
 -- ---- an accepted table
 
@@ -458,10 +459,31 @@ module _ (t : List ℕ) (at class : ℕ) (g : ℤ) (s : ℕ) where
   unfolding firesOf actionAt
   other-class e = sym (ap (λ (b : Bool). cond b (typeFires (u16At t (at + 2)) (contentAt t at (u16At t (at + 2))) g s) No) (ne-eqb (u16At t at) class e))
 
-  pub own-class : {r : Fires} {ty : ℕ} → r ≡ typeFires ty (drop (at + 8) t) g s → u16At t at ≡ class → ty ≡ u16At t (at + 2) → r ≡ firesOf (actionAt t at) class g s
+  pub own-class : u16At t at ≡ class → typeFires (u16At t (at + 2)) (drop (at + 8) t) g s ≡ firesOf (actionAt t at) class g s
   unfolding firesOf actionAt
-  own-class {r} {ty} f e k =
-      f
-      ∙ ap (λ (x : ℕ). typeFires x (drop (at + 8) t) g s) k
-      ∙ ty-where t at g s (u16At t (at + 2))
+  own-class e =
+      ty-where t at g s (u16At t (at + 2))
       ∙ sym (ap (λ (b : Bool). cond b (typeFires (u16At t (at + 2)) (contentAt t at (u16At t (at + 2))) g s) No) (eq-eqb (u16At t at) class e))
+
+-- ---- what an action does, as a number
+
+pub none-fires : (f : Fires) (n : ℕ) → n ≡ firesNumber f → n ≡ 0 → 0 ≡ firesCount f
+none-fires No n e z = refl
+none-fires Plain n e z = absurd (omega arith)
+none-fires Substitutes n e z = absurd (omega arith)
+
+pub one-fires : (f : Fires) (n : ℕ) → n ≡ firesNumber f → (n ≡ 0 → ⊥) → 1 ≡ firesCount f
+one-fires No n e h = absurd (h e)
+one-fires Plain n e h = refl
+one-fires Substitutes n e h = refl
+
+abbrev stepBy : ℕ → ℕ → ℕ → Cursor → Step
+stepBy place number n next = record { found = ltb 0 n; verdict = record { place = place; action = number; substitutes = n / 2 }; next = next }
+
+step-is : (f : Fires) (place number : ℕ) (next : Cursor) → stepBy place number (firesNumber f) next ≡ stepOf f place number next
+step-is No place number next = refl
+step-is Plain place number next = refl
+step-is Substitutes place number next = refl
+
+pub step-by : (f : Fires) (n place number : ℕ) (next : Cursor) → n ≡ firesNumber f → stepBy place number n next ≡ stepOf f place number next
+step-by f n place number next e = ap (λ (k : ℕ). stepBy place number k next) e ∙ step-is f place number next

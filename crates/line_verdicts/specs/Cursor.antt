@@ -73,6 +73,12 @@ firesCount No = 0
 firesCount Plain = 1
 firesCount Substitutes = 1
 
+-- the same, and one more where it substitutes
+abbrev pub firesNumber : Fires → ℕ
+firesNumber No = 0
+firesNumber Plain = 1
+firesNumber Substitutes = 2
+
 -- ---- a step
 
 -- the verdict that a step found, if any

@@ -4,17 +4,19 @@ ghost use mathlib.Core.Path.{_≡_};
 ghost use Prim.Native.Nat.{_+_, _≤_, _<_};
 ghost use mathlib.Core.List.{[]};
 ghost use lib.IntN.{pos, _+ℤ_};
-ghost use lib.ListN.{length, getD};
+ghost use lib.ListN.{length, getD, drop};
+ghost use Rattle.fields.specs.Field.{u16At};
 ghost use Rattle.fields.specs.declared.Fault.the-variants.{Clear};
 ghost use Rattle.meaning.specs.Ask.{sideOf};
 ghost use Rattle.actions.specs.Actions.{actionAt};
 ghost use Rattle.lookup_targets.specs.declared.Kind.the-variants.{Lists};
-ghost use Rattle.verdict.specs.Verdict.{firesOf};
+ghost use Rattle.verdict.specs.declared.Fires.{Fires};
+ghost use Rattle.verdict.specs.Verdict.{typeFires, firesOf};
 ghost use Rattle.table.specs.Table.{tableFault};
 ghost use Rattle.table.specs.Means.{meaningOf};
 ghost use Rattle.table_ask.specs.Places.{lookupIn, Readable};
 ghost use Rattle.line_rule.specs.Line.{firings, verdictsFrom};
-ghost use Rattle.line_verdicts.specs.Cursor.{moved, stepOf, nothingAt, judgedAt, firesCount, handCursor, listLeft, Serves, Begins, InList, Here, InLine, HasMoves};
+ghost use Rattle.line_verdicts.specs.Cursor.{moved, stepOf, nothingAt, judgedAt, firesCount, firesNumber, handCursor, listLeft, Serves, Begins, InList, Here, InLine, HasMoves};
 use actions::Spot;
 use line_rule::LineShape;
 use lookup_targets::Kind;
@@ -40,17 +42,29 @@ pub struct Step {
     pub next: Cursor,
 }
 
-// Whether the action at `at` fires for a glyph of a class, at its growth and its point size. Its limits are read where
-// they stand.
-fn fires_here(table: &[u8], at: usize, class: u8, growth: Units, size: u32) -> Fires
+// What the action at `at` does for a glyph of its class, at its growth and its point size, as a number, which is sooner
+// handed back than a variant: 0 where it does not fire, 1 where it fires, 2 where it substitutes.
+fn own_fires(table: &[u8], at: usize, growth: Units, size: u32) -> u16
     requires { ⌜ at + 8 ≤ length (now table) ⌝ }
-    ensures { λ r. ⌜ r ≡ firesOf (actionAt (now (table .entry)) at) class (growth .0) size ⌝ }
+    ensures { λ r. ⌜ r ≡ firesNumber (typeFires (u16At (now (table .entry)) (at + 2)) (drop (at + 8) (now (table .entry))) (growth .0) size) ⌝ }
+{
+    let ty = fields::u16_in(table, at + 2) as u16;
+    match verdict::type_fires(table, at + 8, ty, growth, size) {
+        Fires::No => 0,
+        Fires::Plain => 1,
+        Fires::Substitutes => 2,
+    }
+}
+
+// The same for a glyph of any class.
+fn fires_here(table: &[u8], at: usize, class: u8, growth: Units, size: u32) -> u16
+    requires { ⌜ at + 8 ≤ length (now table) ⌝ }
+    ensures { λ r. ⌜ r ≡ firesNumber (firesOf (actionAt (now (table .entry)) at) class (growth .0) size) ⌝ }
 {
     if fields::u16_in(table, at) != class as usize {
-        return Fires::No;
+        return 0;
     }
-    let ty = fields::u16_in(table, at + 2) as u16;
-    verdict::type_fires(table, at + 8, ty, growth, size)
+    own_fires(table, at, growth, size)
 }
 
 // What a glyph grows by: its two movements.
@@ -64,37 +78,18 @@ fn growth_at(before: &[i32], after: &[i32], place: usize) -> Units
 }
 
 // The step past an action that was judged.
-fn step_of(fires: Fires, place: u16, number: u16, next: Cursor) -> Step
-    ensures { λ r. ⌜ r ≡ stepOf fires place number next ⌝ }
+fn step_of(fires: u16, place: u16, number: u16, next: Cursor) -> Step
+    ensures { λ r. ⌜ ((f : Fires) → fires ≡ firesNumber f → r ≡ stepOf f place number next) ⌝ }
 {
-    match fires {
-        Fires::No => Step {
-            found: false,
-            verdict: Verdict {
-                place,
-                action: number,
-                substitutes: 0,
-            },
-            next,
-        },
-        Fires::Plain => Step {
-            found: true,
-            verdict: Verdict {
-                place,
-                action: number,
-                substitutes: 0,
-            },
-            next,
-        },
-        Fires::Substitutes => Step {
-            found: true,
-            verdict: Verdict {
-                place,
-                action: number,
-                substitutes: 1,
-            },
-            next,
-        },
+    let verdict = Verdict {
+        place,
+        action: number,
+        substitutes: fires / 2,
+    };
+    Step {
+        found: 0 < fires,
+        verdict,
+        next,
     }
 }
 
@@ -243,16 +238,19 @@ pub fn next_verdict<'a>(
     })
 }
 
-// 1 where the action at `at` fires for a glyph of a class, at its growth and its point size, else 0.
+// 1 where the action at `at` fires for a glyph of a class, at its growth and its point size, else 0. Most actions are of
+// another class, and that is seen without a call.
 fn fires_once(table: &[u8], at: usize, class: u8, growth: Units, size: u32) -> usize
     requires { ⌜ at + 8 ≤ length (now table) ⌝ }
     ensures { λ r. ⌜ (r ≡ firesCount (firesOf (actionAt (now (table .entry)) at) class (growth .0) size)) × (r ≤ 1) ⌝ }
 {
-    match fires_here(table, at, class, growth, size) {
-        Fires::No => 0,
-        Fires::Plain => 1,
-        Fires::Substitutes => 1,
+    if fields::u16_in(table, at) != class as usize {
+        return 0;
     }
+    if own_fires(table, at, growth, size) == 0 {
+        return 0;
+    }
+    1
 }
 
 // How many of `count` actions from `first` on fire for a glyph of a class, at its growth and its point size.

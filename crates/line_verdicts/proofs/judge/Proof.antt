@@ -1,10 +1,11 @@
 -- `line_verdicts::judge` meets its contract.
 use Rattle.line_verdicts.proofs.Laws.{hand-inside, hand-begun}
 use Rattle.line_verdicts.specs.Cursor.{stepOf, judgedAt}
-use Rattle.verdict.specs.declared.Fires.{Fires}
+use Rattle.actions.specs.Actions.{actionAt}
+use Rattle.verdict.specs.Verdict.{firesOf}
 use native.Mathlib.Omega.{arith}
 use Prim.Native.Nat.{ℕ, _+_, _-_}
-use mathlib.Core.Path.{ap₂, _∙_}
+use mathlib.Core.Path.{ap, _∙_}
 use borrow.Author.Needs.{needs}
 use Rattle.line_verdicts.proofs.judge.Statement.{statement}
 use Rattle.line_verdicts.proofs.judge.Tie as tie
@@ -43,8 +44,8 @@ step-of-requires c κs = search needs
 returns : tie.Need-returns
 unfolding judgedAt
 returns c = let a = c .before .before .before .before .args in
-    c .step-of .ensures
-    ∙ ap₂ (λ (f : Fires) (k : ℕ). stepOf f (a .cursor .next - 1) (a .cursor .number) (record { next = a .cursor .next; number = a .cursor .number + 1; left = a .cursor .left - 1; at = a .cursor .at + k })) (c .before .before .fires-here .ensures) (c .before .u32-in .ensures .0)
+    c .step-of .ensures (firesOf (actionAt (a .table .now) (a .cursor .at)) (a .class) (a .growth .0) (a .size)) (c .before .before .fires-here .ensures)
+    ∙ ap (λ (k : ℕ). stepOf (firesOf (actionAt (a .table .now) (a .cursor .at)) (a .class) (a .growth .0) (a .size)) (a .cursor .next - 1) (a .cursor .number) (record { next = a .cursor .next; number = a .cursor .number + 1; left = a .cursor .left - 1; at = a .cursor .at + k })) (c .before .u32-in .ensures .0)
 
 pub judge-spec : {M : Type 1} → statement M
 judge-spec =

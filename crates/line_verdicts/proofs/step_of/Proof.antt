@@ -1,28 +1,11 @@
 -- `line_verdicts::step_of` meets its contract.
-use Rattle.line_verdicts.specs.Cursor.{stepOf}
-use Rattle.verdict.specs.declared.Fires.{Fires}
-use mathlib.Core.Path.{sym, ap}
+use Rattle.line_verdicts.proofs.Laws.{step-by}
 use borrow.Author.Needs.{needs}
 use Rattle.line_verdicts.proofs.step_of.Statement.{statement}
 use Rattle.line_verdicts.proofs.step_of.Tie as tie
 
-enum-told : tie.Need-enum-told
-enum-told c = search needs
-
-enum-told-2 : tie.Need-enum-told-2
-enum-told-2 c = search needs
-
-enum-told-3 : tie.Need-enum-told-3
-enum-told-3 c = search needs
-
 returns : tie.Need-returns
-returns c = let a = c .before .before .args in sym (ap (λ (f : Fires). stepOf f (a .place) (a .number) (a .next)) (c .enum-told .given .1))
-
-returns-2 : tie.Need-returns-2
-returns-2 c = let a = c .before .before .args in sym (ap (λ (f : Fires). stepOf f (a .place) (a .number) (a .next)) (c .enum-told2 .given .1))
-
-returns-3 : tie.Need-returns-3
-returns-3 c = let a = c .before .before .args in sym (ap (λ (f : Fires). stepOf f (a .place) (a .number) (a .next)) (c .enum-told3 .given .1))
+returns c = let a = c .args in λ f e. step-by f (a .fires) (a .place) (a .number) (a .next) e
 
 pub step-of-spec : {M : Type 1} → statement M
-step-of-spec = tie.close (tie.spec enum-told enum-told-2 enum-told-3 returns returns-2 returns-3)
+step-of-spec = tie.close (tie.spec returns)
