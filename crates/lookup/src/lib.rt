@@ -1,7 +1,6 @@
 // A lookup from glyphs to 16-bit values, formats 0, 2, 4, 6 and 8 (document 01, "The table"): its first fault, and a pass
 // over glyphs upward that looks at each unit once. One glyph's value is found in crate `lookup_find`.
 ghost use mathlib.Core.Path.{_≡_};
-ghost use mathlib.Core.Bool.{true};
 ghost use Prim.Native.Nat.{ℕ, _+_, _*_, _≤_, _<_, _^_};
 ghost use lib.ListN.{length};
 ghost use Rattle.fields.specs.declared.Fault.the-variants.{Clear};
@@ -53,20 +52,23 @@ pub fn first_of(table: &[u8], format: usize, p: usize) -> usize
     fields::u16_in(table, p + 2)
 }
 
-// Whether a unit of formats 2 and 4 is seen to be without fault: most are, and a chain of fields is slower.
-fn range_is_clear(table: &[u8], p: usize, least: usize) -> bool
+// The glyph after the last of a unit of formats 2 and 4, where the unit is seen to be without fault; else 0.
+fn clear_range(table: &[u8], p: usize, least: usize) -> usize
     requires { ⌜ p < 2 ^ 40 ⌝ }
-    ensures { λ r. ⌜ (r ≡ true → rangeFault (now (table .entry)) p least ≡ Clear) ⌝ }
+    ensures { λ r. ⌜ (0 < r → (rangeFault (now (table .entry)) p least ≡ Clear) × (r ≡ u16At (now (table .entry)) p + 1)) ⌝ }
 {
     if table.len() < p + 6 {
-        return false;
+        return 0;
     }
     let last = fields::u16_at(table, p);
     let first = fields::u16_at(table, p + 2);
     if first < least {
-        return false;
+        return 0;
     }
-    first <= last
+    if last < first {
+        return 0;
+    }
+    last + 1
 }
 
 // A unit of formats 2 and 4, whose first glyph has to be `least` or more.
@@ -74,9 +76,6 @@ fn range_fault(table: &[u8], p: usize, least: usize) -> Fault
     requires { ⌜ p < 2 ^ 40 ⌝ }
     ensures { λ r. ⌜ r ≡ rangeFault (now (table .entry)) p least ⌝ }
 {
-    if range_is_clear(table, p, least) {
-        return Fault::Clear;
-    }
     let last = fields::u16_at(table, p);
     let first = fields::u16_at(table, p + 2);
     let last_in = fields::in_table(table, p, 2);
@@ -88,15 +87,19 @@ fn range_fault(table: &[u8], p: usize, least: usize) -> Fault
     fields::then(last_in, fields::then(first_in, judged))
 }
 
-// Whether a unit of format 6 is seen to be without fault.
-fn single_is_clear(table: &[u8], p: usize, least: usize) -> bool
+// The glyph after that of a unit of format 6, where the unit is seen to be without fault; else 0.
+fn clear_single(table: &[u8], p: usize, least: usize) -> usize
     requires { ⌜ p < 2 ^ 40 ⌝ }
-    ensures { λ r. ⌜ (r ≡ true → singleFault (now (table .entry)) p least ≡ Clear) ⌝ }
+    ensures { λ r. ⌜ (0 < r → (singleFault (now (table .entry)) p least ≡ Clear) × (r ≡ u16At (now (table .entry)) p + 1)) ⌝ }
 {
     if table.len() < p + 4 {
-        return false;
+        return 0;
     }
-    least <= fields::u16_at(table, p)
+    let glyph = fields::u16_at(table, p);
+    if glyph < least {
+        return 0;
+    }
+    glyph + 1
 }
 
 // A unit of format 6.
@@ -104,14 +107,22 @@ fn single_fault(table: &[u8], p: usize, least: usize) -> Fault
     requires { ⌜ p < 2 ^ 40 ⌝ }
     ensures { λ r. ⌜ r ≡ singleFault (now (table .entry)) p least ⌝ }
 {
-    if single_is_clear(table, p, least) {
-        return Fault::Clear;
-    }
     let glyph = fields::u16_at(table, p);
     let glyph_in = fields::in_table(table, p, 2);
     let rises = fields::ruled(least <= glyph, Refusal::BadLookup, p);
     let value_in = fields::in_table(table, p + 2, 2);
     fields::then(glyph_in, fields::then(rises, value_in))
+}
+
+// The glyph after the last of a unit, where the unit is seen to be without fault; else 0.
+fn clear_unit(table: &[u8], format: usize, p: usize, least: usize) -> usize
+    requires { ⌜ p < 2 ^ 40 ⌝ }
+    ensures { λ r. ⌜ (0 < r → (unitFault (now (table .entry)) format p least ≡ Clear) × (r ≡ u16At (now (table .entry)) p + 1)) ⌝ }
+{
+    if format == 6 {
+        return clear_single(table, p, least);
+    }
+    clear_range(table, p, least)
 }
 
 fn unit_fault(table: &[u8], format: usize, p: usize, least: usize) -> Fault
@@ -124,7 +135,29 @@ fn unit_fault(table: &[u8], format: usize, p: usize, least: usize) -> Fault
     range_fault(table, p, least)
 }
 
-// `count` units from `start` on, each past the last glyph of the one before.
+// `count` units from `start` on, each past the last glyph of the one before, the first at `from` or past it.
+fn each_fault(table: &[u8], format: usize, count: usize, start: usize, from: usize) -> Fault
+    requires { ⌜ start + 6 * count < 2 ^ 40 ⌝ }
+    ensures { λ r. ⌜ r ≡ unitsFault (now (table .entry)) format count start from ⌝ }
+{
+    let size = unit_size(format);
+    let mut p = start;
+    let mut least = from;
+    let mut left = count;
+    while 0 < left {
+        let fault = unit_fault(table, format, p, least);
+        if let Fault::Bad { refusal: _, at: _ } = fault {
+            return fault;
+        }
+        least = fields::u16_at(table, p) + 1;
+        p += size;
+        left -= 1;
+    }
+    Fault::Clear
+}
+
+// `count` units from `start` on: most have no fault, and a chain of fields is slower, so it is built from the first unit on that is
+// not seen to be without fault.
 fn units_fault(table: &[u8], format: usize, count: usize, start: usize) -> Fault
     requires { ⌜ start + 6 * count < 2 ^ 40 ⌝ }
     ensures { λ r. ⌜ r ≡ unitsFault (now (table .entry)) format count start 0 ⌝ }
@@ -134,11 +167,11 @@ fn units_fault(table: &[u8], format: usize, count: usize, start: usize) -> Fault
     let mut least: usize = 0;
     let mut left = count;
     while 0 < left {
-        let fault = unit_fault(table, format, p, least);
-        if let Fault::Bad { refusal: _, at: _ } = fault {
-            return fault;
+        let next = clear_unit(table, format, p, least);
+        if next == 0 {
+            return each_fault(table, format, left, p, least);
         }
-        least = fields::u16_at(table, p) + 1;
+        least = next;
         p += size;
         left -= 1;
     }

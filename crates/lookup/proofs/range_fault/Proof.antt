@@ -1,16 +1,10 @@
 -- `lookup::range_fault` meets its contract.
 use Rattle.lookup.specs.Units.{rangeFault}
 use Rattle.fields.specs.Laws.{then-of}
-use mathlib.Core.Path.{_≡_, refl, sym, ap, _∙_}
+use mathlib.Core.Path.{_≡_, refl, ap, _∙_}
 use borrow.Author.Needs.{needs}
 use Rattle.lookup.proofs.range_fault.Statement.{statement}
 use Rattle.lookup.proofs.range_fault.Tie as tie
-
-range-is-clear-requires : tie.Need-range-is-clear-requires
-range-is-clear-requires c κs = search needs
-
-returns : tie.Need-returns
-returns c = sym (c .before .range-is-clear .ensures (c .if1 .taken))
 
 u16-at-requires : tie.Need-u16-at-requires
 u16-at-requires c κs = search needs
@@ -60,9 +54,9 @@ then-requires-3 c κs = search needs
 then-requires-4 : tie.Need-then-requires-4
 then-requires-4 c κs = search needs
 
-returns-2 : tie.Need-returns-2
+returns : tie.Need-returns
 unfolding rangeFault
-returns-2 c =
+returns c =
     then-of (c .then4 .ensures) (c .before .before .before .before .before .before .before .before .in-table .ensures)
     (then-of (c .before .then3 .ensures) (c .before .before .before .before .before .before .before .in-table2 .ensures)
     (then-of (c .before .before .then2 .ensures) (rw (c .before .before .before .before .before .before .before .before .before .u16-at2 .ensures .0) at (c .before .before .before .before .before .before .ruled .ensures))
@@ -72,8 +66,6 @@ pub range-fault-spec : {M : Type 1} → statement M
 range-fault-spec =
     tie.close
     (tie.spec
-    range-is-clear-requires
-    returns
     u16-at-requires
     add-u16-at
     u16-at-requires-2
@@ -90,4 +82,4 @@ range-fault-spec =
     then-requires-2
     then-requires-3
     then-requires-4
-    returns-2)
+    returns)

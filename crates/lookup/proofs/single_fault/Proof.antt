@@ -1,15 +1,8 @@
 -- `lookup::single_fault` meets its contract.
-use mathlib.Core.Path.{sym}
 use Rattle.lookup.specs.Units.{singleFault}
 use borrow.Author.Needs.{needs}
 use Rattle.lookup.proofs.single_fault.Statement.{statement}
 use Rattle.lookup.proofs.single_fault.Tie as tie
-
-single-is-clear-requires : tie.Need-single-is-clear-requires
-single-is-clear-requires c κs = search needs
-
-returns : tie.Need-returns
-returns c = sym (c .before .single-is-clear .ensures (c .if1 .taken))
 
 u16-at-requires : tie.Need-u16-at-requires
 u16-at-requires c κs = search needs
@@ -32,16 +25,14 @@ then-requires c κs = search needs
 then-requires-2 : tie.Need-then-requires-2
 then-requires-2 c κs = search needs
 
-returns-2 : tie.Need-returns-2
+returns : tie.Need-returns
 unfolding singleFault
-returns-2 c = cc
+returns c = cc
 
 pub single-fault-spec : {M : Type 1} → statement M
 single-fault-spec =
     tie.close
     (tie.spec
-    single-is-clear-requires
-    returns
     u16-at-requires
     in-table-requires
     ruled-requires
@@ -49,4 +40,4 @@ single-fault-spec =
     in-table-requires-2
     then-requires
     then-requires-2
-    returns-2)
+    returns)
