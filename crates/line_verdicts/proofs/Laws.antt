@@ -36,7 +36,9 @@ use Rattle.verdict.proofs.Laws.{u32-dropped}
 use Rattle.table.specs.Table.{tableFault}
 use Rattle.table.specs.Means.{meaningOf}
 use Rattle.table.proofs.Laws.{short}
-use Rattle.table_ask.specs.Places.{spotIn}
+use Rattle.table_ask.specs.declared.Lookup.the-variants.{Absent}
+use Rattle.table_ask.specs.Places.{lookupIn, spotIn}
+use Rattle.table_ask.proofs.Steps.{spot-found}
 use Rattle.table_ask.proofs.Asked.{side-is, lists-are}
 use Rattle.table_ask.proofs.Laws.{list-clear}
 use Rattle.line_rule.specs.Line.{recordIf, firings, verdictsFrom}
@@ -95,6 +97,10 @@ module _ (t : List ℕ) (n : ℕ) (d : Direction) where
         go : (s : Spot) → s ≡ spotIn t n d Lists g → length (getD (sideOf d (meaningOf t n) .lists) g []) ≤ 64
         go (At q) e = omega (arith, ap length (list-here g (At q) e), list-length t q, list-count t n q (list-clear t n d ok g q (sym e)))
         go Nowhere e = omega (arith, ap (λ (l : List Action). length l) (list-here g Nowhere e))
+
+  -- without a lookup of lists every list is empty
+  pub lists-none : Absent ≡ lookupIn t d Lists → (g : ℕ) → length (getD (sideOf d (meaningOf t n) .lists) g []) ≤ 0
+  lists-none e g = omega (arith, ap (λ (l : List Action). length l) (list-here g Nowhere (spot-found t n d Lists g e)))
 
 pub spot-below : (n p : ℕ) (s : Spot) → Below n s → s ≡ At p → p < n
 spot-below n p s h e = subst (Below n) e h
@@ -345,6 +351,24 @@ verdicts-few s place (z ∷ zs) (g ∷ gs) (c ∷ cs) (b ∷ bs) (f ∷ fs) h =
       firings-few place c z (b +ℤ f) 0 (getD (s .lists) g []),
       h g,
       verdicts-few s (suc place) zs gs cs bs fs h,
+    )
+
+-- and none where every list is empty
+pub verdicts-none : (s : Side) (place : ℕ) (zs gs cs : List ℕ) (bs fs : List ℤ) → ((g : ℕ) → length (getD (s .lists) g []) ≤ 0)
+    → 0 ≡ length (verdictsFrom s place zs gs cs bs fs)
+unfolding verdictsFrom
+verdicts-none s place [] gs cs bs fs h = refl
+verdicts-none s place (z ∷ zs) [] cs bs fs h = refl
+verdicts-none s place (z ∷ zs) (g ∷ gs) [] bs fs h = refl
+verdicts-none s place (z ∷ zs) (g ∷ gs) (c ∷ cs) [] fs h = refl
+verdicts-none s place (z ∷ zs) (g ∷ gs) (c ∷ cs) (b ∷ bs) [] h = refl
+verdicts-none s place (z ∷ zs) (g ∷ gs) (c ∷ cs) (b ∷ bs) (f ∷ fs) h =
+    omega (
+      arith,
+      length-append (firings place c z (b +ℤ f) 0 (getD (s .lists) g [])) (verdictsFrom s (suc place) zs gs cs bs fs),
+      firings-few place c z (b +ℤ f) 0 (getD (s .lists) g []),
+      h g,
+      verdicts-none s (suc place) zs gs cs bs fs h,
     )
 
 -- how many fire depends neither on the place nor on the numbers

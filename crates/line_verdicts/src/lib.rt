@@ -320,6 +320,9 @@ pub fn count_verdicts<'a>(
 {
     let direction = shape.direction;
     let lists = table_ask::lookup_in(table, direction, Kind::Lists);
+    if let Lookup::Absent = lists {
+        return 0;
+    }
     let mut total: usize = 0;
     let mut place: usize = 0;
     while place < glyphs.len() {
