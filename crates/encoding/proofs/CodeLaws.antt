@@ -85,16 +85,17 @@ module _ (s : List ℕ) (bytes : Bytes s) where
       ∙ ap (λ (r : List ℕ). be16 (u16At s p) ++ r) (be16-at (p + 2) (omega arith) ∙ ap (λ (q : ℕ). be16 (u16At s (p + 2)) ++ drop q s) e)
       ∙ ap₂ (λ (x y : ℕ). be16 x ++ (be16 y ++ drop (p + 4) s)) (sym a) (sym b)
 
-  module _ (i j : ℕ) where
-    pub half-bytes : u16At s i ≡ u16At s j → (getD s i 0 ≡ getD s j 0) × (getD s (i + 1) 0 ≡ getD s (j + 1) 0)
-    unfolding u16At
-    half-bytes e =
-        let p : (getD s i 0 < 256) × (getD s (i + 1) 0 < 256) × (getD s j 0 < 256) × (getD s (j + 1) 0 < 256) = (bytes i, bytes (i + 1), bytes j, bytes (j + 1)) in
-        (omega (arith, e), omega (arith, e))
+-- two numbers that are equal have equal parts, wherever they stand
+module _ (s u : List ℕ) (bytes : Bytes s) (others : Bytes u) (i j : ℕ) where
+  pub half-bytes : u16At s i ≡ u16At u j → (getD s i 0 ≡ getD u j 0) × (getD s (i + 1) 0 ≡ getD u (j + 1) 0)
+  unfolding u16At
+  half-bytes e =
+      let p : (getD s i 0 < 256) × (getD s (i + 1) 0 < 256) × (getD u j 0 < 256) × (getD u (j + 1) 0 < 256) = (bytes i, bytes (i + 1), others j, others (j + 1)) in
+      (omega (arith, e), omega (arith, e))
 
-    pub word-halves : u32At s i ≡ u32At s j → (u16At s i ≡ u16At s j) × (u16At s (i + 2) ≡ u16At s (j + 2))
-    unfolding u32At
-    word-halves e =
-        let p = u16At-fits s (i + 2) bytes in
-        let q = u16At-fits s (j + 2) bytes in
-        (omega (arith, e), omega (arith, e))
+  pub word-halves : u32At s i ≡ u32At u j → (u16At s i ≡ u16At u j) × (u16At s (i + 2) ≡ u16At u (j + 2))
+  unfolding u32At
+  word-halves e =
+      let p = u16At-fits s (i + 2) bytes in
+      let q = u16At-fits u (j + 2) others in
+      (omega (arith, e), omega (arith, e))

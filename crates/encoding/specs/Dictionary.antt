@@ -27,11 +27,11 @@ listed words xs = length xs ∷ many words xs
 abbrev pub Free : {A : Type 0} → (A → List ℕ) → Type 0
 Free words = PrefixFree words (λ x. Unit {0})
 
--- two lists begin alike, and what is left of them, if anything, begins with two items that differ, `one a` and `one b`: these tell which list comes before
-pub record Apart {A : Type 0} (words : A → List ℕ) (one : ℕ → A) (xs ys : List A) (left a b : ℕ) : Type 0 where
+-- two lists begin alike, and what is left of them, if anything, begins with two items that differ, `one a` and `other b`: these tell which list comes before
+pub record Apart {A : Type 0} (words : A → List ℕ) (one other : ℕ → A) (xs ys : List A) (left a b : ℕ) : Type 0 where
   pub same : left ≡ 0 → xs ≡ ys
   pub differ : 0 < left → xs ≡ ys → ⊥
-  pub tells : 0 < left → (earlier : Bool) → Says earlier (Before (words (one a)) (words (one b)))
+  pub tells : 0 < left → (earlier : Bool) → Says earlier (Before (words (one a)) (words (other b)))
       → Says earlier (Before (many words xs) (many words ys))
 
 -- ---- the order is decided

@@ -26,9 +26,9 @@ module _ (s : List ℕ) (bytes : Bytes s) (i j : ℕ) (e : u32At s i ≡ u32At s
 
     pub word : Alike s ae be i j (i + 4) (j + 4)
     word =
-        let h = word-halves s bytes i j e in
-        let f = half-bytes s bytes i j (h .0) in
-        let g = half-bytes s bytes (i + 2) (j + 2) (h .1) in
+        let h = word-halves s s bytes bytes i j e in
+        let f = half-bytes s s bytes bytes i j (h .0) in
+        let g = half-bytes s s bytes bytes (i + 2) (j + 2) (h .1) in
         let t₁ = turn i j (omega arith) (omega arith) (f .0) in
         let t₂ = turn (i + 1) (j + 1) (omega arith) (omega arith) (f .1) in
         let t₃ = turn (i + 1 + 1) (j + 1 + 1) (omega arith) (omega arith) (at (i + 1 + 1) (j + 1 + 1) (i + 2) (j + 2) (omega arith) (omega arith) (g .0)) in

@@ -39,7 +39,7 @@ accepted-checks s i accepted h = refl
 accepted-checks s i (barred number at) h = absurd (h .2 i)
 
 -- a sheet that was written for a table is written for the table's meaning
-meant : (t s : List ℕ) (n : ℕ) → Accepted t n → SheetBy t n s → write (meaningOf t n) ≡ s
+pub meant : (t s : List ℕ) (n : ℕ) → Accepted t n → SheetBy t n s → write (meaningOf t n) ≡ s
 unfolding sheetOf
 meant t s n a r = sym (the-sheet t n a s r)
 

@@ -14,13 +14,12 @@ use Rattle.fields.specs.Field.{be32}
 use Rattle.fields.specs.Stores.{sets-out, put-two}
 use Rattle.fields.specs.Refusals.{numberOf}
 use Rattle.fields.specs.Laws.{then-first}
-use Rattle.types.specs.declared.Direction.{Direction}
 use Rattle.types.specs.declared.Direction.the-variants.{Horizontal, Vertical}
 use Rattle.meaning.specs.Sheet.{write}
-use Rattle.table.specs.Table.{directionAt, headerFault, directionFault, tableFault}
+use Rattle.table.specs.Table.{directionAt, headerFault, tableFault}
 use Rattle.table.specs.Means.{meaningOf}
-use Rattle.table.proofs.Laws.{direction-clear, short, few-glyphs}
-use Rattle.write_direction.specs.Side.{sideBytes, ClearSide}
+use Rattle.table.proofs.Laws.{few-glyphs}
+use Rattle.write_direction.specs.Side.{sideBytes}
 use Rattle.sheet_write.specs.Written.{sheetOf, refused, bytes, lengthBy, sheetLength, stored, writtenBy, written, Draft}
 
 -- ---- the sheet
@@ -38,15 +37,8 @@ module _ (t : List ℕ) (n : ℕ) where
     unfolding tableFault
     header-clear = then-first _ _ e
 
-    pub bytes-few : length t ≤ 2 ^ 15
-    bytes-few = short t n header-clear
-
     pub glyphs-few : n < 65536
     glyphs-few = omega (arith, few-glyphs t n header-clear)
-
-    pub side-ready : (d : Direction) (at : ℕ) → at < 2 ^ 16 → at ≡ directionAt t d → ClearSide t n at
-    side-ready d at h c =
-        record { bytes = bytes-few; few = glyphs-few; near = h; clear = ap (directionFault t n) c ∙ direction-clear t n e d }
 
   -- the number of glyphs stored, then the one direction, then the other
   module _ (first second end r : ℕ) (e₁ : first ≡ directionAt t Horizontal) (e₂ : second ≡ directionAt t Vertical) (p : end ≡ 4 + length (sideBytes t n first))

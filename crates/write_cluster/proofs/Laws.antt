@@ -44,15 +44,6 @@ module _ (t : List ℕ) where
   pairs-none zero at h = refl
   pairs-none (suc n) at h = absurd (omega arith)
 
-  pub same-next : (n a b : ℕ) → 0 < n → pairAt t a ≡ pairAt t b → pairsAt t (n - 1) (a + 24) ≡ pairsAt t (n - 1) (b + 24) → pairsAt t n a ≡ pairsAt t n b
-  same-next n a b h e f = pairs-cons n a h ∙ ap₂ (λ (x : Pair) (l : List Pair). x ∷ l) e f ∙ sym (pairs-cons n b h)
-
-  pub next-same : (n a b : ℕ) → 0 < n → pairsAt t n a ≡ pairsAt t n b
-      → (pairAt t a ≡ pairAt t b) × (pairsAt t (n - 1) (a + 24) ≡ pairsAt t (n - 1) (b + 24))
-  next-same n a b h e =
-      let f = sym (pairs-cons n a h) ∙ e ∙ pairs-cons n b h in
-      (head-eq-of-cons-eq f, tail-eq-of-cons-eq f)
-
   pub cluster-bytes : (at : ℕ) → length (counted pairCode (clusterAt t at)) ≡ 4 + 24 * u32At t at
   cluster-bytes at = omega (arith, many-length pairCode 24 (λ x. refl) (clusterAt t at), cluster-length t at)
 
@@ -63,19 +54,29 @@ module _ (t : List ℕ) where
       ap (λ (k : ℕ). be32 k ++ many pairCode (pairsAt t n (at + 4))) (sym (pairs-length t n (at + 4)))
       ∙ ap (λ (k : ℕ). counted pairCode (pairsAt t k (at + 4))) e
 
-module _ (t : List ℕ) where
+-- pairs of two tables, or of one taken twice
+module _ (t u : List ℕ) where
+  pub same-next : (n a b : ℕ) → 0 < n → pairAt t a ≡ pairAt u b → pairsAt t (n - 1) (a + 24) ≡ pairsAt u (n - 1) (b + 24) → pairsAt t n a ≡ pairsAt u n b
+  same-next n a b h e f = pairs-cons t n a h ∙ ap₂ (λ (x : Pair) (l : List Pair). x ∷ l) e f ∙ sym (pairs-cons u n b h)
+
+  pub next-same : (n a b : ℕ) → 0 < n → pairsAt t n a ≡ pairsAt u n b
+      → (pairAt t a ≡ pairAt u b) × (pairsAt t (n - 1) (a + 24) ≡ pairsAt u (n - 1) (b + 24))
+  next-same n a b h e =
+      let f = sym (pairs-cons t n a h) ∙ e ∙ pairs-cons u n b h in
+      (head-eq-of-cons-eq f, tail-eq-of-cons-eq f)
+
   -- what is read of a pair is the same at two positions
   abbrev pub FieldsSame : ℕ → ℕ → Type 0
   FieldsSame a b =
-      (classAt t a ≡ classAt t b)
-      × (u32At t (a + 4) ≡ u32At t (b + 4))
-      × (fixedSize (u32At t (a + 8)) ≡ fixedSize (u32At t (b + 8)))
-      × (u32At t (a + 12) ≡ u32At t (b + 12))
-      × (fixedSize (u32At t (a + 16)) ≡ fixedSize (u32At t (b + 16)))
-      × (keptFlags (u16At t (a + 20)) ≡ keptFlags (u16At t (b + 20)))
-      × (keptFlags (u16At t (a + 22)) ≡ keptFlags (u16At t (b + 22)))
+      (classAt t a ≡ classAt u b)
+      × (u32At t (a + 4) ≡ u32At u (b + 4))
+      × (fixedSize (u32At t (a + 8)) ≡ fixedSize (u32At u (b + 8)))
+      × (u32At t (a + 12) ≡ u32At u (b + 12))
+      × (fixedSize (u32At t (a + 16)) ≡ fixedSize (u32At u (b + 16)))
+      × (keptFlags (u16At t (a + 20)) ≡ keptFlags (u16At u (b + 20)))
+      × (keptFlags (u16At t (a + 22)) ≡ keptFlags (u16At u (b + 22)))
 
-  pub fields-of-same : (a b : ℕ) → pairAt t a ≡ pairAt t b → FieldsSame a b
+  pub fields-of-same : (a b : ℕ) → pairAt t a ≡ pairAt u b → FieldsSame a b
   unfolding pairAt
   fields-of-same a b e = (
     ap (λ (p : Pair). p .class) e,
@@ -87,7 +88,7 @@ module _ (t : List ℕ) where
     ap (λ (p : Pair). p .flags .shrink) e,
   )
 
-  pub same-of-fields : (a b : ℕ) → FieldsSame a b → pairAt t a ≡ pairAt t b
+  pub same-of-fields : (a b : ℕ) → FieldsSame a b → pairAt t a ≡ pairAt u b
   unfolding pairAt
   same-of-fields a b f = λ i. record {
     class = f .0 i;

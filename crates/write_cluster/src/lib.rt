@@ -53,45 +53,52 @@ fn flags_at(table: &[u8], at: usize) -> Flags
     }
 }
 
-// Whether two positions hold the same pair: field by field, since where clusters overlap this is asked most.
-fn same_pair(table: &[u8], a: usize, b: usize) -> bool
+// Whether positions of two tables, or of one lent twice, hold the same pair: field by field, since where clusters overlap this is asked most.
+pub fn same_pair<'a>(one: &'a [u8], other: &'a [u8], a: usize, b: usize) -> bool
     requires { ⌜ (a < 2 ^ 61) × (b < 2 ^ 61) ⌝ }
-    ensures { λ r. ⌜ Says r (pairAt (now (table .entry)) a ≡ pairAt (now (table .entry)) b) ⌝ }
+    ensures { λ r. ⌜ Says r (pairAt (now (one .entry)) a ≡ pairAt (now (other .entry)) b) ⌝ }
 {
-    if cluster::class_at(table, a) != cluster::class_at(table, b) {
+    if cluster::class_at(one, a) != cluster::class_at(other, b) {
         return false;
     }
-    if cluster::fixed_at(table, a + 4) != cluster::fixed_at(table, b + 4) {
+    if cluster::fixed_at(one, a + 4) != cluster::fixed_at(other, b + 4) {
         return false;
     }
-    if cluster::size_at(table, a + 8) != cluster::size_at(table, b + 8) {
+    if cluster::size_at(one, a + 8) != cluster::size_at(other, b + 8) {
         return false;
     }
-    if cluster::fixed_at(table, a + 12) != cluster::fixed_at(table, b + 12) {
+    if cluster::fixed_at(one, a + 12) != cluster::fixed_at(other, b + 12) {
         return false;
     }
-    if cluster::size_at(table, a + 16) != cluster::size_at(table, b + 16) {
+    if cluster::size_at(one, a + 16) != cluster::size_at(other, b + 16) {
         return false;
     }
-    if cluster::kept_at(table, a + 20) != cluster::kept_at(table, b + 20) {
+    if cluster::kept_at(one, a + 20) != cluster::kept_at(other, b + 20) {
         return false;
     }
-    if cluster::kept_at(table, a + 22) != cluster::kept_at(table, b + 22) {
+    if cluster::kept_at(one, a + 22) != cluster::kept_at(other, b + 22) {
         return false;
     }
     true
 }
 
-// Past the pairs that are the same, of `count` from `first` on and from `second` on.
-fn apart_from(table: &[u8], first: usize, second: usize, count: usize) -> Front
+// Past the pairs that are the same, of `count` from `first` of one table on and from `second` of the
+// other on.
+fn apart_from<'a>(
+    one: &'a [u8],
+    other: &'a [u8],
+    first: usize,
+    second: usize,
+    count: usize,
+) -> Front
     requires { ⌜ (first + 24 * count < 2 ^ 60) × (second + 24 * count < 2 ^ 60) ⌝ }
-    ensures { λ r. ⌜ (r .a < 2 ^ 61) × (r .b < 2 ^ 61) × Apart pairWords (pairAt (now (table .entry))) (pairsAt (now (table .entry)) count first) (pairsAt (now (table .entry)) count second) (r .left) (r .a) (r .b) ⌝ }
+    ensures { λ r. ⌜ (r .a < 2 ^ 61) × (r .b < 2 ^ 61) × Apart pairWords (pairAt (now (one .entry))) (pairAt (now (other .entry))) (pairsAt (now (one .entry)) count first) (pairsAt (now (other .entry)) count second) (r .left) (r .a) (r .b) ⌝ }
 {
     let mut a = first;
     let mut b = second;
     let mut left = count;
     while 0 < left {
-        if same_pair(table, a, b) {
+        if same_pair(one, other, a, b) {
             a += 24;
             b += 24;
             left -= 1;
@@ -102,27 +109,27 @@ fn apart_from(table: &[u8], first: usize, second: usize, count: usize) -> Front
     Front { left, a, b }
 }
 
-// Whether the `count` pairs from `first` on are the same as those from `second` on.
-fn same_pairs(table: &[u8], first: usize, second: usize, count: usize) -> bool
+// Whether the `count` pairs from `first` of one table on are the same as those from `second` of the other on.
+fn same_pairs<'a>(one: &'a [u8], other: &'a [u8], first: usize, second: usize, count: usize) -> bool
     requires { ⌜ (first + 24 * count < 2 ^ 60) × (second + 24 * count < 2 ^ 60) ⌝ }
-    ensures { λ r. ⌜ Says r (pairsAt (now (table .entry)) count first ≡ pairsAt (now (table .entry)) count second) ⌝ }
+    ensures { λ r. ⌜ Says r (pairsAt (now (one .entry)) count first ≡ pairsAt (now (other .entry)) count second) ⌝ }
 {
-    let front = apart_from(table, first, second, count);
+    let front = apart_from(one, other, first, second, count);
     if front.left == 0 {
         return true;
     }
     false
 }
 
-// Whether two positions hold the same cluster.
-pub fn same_cluster(table: &[u8], first: u16, second: u16) -> bool
-    ensures { λ r. ⌜ Says r (clusterAt (now (table .entry)) first ≡ clusterAt (now (table .entry)) second) ⌝ }
+// Whether positions of two tables hold the same cluster.
+pub fn same_cluster<'a>(one: &'a [u8], other: &'a [u8], first: u16, second: u16) -> bool
+    ensures { λ r. ⌜ Says r (clusterAt (now (one .entry)) first ≡ clusterAt (now (other .entry)) second) ⌝ }
 {
     let a = first as usize;
     let b = second as usize;
-    let count = fields::u32_at(table, a);
-    if count == fields::u32_at(table, b) {
-        same_pairs(table, a + 4, b + 4, count)
+    let count = fields::u32_at(one, a);
+    if count == fields::u32_at(other, b) {
+        same_pairs(one, other, a + 4, b + 4, count)
     } else {
         false
     }
@@ -184,7 +191,7 @@ fn earlier_pairs(table: &[u8], first: usize, second: usize, count: usize) -> boo
     requires { ⌜ (first + 24 * count < 2 ^ 60) × (second + 24 * count < 2 ^ 60) ⌝ }
     ensures { λ r. ⌜ Says r (Before (many pairWords (pairsAt (now (table .entry)) count first)) (many pairWords (pairsAt (now (table .entry)) count second))) ⌝ }
 {
-    let front = apart_from(table, first, second, count);
+    let front = apart_from(table, table, first, second, count);
     if front.left == 0 {
         return false;
     }

@@ -1,5 +1,5 @@
 -- A direction by its parts as they are stored, and what a direction without fault gives each of them.
-use Prim.Native.Nat.{ℕ, zero, suc, _+_}
+use Prim.Native.Nat.{ℕ, zero, suc, _+_, _<_, _^_}
 use mathlib.Core.Path.{_≡_, refl, sym, ap, ap₂, _∙_}
 use mathlib.Core.Bool.{Bool, true, false, cond}
 use mathlib.Core.List.{List, [], _∷_, _++_, append-assoc}
@@ -21,9 +21,10 @@ use Rattle.lookup_targets.specs.Values.{spotOf, clusterHere, listHere, clusterO
 use Rattle.lookup.specs.Find.{valueOf}
 use Rattle.actions.specs.declared.Spot.{Spot}
 use Rattle.actions.specs.declared.Spot.the-variants.{At, Nowhere}
-use Rattle.table.specs.Table.{widthOffset, actionOffset, widthLookup, machinePlace, sourceThere, sourceAt}
+use Rattle.types.specs.declared.Direction.{Direction}
+use Rattle.table.specs.Table.{directionAt, widthOffset, actionOffset, widthLookup, machinePlace, sourceThere, sourceAt, headerFault, directionFault, tableFault}
 use Rattle.table.specs.Means.{machineOf, listsOf, sideAt, directionOf}
-use Rattle.table.proofs.Laws.{place-none, place-some, source-none, source-some, source-clear}
+use Rattle.table.proofs.Laws.{place-none, place-some, source-none, source-some, source-clear, direction-clear, short, few-glyphs}
 use Rattle.write_item.specs.Items.{itemAt, item-discrete, itemCode}
 use Rattle.lookup_targets.specs.declared.Source.{Source}
 use Rattle.lookup_targets.specs.declared.Source.the-variants.{Lookup, Absent}
@@ -85,7 +86,7 @@ module _ (t : List ℕ) (n : ℕ) where
         go true = absent-lists
         go false = lists-are off off
 
-    by-sources : Side
+    unfoldable pub by-sources : Side
     by-sources =
         record {
           machine = machineOf t n (machinePlace t at);
@@ -93,7 +94,7 @@ module _ (t : List ℕ) (n : ℕ) where
           lists = itemsFrom Lists t n (sourceAt t at Lists);
         }
 
-    direction-is : directionOf t n at ≡ by-sources
+    pub direction-is : directionOf t n at ≡ by-sources
     unfolding directionOf by-sources sideAt emptySide machineOf
     direction-is = go (ℕ-discrete at 0)
       where
@@ -139,7 +140,7 @@ module _ (t : List ℕ) (n : ℕ) where
   -- ---- a source without fault
 
   module _ (kind : Kind) where
-    source-sound : (s : Source) → Near s → sourceFault t n kind s ≡ Clear → Sound t n s
+    pub source-sound : (s : Source) → Near s → sourceFault t n kind s ≡ Clear → Sound t n s
     unfolding valuesFault
     source-sound (Lookup at base) near e = (omega (arith, near .0), near .1, then-first _ _ e)
     source-sound Absent near e = tt
@@ -153,3 +154,10 @@ pub pool-ready : (t : List ℕ) (n at : ℕ) → ClearSide t n at → Bytes t �
 pool-ready t n at r w kind source e =
     let clear = ap (sourceFault t n kind) (e .0) ∙ source-clear t at n (r .clear) kind in
     record { bytes = r .bytes; few = r .few; sound = source-sound t n kind source (e .1) clear; short = source-short t n kind source w clear }
+
+-- a direction of an accepted table
+pub side-clear : (t : List ℕ) (n : ℕ) → tableFault t n ≡ Clear → (d : Direction) (at : ℕ) → at < 2 ^ 16 → at ≡ directionAt t d → ClearSide t n at
+unfolding tableFault
+side-clear t n e d at h q =
+    let header : headerFault t n ≡ Clear = then-first _ _ e in
+    record { bytes = short t n header; few = omega (arith, few-glyphs t n header); near = h; clear = ap (directionFault t n) q ∙ direction-clear t n e d }

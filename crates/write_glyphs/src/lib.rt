@@ -33,7 +33,7 @@ fn value_place(table: &[u8], kind: Kind, base: usize, p: usize) -> u16
 
 // The place of what a glyph has that stands in a run, or before it and has none. The run begins at the glyph `from`, and
 // its values stand at `place`.
-fn run_place(
+pub fn run_place(
     table: &[u8],
     kind: Kind,
     base: usize,

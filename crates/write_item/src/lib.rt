@@ -26,8 +26,8 @@ pub fn same_item(table: &[u8], kind: Kind, first: u16, second: u16) -> bool
     ensures { λ r. ⌜ Says r (itemAt kind (now (table .entry)) first ≡ itemAt kind (now (table .entry)) second) ⌝ }
 {
     match kind {
-        Kind::Clusters => write_cluster::same_cluster(table, first, second),
-        Kind::Lists => write_list::same_list(table, first, second),
+        Kind::Clusters => write_cluster::same_cluster(table, table, first, second),
+        Kind::Lists => write_list::same_list(table, table, first, second),
     }
 }
 

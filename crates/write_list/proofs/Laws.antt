@@ -39,14 +39,6 @@ module _ (t : List ℕ) where
   bytes-none zero at h = refl
   bytes-none (suc n) at h = absurd (omega arith)
 
-  pub same-byte : (n a b : ℕ) → 0 < n → getD t a 0 ≡ getD t b 0 → bytesAt t (a + 1) (n - 1) ≡ bytesAt t (b + 1) (n - 1) → bytesAt t a n ≡ bytesAt t b n
-  same-byte n a b h e f = bytes-cons n a h ∙ ap₂ (λ (x : ℕ) (l : List ℕ). x ∷ l) e f ∙ sym (bytes-cons n b h)
-
-  pub byte-same : (n a b : ℕ) → 0 < n → bytesAt t a n ≡ bytesAt t b n → (getD t a 0 ≡ getD t b 0) × (bytesAt t (a + 1) (n - 1) ≡ bytesAt t (b + 1) (n - 1))
-  byte-same n a b h e =
-      let f = sym (bytes-cons n a h) ∙ e ∙ bytes-cons n b h in
-      (head-eq-of-cons-eq f, tail-eq-of-cons-eq f)
-
   bytes-four : (n at : ℕ) → 3 < n
       → bytesAt t at n ≡ getD t at 0 ∷ getD t (at + 1) 0 ∷ getD t (at + 2) 0 ∷ getD t (at + 2 + 1) 0 ∷ bytesAt t (at + 4) (n - 4)
   unfolding bytesAt from
@@ -61,22 +53,6 @@ module _ (t : List ℕ) where
       let d : suc (suc (suc (suc at))) ≡ at + 4 = omega arith in
       let e : n ≡ suc (suc (suc (suc n))) - 4 = omega arith in
       λ i. getD t at 0 ∷ getD t (a i) 0 ∷ getD t (b i) 0 ∷ getD t (c i) 0 ∷ bytesAt t (d i) (e i)
-
-  pub same-four : Bytes t → (n a b : ℕ) → 3 < n → u32At t a ≡ u32At t b → bytesAt t (a + 4) (n - 4) ≡ bytesAt t (b + 4) (n - 4) → bytesAt t a n ≡ bytesAt t b n
-  same-four bytes n a b h e f =
-      let w = word-halves t bytes a b e in
-      let x = half-bytes t bytes a b (w .0) in
-      let y = half-bytes t bytes (a + 2) (b + 2) (w .1) in
-      bytes-four n a h ∙ (λ i. x .0 i ∷ x .1 i ∷ y .0 i ∷ y .1 i ∷ f i) ∙ sym (bytes-four n b h)
-
-  pub four-same : (n a b : ℕ) → 3 < n → bytesAt t a n ≡ bytesAt t b n → (u32At t a ≡ u32At t b) × (bytesAt t (a + 4) (n - 4) ≡ bytesAt t (b + 4) (n - 4))
-  unfolding u32At u16At
-  four-same n a b h e =
-      let p = sym (bytes-four n a h) ∙ e ∙ bytes-four n b h in
-      let q = tail-eq-of-cons-eq p in
-      let r = tail-eq-of-cons-eq q in
-      let s = tail-eq-of-cons-eq r in
-      ((λ i. (head-eq-of-cons-eq p i * 256 + head-eq-of-cons-eq q i) * 65536 + (head-eq-of-cons-eq r i * 256 + head-eq-of-cons-eq s i)), tail-eq-of-cons-eq s)
 
   -- ---- the data of an action
 
@@ -139,24 +115,6 @@ module _ (t : List ℕ) where
       go (yes p) = omega arith
       go (no p) = let z : length t ≤ at + 4 = omega (arith, p) in omega (arith, u32At-past t (at + 4) z)
 
-  pub same-next : (n a b j k : ℕ) → 0 < n → actionAt t a ≡ actionAt t b → j ≡ u32At t (a + 4) → k ≡ u32At t (b + 4)
-      → actionsAt t (n - 1) (a + j) ≡ actionsAt t (n - 1) (b + k) → actionsAt t n a ≡ actionsAt t n b
-  same-next n a b j k h e ej ek f =
-      actions-cons n a h
-      ∙ ap₂ (λ (x : Action) (l : List Action). x ∷ l) e
-      (ap (λ (i : ℕ). actionsAt t (n - 1) (a + i)) (sym ej) ∙ f ∙ ap (λ (i : ℕ). actionsAt t (n - 1) (b + i)) ek)
-      ∙ sym (actions-cons n b h)
-
-  pub next-same : (n a b j k : ℕ) → 0 < n → j ≡ u32At t (a + 4) → k ≡ u32At t (b + 4) → actionsAt t n a ≡ actionsAt t n b
-      → actionsAt t (n - 1) (a + j) ≡ actionsAt t (n - 1) (b + k)
-  next-same n a b j k h ej ek e =
-      ap (λ (i : ℕ). actionsAt t (n - 1) (a + i)) ej
-      ∙ tail-eq-of-cons-eq (sym (actions-cons n a h) ∙ e ∙ actions-cons n b h)
-      ∙ ap (λ (i : ℕ). actionsAt t (n - 1) (b + i)) (sym ek)
-
-  pub first-same : (n a b : ℕ) → 0 < n → actionsAt t n a ≡ actionsAt t n b → actionAt t a ≡ actionAt t b
-  first-same n a b h e = head-eq-of-cons-eq (sym (actions-cons n a h) ∙ e ∙ actions-cons n b h)
-
   -- ---- bytes of actions
 
   pub action-bytes : (at k : ℕ) → k ≡ u16At t (at + 2) → length (actionCode (actionAt t at)) ≡ 8 + length (contentAt t at k)
@@ -195,50 +153,94 @@ module _ (t : List ℕ) where
   pub list-bytes : (at n : ℕ) → n ≡ u32At t at → length (counted actionCode (listAt t at)) ≡ 4 + length (many actionCode (actionsAt t n (at + 4)))
   list-bytes at n e = omega (arith, ap length (list-code at n e))
 
+-- bytes and actions of two tables, or of one taken twice
+module _ (t u : List ℕ) where
+  pub same-byte : (n a b : ℕ) → 0 < n → getD t a 0 ≡ getD u b 0 → bytesAt t (a + 1) (n - 1) ≡ bytesAt u (b + 1) (n - 1) → bytesAt t a n ≡ bytesAt u b n
+  same-byte n a b h e f = bytes-cons t n a h ∙ ap₂ (λ (x : ℕ) (l : List ℕ). x ∷ l) e f ∙ sym (bytes-cons u n b h)
+
+  pub byte-same : (n a b : ℕ) → 0 < n → bytesAt t a n ≡ bytesAt u b n → (getD t a 0 ≡ getD u b 0) × (bytesAt t (a + 1) (n - 1) ≡ bytesAt u (b + 1) (n - 1))
+  byte-same n a b h e =
+      let f = sym (bytes-cons t n a h) ∙ e ∙ bytes-cons u n b h in
+      (head-eq-of-cons-eq f, tail-eq-of-cons-eq f)
+
+  pub same-four : Bytes t → Bytes u → (n a b : ℕ) → 3 < n → u32At t a ≡ u32At u b → bytesAt t (a + 4) (n - 4) ≡ bytesAt u (b + 4) (n - 4) → bytesAt t a n ≡ bytesAt u b n
+  same-four bytes bytes′ n a b h e f =
+      let w = word-halves t u bytes bytes′ a b e in
+      let x = half-bytes t u bytes bytes′ a b (w .0) in
+      let y = half-bytes t u bytes bytes′ (a + 2) (b + 2) (w .1) in
+      bytes-four t n a h ∙ (λ i. x .0 i ∷ x .1 i ∷ y .0 i ∷ y .1 i ∷ f i) ∙ sym (bytes-four u n b h)
+
+  pub four-same : (n a b : ℕ) → 3 < n → bytesAt t a n ≡ bytesAt u b n → (u32At t a ≡ u32At u b) × (bytesAt t (a + 4) (n - 4) ≡ bytesAt u (b + 4) (n - 4))
+  unfolding u32At u16At
+  four-same n a b h e =
+      let p = sym (bytes-four t n a h) ∙ e ∙ bytes-four u n b h in
+      let q = tail-eq-of-cons-eq p in
+      let r = tail-eq-of-cons-eq q in
+      let s = tail-eq-of-cons-eq r in
+      ((λ i. (head-eq-of-cons-eq p i * 256 + head-eq-of-cons-eq q i) * 65536 + (head-eq-of-cons-eq r i * 256 + head-eq-of-cons-eq s i)), tail-eq-of-cons-eq s)
+
+  pub same-next : (n a b j k : ℕ) → 0 < n → actionAt t a ≡ actionAt u b → j ≡ u32At t (a + 4) → k ≡ u32At u (b + 4)
+      → actionsAt t (n - 1) (a + j) ≡ actionsAt u (n - 1) (b + k) → actionsAt t n a ≡ actionsAt u n b
+  same-next n a b j k h e ej ek f =
+      actions-cons t n a h
+      ∙ ap₂ (λ (x : Action) (l : List Action). x ∷ l) e
+      (ap (λ (i : ℕ). actionsAt t (n - 1) (a + i)) (sym ej) ∙ f ∙ ap (λ (i : ℕ). actionsAt u (n - 1) (b + i)) ek)
+      ∙ sym (actions-cons u n b h)
+
+  pub next-same : (n a b j k : ℕ) → 0 < n → j ≡ u32At t (a + 4) → k ≡ u32At u (b + 4) → actionsAt t n a ≡ actionsAt u n b
+      → actionsAt t (n - 1) (a + j) ≡ actionsAt u (n - 1) (b + k)
+  next-same n a b j k h ej ek e =
+      ap (λ (i : ℕ). actionsAt t (n - 1) (a + i)) ej
+      ∙ tail-eq-of-cons-eq (sym (actions-cons t n a h) ∙ e ∙ actions-cons u n b h)
+      ∙ ap (λ (i : ℕ). actionsAt u (n - 1) (b + i)) (sym ek)
+
+  pub first-same : (n a b : ℕ) → 0 < n → actionsAt t n a ≡ actionsAt u n b → actionAt t a ≡ actionAt u b
+  first-same n a b h e = head-eq-of-cons-eq (sym (actions-cons t n a h) ∙ e ∙ actions-cons u n b h)
+
 -- what is left to compare of two actions
-pub same-held : (t : List ℕ) (r : Bool) (a b k : ℕ) → u16At t a ≡ u16At t b → k ≡ u16At t (a + 2) → k ≡ u16At t (b + 2)
-    → Says r (contentAt t a k ≡ contentAt t b k) → Says r (actionAt t a ≡ actionAt t b)
+pub same-held : (t u : List ℕ) (r : Bool) (a b k : ℕ) → u16At t a ≡ u16At u b → k ≡ u16At t (a + 2) → k ≡ u16At u (b + 2)
+    → Says r (contentAt t a k ≡ contentAt u b k) → Says r (actionAt t a ≡ actionAt u b)
 unfolding actionAt
-same-held t true a b k c ka kb e =
+same-held t u true a b k c ka kb e =
     ap₂ (λ (x y : ℕ). record { class = x; ty = y; content = contentAt t a y }) c (sym ka)
-    ∙ ap (λ (l : List ℕ). record { class = u16At t b; ty = k; content = l }) e
-    ∙ ap (λ (y : ℕ). record { class = u16At t b; ty = y; content = contentAt t b y }) kb
-same-held t false a b k c ka kb f =
-    λ e. f (ap (contentAt t a) ka ∙ ap (λ (x : Action). x .content) e ∙ ap (contentAt t b) (sym kb))
+    ∙ ap (λ (l : List ℕ). record { class = u16At u b; ty = k; content = l }) e
+    ∙ ap (λ (y : ℕ). record { class = u16At u b; ty = y; content = contentAt u b y }) kb
+same-held t u false a b k c ka kb f =
+    λ e. f (ap (contentAt t a) ka ∙ ap (λ (x : Action). x .content) e ∙ ap (contentAt u b) (sym kb))
 
 -- the same, where class and type were read as one number
-module _ (t : List ℕ) (bytes : Bytes t) (r : Bool) (a b h k : ℕ) (ha : h ≡ u32At t a) (hk : k ≡ h % 65536) where
-  pub heads-apart : (i : ℕ) → i ≡ u32At t b → (h ≡ i → ⊥) → actionAt t a ≡ actionAt t b → ⊥
+module _ (t u : List ℕ) (bytes : Bytes t) (others : Bytes u) (r : Bool) (a b h k : ℕ) (ha : h ≡ u32At t a) (hk : k ≡ h % 65536) where
+  pub heads-apart : (i : ℕ) → i ≡ u32At u b → (h ≡ i → ⊥) → actionAt t a ≡ actionAt u b → ⊥
   unfolding actionAt u32At
   heads-apart i e n q =
       n (ha ∙ ap₂ (λ (x y : ℕ). x * 65536 + y) (ap (λ (z : Action). z .class) q) (ap (λ (z : Action). z .ty) q) ∙ sym e)
 
-  its-ty : (p : ℕ) → h ≡ u32At t p → k ≡ u16At t (p + 2)
+  its-ty : (s : List ℕ) → Bytes s → (p : ℕ) → h ≡ u32At s p → k ≡ u16At s (p + 2)
   unfolding u32At
-  its-ty p e = omega (arith, u16At-fits t (p + 2) bytes)
+  its-ty s fit p e = omega (arith, u16At-fits s (p + 2) fit)
 
-  pub heads-same : h ≡ u32At t b → Says r (contentAt t a k ≡ contentAt t b k) → Says r (actionAt t a ≡ actionAt t b)
-  heads-same e = same-held t r a b k (word-halves t bytes a b (sym ha ∙ e) .0) (its-ty a ha) (its-ty b e)
+  pub heads-same : h ≡ u32At u b → Says r (contentAt t a k ≡ contentAt u b k) → Says r (actionAt t a ≡ actionAt u b)
+  heads-same e = same-held t u r a b k (word-halves t u bytes others a b (sym ha ∙ e) .0) (its-ty t bytes a ha) (its-ty u others b e)
 
 -- type 3 has no data
-pub no-data : (t : List ℕ) (a b k : ℕ) → k ≡ 3 → contentAt t a k ≡ contentAt t b k
+pub no-data : (t u : List ℕ) (a b k : ℕ) → k ≡ 3 → contentAt t a k ≡ contentAt u b k
 unfolding contentAt
-no-data t a b k e = rw e (bytes-none t 0 (a + 8) (omega arith) ∙ sym (bytes-none t 0 (b + 8) (omega arith)))
+no-data t u a b k e = rw e (bytes-none t 0 (a + 8) (omega arith) ∙ sym (bytes-none u 0 (b + 8) (omega arith)))
 
 -- the data of two actions of one type, compared as it is written
-module _ (t : List ℕ) (r : Bool) (a b k : ℕ) where
-  pub same-5 : k ≡ 5 → Says r (bytesAt t (a + 10) 2 ≡ bytesAt t (b + 10) 2) → Says r (contentAt t a k ≡ contentAt t b k)
+module _ (t u : List ℕ) (r : Bool) (a b k : ℕ) where
+  pub same-5 : k ≡ 5 → Says r (bytesAt t (a + 10) 2 ≡ bytesAt u (b + 10) 2) → Says r (contentAt t a k ≡ contentAt u b k)
   same-5 e s = go r s
     where
-      go : (r : Bool) → Says r (bytesAt t (a + 10) 2 ≡ bytesAt t (b + 10) 2) → Says r (contentAt t a k ≡ contentAt t b k)
-      go true f = content-5 t a k e ∙ ap (λ (l : List ℕ). 0 ∷ 0 ∷ l) f ∙ sym (content-5 t b k e)
-      go false f = λ g. f (tail-eq-of-cons-eq (tail-eq-of-cons-eq (sym (content-5 t a k e) ∙ g ∙ content-5 t b k e)))
+      go : (r : Bool) → Says r (bytesAt t (a + 10) 2 ≡ bytesAt u (b + 10) 2) → Says r (contentAt t a k ≡ contentAt u b k)
+      go true f = content-5 t a k e ∙ ap (λ (l : List ℕ). 0 ∷ 0 ∷ l) f ∙ sym (content-5 u b k e)
+      go false f = λ g. f (tail-eq-of-cons-eq (tail-eq-of-cons-eq (sym (content-5 t a k e) ∙ g ∙ content-5 u b k e)))
 
-  pub same-plain : (s : ℕ) → (k ≡ 5 → ⊥) → s ≡ length (contentAt t a k) → s ≡ length (contentAt t b k)
-      → Says r (bytesAt t (a + 8) s ≡ bytesAt t (b + 8) s) → Says r (contentAt t a k ≡ contentAt t b k)
+  pub same-plain : (s : ℕ) → (k ≡ 5 → ⊥) → s ≡ length (contentAt t a k) → s ≡ length (contentAt u b k)
+      → Says r (bytesAt t (a + 8) s ≡ bytesAt u (b + 8) s) → Says r (contentAt t a k ≡ contentAt u b k)
   same-plain s n ea eb f =
-      subst (λ (l : List ℕ). Says r (l ≡ contentAt t b k)) (ap (bytesAt t (a + 8)) ea ∙ sym (content-plain t a k n))
-      (subst (λ (l : List ℕ). Says r (bytesAt t (a + 8) s ≡ l)) (ap (bytesAt t (b + 8)) eb ∙ sym (content-plain t b k n)) f)
+      subst (λ (l : List ℕ). Says r (l ≡ contentAt u b k)) (ap (bytesAt t (a + 8)) ea ∙ sym (content-plain t a k n))
+      (subst (λ (l : List ℕ). Says r (bytesAt t (a + 8) s ≡ l)) (ap (bytesAt u (b + 8)) eb ∙ sym (content-plain u b k n)) f)
 
 -- ---- the number of a list
 

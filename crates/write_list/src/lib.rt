@@ -27,16 +27,16 @@ fn content_size(table: &[u8], at: usize, ty: usize) -> usize
     actions::data_size(ty)
 }
 
-// Whether the `count` bytes from `first` on are the same as those from `second` on, one at a time.
-fn same_each(table: &[u8], first: usize, second: usize, count: usize) -> bool
+// Whether the `count` bytes from `first` of one table on are the same as those from `second` of the other on, one at a time.
+fn same_each<'a>(one: &'a [u8], other: &'a [u8], first: usize, second: usize, count: usize) -> bool
     requires { ⌜ (first + count < 2 ^ 62) × (second + count < 2 ^ 62) ⌝ }
-    ensures { λ r. ⌜ Says r (bytesAt (now (table .entry)) first count ≡ bytesAt (now (table .entry)) second count) ⌝ }
+    ensures { λ r. ⌜ Says r (bytesAt (now (one .entry)) first count ≡ bytesAt (now (other .entry)) second count) ⌝ }
 {
     let mut a = first;
     let mut b = second;
     let mut left = count;
     while 0 < left {
-        if fields::u8_at(table, a) == fields::u8_at(table, b) {
+        if fields::u8_at(one, a) == fields::u8_at(other, b) {
             a += 1;
             b += 1;
             left -= 1;
@@ -48,15 +48,15 @@ fn same_each(table: &[u8], first: usize, second: usize, count: usize) -> bool
 }
 
 // The same, four at a time while four are left.
-fn same_bytes(table: &[u8], first: usize, second: usize, count: usize) -> bool
+fn same_bytes<'a>(one: &'a [u8], other: &'a [u8], first: usize, second: usize, count: usize) -> bool
     requires { ⌜ (first + count < 2 ^ 62) × (second + count < 2 ^ 62) ⌝ }
-    ensures { λ r. ⌜ Says r (bytesAt (now (table .entry)) first count ≡ bytesAt (now (table .entry)) second count) ⌝ }
+    ensures { λ r. ⌜ Says r (bytesAt (now (one .entry)) first count ≡ bytesAt (now (other .entry)) second count) ⌝ }
 {
     let mut a = first;
     let mut b = second;
     let mut left = count;
     while 3 < left {
-        if fields::u32_at(table, a) == fields::u32_at(table, b) {
+        if fields::u32_at(one, a) == fields::u32_at(other, b) {
             a += 4;
             b += 4;
             left -= 4;
@@ -64,55 +64,61 @@ fn same_bytes(table: &[u8], first: usize, second: usize, count: usize) -> bool
             return false;
         }
     }
-    same_each(table, a, b, left)
+    same_each(one, other, a, b, left)
 }
 
-// Whether two actions of one type have the same data.
-fn same_content(table: &[u8], first: usize, second: usize, ty: usize) -> bool
+// Whether two actions of one type, in two tables or one lent twice, have the same data.
+fn same_content<'a>(one: &'a [u8], other: &'a [u8], first: usize, second: usize, ty: usize) -> bool
     requires { ⌜ (first < 2 ^ 60) × (second < 2 ^ 60) ⌝ }
-    ensures { λ r. ⌜ Says r (contentAt (now (table .entry)) first ty ≡ contentAt (now (table .entry)) second ty) ⌝ }
+    ensures { λ r. ⌜ Says r (contentAt (now (one .entry)) first ty ≡ contentAt (now (other .entry)) second ty) ⌝ }
 {
     // the flags are ignored
     if ty == 5 {
-        return same_bytes(table, first + 10, second + 10, 2);
+        return same_bytes(one, other, first + 10, second + 10, 2);
     }
-    let size = content_size(table, first, ty);
-    if size == content_size(table, second, ty) {
-        return same_bytes(table, first + 8, second + 8, size);
+    let size = content_size(one, first, ty);
+    if size == content_size(other, second, ty) {
+        return same_bytes(one, other, first + 8, second + 8, size);
     }
     false
 }
 
-// Whether two positions hold the same action. Its class and its type stand beside each other and are read as one number;
+// Whether positions of two tables hold the same action. Its class and its type stand beside each other and are read as one number;
 // type 3 has no data.
-fn same_action(table: &[u8], first: usize, second: usize) -> bool
+fn same_action<'a>(one: &'a [u8], other: &'a [u8], first: usize, second: usize) -> bool
     requires { ⌜ (first < 2 ^ 60) × (second < 2 ^ 60) ⌝ }
-    ensures { λ r. ⌜ Says r (actionAt (now (table .entry)) first ≡ actionAt (now (table .entry)) second) ⌝ }
+    ensures { λ r. ⌜ Says r (actionAt (now (one .entry)) first ≡ actionAt (now (other .entry)) second) ⌝ }
 {
-    let head = fields::u32_at(table, first);
-    if head != fields::u32_at(table, second) {
+    let head = fields::u32_at(one, first);
+    if head != fields::u32_at(other, second) {
         return false;
     }
     let ty = head % 65536;
     if ty == 3 {
         return true;
     }
-    same_content(table, first, second, ty)
+    same_content(one, other, first, second, ty)
 }
 
 // Past the actions that are the same, of `count` from `first` on and from `second` on. Past the table an action's length is
 // 0, so no action stands much further on.
-fn apart_from(table: &[u8], first: usize, second: usize, count: usize) -> Front
-    requires { ⌜ (length (now table) ≤ 2 ^ 15) × ((first < 2 ^ 33) × (second < 2 ^ 33)) ⌝ }
-    ensures { λ r. ⌜ (r .a < 2 ^ 60) × (r .b < 2 ^ 60) × Apart actionWords (actionAt (now (table .entry))) (actionsAt (now (table .entry)) count first) (actionsAt (now (table .entry)) count second) (r .left) (r .a) (r .b) ⌝ }
+fn apart_from<'a>(
+    one: &'a [u8],
+    other: &'a [u8],
+    first: usize,
+    second: usize,
+    count: usize,
+) -> Front
+    requires { ⌜ (length (now one) ≤ 2 ^ 15) × (length (now other) ≤ 2 ^ 15) × ((first < 2 ^ 33) × (second < 2 ^ 33)) ⌝ }
+    ensures { λ r. ⌜ (r .a < 2 ^ 60) × (r .b < 2 ^ 60) × Apart actionWords (actionAt (now (one .entry))) (actionAt (now (other .entry))) (actionsAt (now (one .entry)) count first) (actionsAt (now (other .entry)) count second) (r .left) (r .a) (r .b) ⌝ }
 {
     let mut a = first;
     let mut b = second;
     let mut left = count;
     while 0 < left {
-        if same_action(table, a, b) {
-            a += fields::u32_at(table, a + 4);
-            b += fields::u32_at(table, b + 4);
+        if same_action(one, other, a, b) {
+            a += fields::u32_at(one, a + 4);
+            b += fields::u32_at(other, b + 4);
             left -= 1;
         } else {
             return Front { left, a, b };
@@ -121,28 +127,34 @@ fn apart_from(table: &[u8], first: usize, second: usize, count: usize) -> Front
     Front { left, a, b }
 }
 
-// Whether the `count` actions from `first` on are the same as those from `second` on.
-fn same_actions(table: &[u8], first: usize, second: usize, count: usize) -> bool
-    requires { ⌜ (length (now table) ≤ 2 ^ 15) × ((first < 2 ^ 33) × (second < 2 ^ 33)) ⌝ }
-    ensures { λ r. ⌜ Says r (actionsAt (now (table .entry)) count first ≡ actionsAt (now (table .entry)) count second) ⌝ }
+// Whether the `count` actions from `first` of one table on are the same as those from `second` of the other on.
+fn same_actions<'a>(
+    one: &'a [u8],
+    other: &'a [u8],
+    first: usize,
+    second: usize,
+    count: usize,
+) -> bool
+    requires { ⌜ (length (now one) ≤ 2 ^ 15) × (length (now other) ≤ 2 ^ 15) × ((first < 2 ^ 33) × (second < 2 ^ 33)) ⌝ }
+    ensures { λ r. ⌜ Says r (actionsAt (now (one .entry)) count first ≡ actionsAt (now (other .entry)) count second) ⌝ }
 {
-    let front = apart_from(table, first, second, count);
+    let front = apart_from(one, other, first, second, count);
     if front.left == 0 {
         return true;
     }
     false
 }
 
-// Whether two positions hold the same list.
-pub fn same_list(table: &[u8], first: u16, second: u16) -> bool
-    requires { ⌜ length (now table) ≤ 2 ^ 15 ⌝ }
-    ensures { λ r. ⌜ Says r (listAt (now (table .entry)) first ≡ listAt (now (table .entry)) second) ⌝ }
+// Whether positions of two tables hold the same list.
+pub fn same_list<'a>(one: &'a [u8], other: &'a [u8], first: u16, second: u16) -> bool
+    requires { ⌜ (length (now one) ≤ 2 ^ 15) × (length (now other) ≤ 2 ^ 15) ⌝ }
+    ensures { λ r. ⌜ Says r (listAt (now (one .entry)) first ≡ listAt (now (other .entry)) second) ⌝ }
 {
     let a = first as usize;
     let b = second as usize;
-    let count = fields::u32_at(table, a);
-    if count == fields::u32_at(table, b) {
-        same_actions(table, a + 4, b + 4, count)
+    let count = fields::u32_at(one, a);
+    if count == fields::u32_at(other, b) {
+        same_actions(one, other, a + 4, b + 4, count)
     } else {
         false
     }
@@ -210,7 +222,7 @@ fn earlier_actions(table: &[u8], first: usize, second: usize, count: usize) -> b
     requires { ⌜ (length (now table) ≤ 2 ^ 15) × ((first < 2 ^ 33) × (second < 2 ^ 33)) ⌝ }
     ensures { λ r. ⌜ Says r (Before (many actionWords (actionsAt (now (table .entry)) count first)) (many actionWords (actionsAt (now (table .entry)) count second))) ⌝ }
 {
-    let front = apart_from(table, first, second, count);
+    let front = apart_from(table, table, first, second, count);
     if front.left == 0 {
         return false;
     }

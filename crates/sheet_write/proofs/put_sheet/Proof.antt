@@ -6,7 +6,8 @@ use lib.Seq.{sets}
 use lib.ListN.{length}
 use Rattle.types.specs.declared.Direction.the-variants.{Horizontal, Vertical}
 use Rattle.write_direction.specs.Side.{sideBytes}
-use Rattle.sheet_write.proofs.Laws.{parts-length, parts-stored, put-twice, side-ready, glyphs-few}
+use Rattle.sheet_write.proofs.Laws.{parts-length, parts-stored, put-twice, glyphs-few}
+use Rattle.write_direction.proofs.Laws.{side-clear}
 use borrow.Author.Needs.{needs}
 use Rattle.sheet_write.proofs.put_sheet.Statement.{statement}
 use Rattle.sheet_write.proofs.put_sheet.Tie as tie
@@ -21,7 +22,7 @@ direction-at-requires : tie.Need-direction-at-requires
 direction-at-requires c κs = search needs
 
 put-side-requires : tie.Need-put-side-requires
-put-side-requires c κs = (side-ready ((c .before .before .before .before .before .before .before .before .args) .table .now) ((c .before .before .before .before .before .before .before .before .args) .glyphs) ((c .before .before .before .before .before .before .before .before .pre)) Horizontal ((c .before .direction-at) .result) ((c .before .direction-at) .ensures .1) ((c .before .direction-at) .ensures .0), omega arith)
+put-side-requires c κs = (side-clear ((c .before .before .before .before .before .before .before .before .args) .table .now) ((c .before .before .before .before .before .before .before .before .args) .glyphs) ((c .before .before .before .before .before .before .before .before .pre)) Horizontal ((c .before .direction-at) .result) ((c .before .direction-at) .ensures .1) ((c .before .direction-at) .ensures .0), omega arith)
 
 direction-at-requires-2 : tie.Need-direction-at-requires-2
 direction-at-requires-2 c κs = search needs
@@ -60,7 +61,7 @@ returns c =
     )
 
 put-side-requires-2 : tie.Need-put-side-requires-2
-put-side-requires-2 c κs = (side-ready ((c .before .before .before .before .before .before .before .before .before .before .before .before .before .before .args) .table .now) ((c .before .before .before .before .before .before .before .before .before .before .before .before .before .before .args) .glyphs) ((c .before .before .before .before .before .before .before .before .before .before .before .before .before .before .pre)) Vertical ((c .before .before .direction-at2) .result) ((c .before .before .direction-at2) .ensures .1) ((c .before .before .direction-at2) .ensures .0), omega (arith, (c .before .before .before .before .before .put-side) .ensures .1))
+put-side-requires-2 c κs = (side-clear ((c .before .before .before .before .before .before .before .before .before .before .before .before .before .before .args) .table .now) ((c .before .before .before .before .before .before .before .before .before .before .before .before .before .before .args) .glyphs) ((c .before .before .before .before .before .before .before .before .before .before .before .before .before .before .pre)) Vertical ((c .before .before .direction-at2) .result) ((c .before .before .direction-at2) .ensures .1) ((c .before .before .direction-at2) .ensures .0), omega (arith, (c .before .before .before .before .before .put-side) .ensures .1))
 
 same-length-2 : tie.Need-same-length-2
 same-length-2 c = search needs

@@ -29,22 +29,24 @@ same-pairs-requires c κs = search needs
 returns : tie.Need-returns
 unfolding clusterAt
 returns c =
-    let a = (c .before .before .before .before .before .args) in
-    let t = a .table .now in
+    let a = (c .before .before .before .before .before .before .args) in
+    let t = a .one .now in
+    let u = a .other .now in
     let m = (c .before .before .before .u32-at) in
     let n = (c .before .before .u32-at2) in
     let r = (c .same-pairs .result) in
-    let e : m .result ≡ u32At t (a .second) = omega (arith, c .before .if1 .taken, n .ensures .0) in
-    subst (λ (k : ℕ). Says r (pairsAt t k (a .first + 4) ≡ pairsAt t (u32At t (a .second)) (a .second + 4))) (m .ensures .0)
-    (subst (λ (k : ℕ). Says r (pairsAt t (m .result) (a .first + 4) ≡ pairsAt t k (a .second + 4))) e (c .same-pairs .ensures))
+    let e : m .result ≡ u32At u (a .second) = omega (arith, c .before .if1 .taken, n .ensures .0) in
+    subst (λ (k : ℕ). Says r (pairsAt t k (a .first + 4) ≡ pairsAt u (u32At u (a .second)) (a .second + 4))) (m .ensures .0)
+    (subst (λ (k : ℕ). Says r (pairsAt t (m .result) (a .first + 4) ≡ pairsAt u k (a .second + 4))) e (c .same-pairs .ensures))
 
 returns-2 : tie.Need-returns-2
 returns-2 c =
-    let a = (c .before .before .before .before .args) in
-    let t = a .table .now in
+    let a = (c .before .before .before .before .before .args) in
+    let t = a .one .now in
+    let u = a .other .now in
     let m = (c .before .before .u32-at) in
     let n = (c .before .u32-at2) in
-    λ e. (c .if1 .left) (omega (arith, m .ensures .0, n .ensures .0, cluster-length t (a .first), cluster-length t (a .second), ap length e))
+    λ e. (c .if1 .left) (omega (arith, m .ensures .0, n .ensures .0, cluster-length t (a .first), cluster-length u (a .second), ap length e))
 
 pub same-cluster-spec : {M : Type 1} → statement M
 same-cluster-spec =

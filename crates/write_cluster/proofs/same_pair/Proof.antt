@@ -22,8 +22,8 @@ class-at-requires-2 c κs = search needs
 -- src/lib.rt:62:9
 returns : tie.Need-returns
 returns c =
-    let a = c .before .before .before .before .args in
-    λ e. c .if1 .taken (c .before .before .class-at .ensures .0 ∙ fields-of-same (a .table .now) (a .a) (a .b) e .0 ∙ sym (c .before .class-at2 .ensures .0))
+    let a = c .before .before .before .before .before .args in
+    λ e. c .if1 .taken (c .before .before .class-at .ensures .0 ∙ fields-of-same (a .one .now) (a .other .now) (a .a) (a .b) e .0 ∙ sym (c .before .class-at2 .ensures .0))
 
 -- src/lib.rt:64:33
 add-fixed-at : tie.Need-add-fixed-at
@@ -44,8 +44,8 @@ fixed-at-requires-2 c κs = search needs
 -- src/lib.rt:65:9
 returns-2 : tie.Need-returns-2
 returns-2 c =
-    let a = c .before .before .before .before .before .before .before .args in
-    λ e. c .if2 .taken (c .before .before .fixed-at .ensures ∙ fields-of-same (a .table .now) (a .a) (a .b) e .1 ∙ sym (c .before .fixed-at2 .ensures))
+    let a = c .before .before .before .before .before .before .before .before .args in
+    λ e. c .if2 .taken (c .before .before .fixed-at .ensures ∙ fields-of-same (a .one .now) (a .other .now) (a .a) (a .b) e .1 ∙ sym (c .before .fixed-at2 .ensures))
 
 -- src/lib.rt:67:32
 add-size-at : tie.Need-add-size-at
@@ -66,8 +66,8 @@ size-at-requires-2 c κs = search needs
 -- src/lib.rt:68:9
 returns-3 : tie.Need-returns-3
 returns-3 c =
-    let a = c .before .before .before .before .before .before .before .before .before .before .args in
-    λ e. c .if3 .taken (c .before .before .size-at .ensures ∙ fields-of-same (a .table .now) (a .a) (a .b) e .2 ∙ sym (c .before .size-at2 .ensures))
+    let a = c .before .before .before .before .before .before .before .before .before .before .before .args in
+    λ e. c .if3 .taken (c .before .before .size-at .ensures ∙ fields-of-same (a .one .now) (a .other .now) (a .a) (a .b) e .2 ∙ sym (c .before .size-at2 .ensures))
 
 -- src/lib.rt:70:33
 add-fixed-at-3 : tie.Need-add-fixed-at-3
@@ -88,8 +88,8 @@ fixed-at-requires-4 c κs = search needs
 -- src/lib.rt:71:9
 returns-4 : tie.Need-returns-4
 returns-4 c =
-    let a = c .before .before .before .before .before .before .before .before .before .before .before .before .before .args in
-    λ e. c .if4 .taken (c .before .before .fixed-at3 .ensures ∙ fields-of-same (a .table .now) (a .a) (a .b) e .3 ∙ sym (c .before .fixed-at4 .ensures))
+    let a = c .before .before .before .before .before .before .before .before .before .before .before .before .before .before .args in
+    λ e. c .if4 .taken (c .before .before .fixed-at3 .ensures ∙ fields-of-same (a .one .now) (a .other .now) (a .a) (a .b) e .3 ∙ sym (c .before .fixed-at4 .ensures))
 
 -- src/lib.rt:73:32
 add-size-at-3 : tie.Need-add-size-at-3
@@ -110,8 +110,8 @@ size-at-requires-4 c κs = search needs
 -- src/lib.rt:74:9
 returns-5 : tie.Need-returns-5
 returns-5 c =
-    let a = c .before .before .before .before .before .before .before .before .before .before .before .before .before .before .before .before .args in
-    λ e. c .if5 .taken (c .before .before .size-at3 .ensures ∙ fields-of-same (a .table .now) (a .a) (a .b) e .4 ∙ sym (c .before .size-at4 .ensures))
+    let a = c .before .before .before .before .before .before .before .before .before .before .before .before .before .before .before .before .before .args in
+    λ e. c .if5 .taken (c .before .before .size-at3 .ensures ∙ fields-of-same (a .one .now) (a .other .now) (a .a) (a .b) e .4 ∙ sym (c .before .size-at4 .ensures))
 
 -- src/lib.rt:76:32
 add-kept-at : tie.Need-add-kept-at
@@ -132,8 +132,8 @@ kept-at-requires-2 c κs = search needs
 -- src/lib.rt:77:9
 returns-6 : tie.Need-returns-6
 returns-6 c =
-    let a = c .before .before .before .before .before .before .before .before .before .before .before .before .before .before .before .before .before .before .before .args in
-    λ e. c .if6 .taken (c .before .before .kept-at .ensures ∙ fields-of-same (a .table .now) (a .a) (a .b) e .5 ∙ sym (c .before .kept-at2 .ensures))
+    let a = c .before .before .before .before .before .before .before .before .before .before .before .before .before .before .before .before .before .before .before .before .args in
+    λ e. c .if6 .taken (c .before .before .kept-at .ensures ∙ fields-of-same (a .one .now) (a .other .now) (a .a) (a .b) e .5 ∙ sym (c .before .kept-at2 .ensures))
 
 -- src/lib.rt:79:32
 add-kept-at-3 : tie.Need-add-kept-at-3
@@ -154,14 +154,14 @@ kept-at-requires-4 c κs = search needs
 -- src/lib.rt:80:9
 returns-7 : tie.Need-returns-7
 returns-7 c =
-    let a = c .before .before .before .before .before .before .before .before .before .before .before .before .before .before .before .before .before .before .before .before .before .before .args in
-    λ e. c .if7 .taken (c .before .before .kept-at3 .ensures ∙ fields-of-same (a .table .now) (a .a) (a .b) e .6 ∙ sym (c .before .kept-at4 .ensures))
+    let a = c .before .before .before .before .before .before .before .before .before .before .before .before .before .before .before .before .before .before .before .before .before .before .before .args in
+    λ e. c .if7 .taken (c .before .before .kept-at3 .ensures ∙ fields-of-same (a .one .now) (a .other .now) (a .a) (a .b) e .6 ∙ sym (c .before .kept-at4 .ensures))
 
 -- src/lib.rt:57:1
 returns-8 : tie.Need-returns-8
 returns-8 c =
-    let a = c .before .before .before .before .before .before .before .before .before .before .before .before .before .before .before .before .before .before .before .before .before .before .args in
-    same-of-fields (a .table .now) (a .a) (a .b) (
+    let a = c .before .before .before .before .before .before .before .before .before .before .before .before .before .before .before .before .before .before .before .before .before .before .before .args in
+    same-of-fields (a .one .now) (a .other .now) (a .a) (a .b) (
       sym (c .before .before .before .before .before .before .before .before .before .before .before .before .before .before .before .before .before .before .before .before .class-at .ensures .0) ∙ c .before .before .before .before .before .before .before .before .before .before .before .before .before .before .before .before .before .before .if1 .left ∙ c .before .before .before .before .before .before .before .before .before .before .before .before .before .before .before .before .before .before .before .class-at2 .ensures .0,
       sym (c .before .before .before .before .before .before .before .before .before .before .before .before .before .before .before .before .before .fixed-at .ensures) ∙ c .before .before .before .before .before .before .before .before .before .before .before .before .before .before .before .if2 .left ∙ c .before .before .before .before .before .before .before .before .before .before .before .before .before .before .before .before .fixed-at2 .ensures,
       sym (c .before .before .before .before .before .before .before .before .before .before .before .before .before .before .size-at .ensures) ∙ c .before .before .before .before .before .before .before .before .before .before .before .before .if3 .left ∙ c .before .before .before .before .before .before .before .before .before .before .before .before .before .size-at2 .ensures,

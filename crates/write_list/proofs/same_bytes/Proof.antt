@@ -11,13 +11,13 @@ use Rattle.write_list.proofs.same_bytes.Statement.{statement}
 use Rattle.write_list.proofs.same_bytes.Tie as tie
 
 abbrev Inv-loop : tie.InvT-loop
-Inv-loop table first second count a₀ b₀ left₀ a b left =
+Inv-loop one other first second count a₀ b₀ left₀ a b left =
     (a + left < 2 ^ 62) × (b + left < 2 ^ 62)
-    × (bytesAt table a left ≡ bytesAt table b left → bytesAt table first count ≡ bytesAt table second count)
-    × (bytesAt table first count ≡ bytesAt table second count → bytesAt table a left ≡ bytesAt table b left)
+    × (bytesAt one a left ≡ bytesAt other b left → bytesAt one first count ≡ bytesAt other second count)
+    × (bytesAt one first count ≡ bytesAt other second count → bytesAt one a left ≡ bytesAt other b left)
 
 abbrev μ-loop : tie.MeasureT-loop
-μ-loop table first second count a₀ b₀ left₀ a b left = left
+μ-loop one other first second count a₀ b₀ left₀ a b left = left
 
 loop-holds : tie.Need-loop-holds Inv-loop μ-loop
 loop-holds c = (omega arith, omega arith, (λ e. e), (λ e. e))
@@ -43,22 +43,25 @@ loop-less c = search needs
 loop-again : tie.Need-loop-again Inv-loop μ-loop
 loop-again c =
     let l = c .before .before .before .before .loop in
-    let t = c .before .before .before .before .before .before .args .table .now in
-    let bytes : Bytes t = λ i. omega (arith, c .before .before .before .before .before .shared-slice-known .given i) in
+    let t = c .before .before .before .before .before .before .before .args .one .now in
+    let u = c .before .before .before .before .before .before .before .args .other .now in
+    let bytes : Bytes t = λ i. omega (arith, c .before .before .before .before .before .before .shared-slice-known .given i) in
+    let others : Bytes u = λ i. omega (arith, c .before .before .before .before .before .shared-slice-known2 .given i) in
     let e = sym (c .before .before .u32-at .ensures .0) ∙ c .if1 .taken ∙ c .before .u32-at2 .ensures .0 in
     let h : 3 < l .left = omega arith in (
       omega arith,
       omega arith,
-      (λ g. l .inv .2 (same-four t bytes (l .left) (l .a) (l .b) h e g)),
-      (λ g. four-same t (l .left) (l .a) (l .b) h (l .inv .3 g) .1),
+      (λ g. l .inv .2 (same-four t u bytes others (l .left) (l .a) (l .b) h e g)),
+      (λ g. four-same t u (l .left) (l .a) (l .b) h (l .inv .3 g) .1),
     )
 
 returns : tie.Need-returns Inv-loop μ-loop
 returns c =
     let l = c .before .before .before .before .loop in
-    let t = c .before .before .before .before .before .before .args .table .now in
+    let t = c .before .before .before .before .before .before .before .args .one .now in
+    let u = c .before .before .before .before .before .before .before .args .other .now in
     let h : 3 < l .left = omega arith in
-    λ g. c .if1 .left (c .before .before .u32-at .ensures .0 ∙ four-same t (l .left) (l .a) (l .b) h (l .inv .3 g) .0 ∙ sym (c .before .u32-at2 .ensures .0))
+    λ g. c .if1 .left (c .before .before .u32-at .ensures .0 ∙ four-same t u (l .left) (l .a) (l .b) h (l .inv .3 g) .0 ∙ sym (c .before .u32-at2 .ensures .0))
 
 same-each-requires : tie.Need-same-each-requires Inv-loop μ-loop
 same-each-requires c κs = search needs

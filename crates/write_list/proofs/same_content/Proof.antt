@@ -16,7 +16,7 @@ same-bytes-requires : tie.Need-same-bytes-requires
 same-bytes-requires c κs = search needs
 
 returns : tie.Need-returns
-returns c = same-5 (c .before .before .before .args .table .now) (c .same-bytes .result) (c .before .before .before .args .first) (c .before .before .before .args .second) (c .before .before .before .args .ty) (c .before .if1 .taken) (c .same-bytes .ensures)
+returns c = same-5 (c .before .before .before .before .args .one .now) (c .before .before .before .before .args .other .now) (c .same-bytes .result) (c .before .before .before .before .args .first) (c .before .before .before .before .args .second) (c .before .before .before .before .args .ty) (c .before .if1 .taken) (c .same-bytes .ensures)
 
 content-size-requires : tie.Need-content-size-requires
 content-size-requires c κs = search needs
@@ -35,7 +35,7 @@ same-bytes-requires-2 c κs = search needs
 
 returns-2 : tie.Need-returns-2
 returns-2 c =
-    same-plain (c .before .before .before .before .before .before .args .table .now) (c .same-bytes2 .result) (c .before .before .before .before .before .before .args .first) (c .before .before .before .before .before .before .args .second) (c .before .before .before .before .before .before .args .ty) (c .before .before .before .content-size .result) (c .before .before .before .before .if1 .left)
+    same-plain (c .before .before .before .before .before .before .before .args .one .now) (c .before .before .before .before .before .before .before .args .other .now) (c .same-bytes2 .result) (c .before .before .before .before .before .before .before .args .first) (c .before .before .before .before .before .before .before .args .second) (c .before .before .before .before .before .before .before .args .ty) (c .before .before .before .content-size .result) (c .before .before .before .before .if1 .left)
     (c .before .before .before .content-size .ensures .0) ((c .before .if2 .taken) ∙ (c .before .before .content-size2 .ensures .0)) (c .same-bytes2 .ensures)
 
 returns-3 : tie.Need-returns-3

@@ -9,13 +9,13 @@ use Rattle.write_list.proofs.same_each.Statement.{statement}
 use Rattle.write_list.proofs.same_each.Tie as tie
 
 abbrev Inv-loop : tie.InvT-loop
-Inv-loop table first second count a₀ b₀ left₀ a b left =
+Inv-loop one other first second count a₀ b₀ left₀ a b left =
     (a + left < 2 ^ 62) × (b + left < 2 ^ 62)
-    × (bytesAt table a left ≡ bytesAt table b left → bytesAt table first count ≡ bytesAt table second count)
-    × (bytesAt table first count ≡ bytesAt table second count → bytesAt table a left ≡ bytesAt table b left)
+    × (bytesAt one a left ≡ bytesAt other b left → bytesAt one first count ≡ bytesAt other second count)
+    × (bytesAt one first count ≡ bytesAt other second count → bytesAt one a left ≡ bytesAt other b left)
 
 abbrev μ-loop : tie.MeasureT-loop
-μ-loop table first second count a₀ b₀ left₀ a b left = left
+μ-loop one other first second count a₀ b₀ left₀ a b left = left
 
 loop-holds : tie.Need-loop-holds Inv-loop μ-loop
 loop-holds c = (omega arith, omega arith, (λ e. e), (λ e. e))
@@ -41,27 +41,30 @@ loop-less c = search needs
 loop-again : tie.Need-loop-again Inv-loop μ-loop
 loop-again c =
     let l = (c .before .before .before .before .loop) in
-    let t = (c .before .before .before .before .before .before .args .table .now) in
+    let t = c .before .before .before .before .before .before .before .args .one .now in
+    let u = c .before .before .before .before .before .before .before .args .other .now in
     let f = sym (c .before .before .u8-at .ensures .0) ∙ (c .if1 .taken) ∙ (c .before .u8-at2 .ensures .0) in
     let h : 0 < l .left = omega arith in (
       omega arith,
       omega arith,
-      (λ g. l .inv .2 (same-byte t (l .left) (l .a) (l .b) h f g)),
-      (λ g. byte-same t (l .left) (l .a) (l .b) h (l .inv .3 g) .1),
+      (λ g. l .inv .2 (same-byte t u (l .left) (l .a) (l .b) h f g)),
+      (λ g. byte-same t u (l .left) (l .a) (l .b) h (l .inv .3 g) .1),
     )
 
 returns : tie.Need-returns Inv-loop μ-loop
 returns c =
     let l = (c .before .before .before .before .loop) in
-    let t = (c .before .before .before .before .before .before .args .table .now) in
+    let t = c .before .before .before .before .before .before .before .args .one .now in
+    let u = c .before .before .before .before .before .before .before .args .other .now in
     let h : 0 < l .left = omega arith in
-    λ g. (c .if1 .left) ((c .before .before .u8-at .ensures .0) ∙ byte-same t (l .left) (l .a) (l .b) h (l .inv .3 g) .0 ∙ sym (c .before .u8-at2 .ensures .0))
+    λ g. (c .if1 .left) ((c .before .before .u8-at .ensures .0) ∙ byte-same t u (l .left) (l .a) (l .b) h (l .inv .3 g) .0 ∙ sym (c .before .u8-at2 .ensures .0))
 
 returns-2 : tie.Need-returns-2 Inv-loop μ-loop
 returns-2 c =
     let l = (c .before .loop) in
-    let t = (c .before .before .before .args .table .now) in
-    l .inv .2 (bytes-none t (l .left) (l .a) (omega arith) ∙ sym (bytes-none t (l .left) (l .b) (omega arith)))
+    let t = c .before .before .before .before .args .one .now in
+    let u = c .before .before .before .before .args .other .now in
+    l .inv .2 (bytes-none t (l .left) (l .a) (omega arith) ∙ sym (bytes-none u (l .left) (l .b) (omega arith)))
 
 pub same-each-spec : {M : Type 1} → statement M
 same-each-spec =

@@ -28,21 +28,23 @@ same-actions-requires c κs = search needs
 returns : tie.Need-returns
 unfolding listAt
 returns c =
-    let a = (c .before .before .before .before .before .args) in
-    let t = a .table .now in
+    let a = (c .before .before .before .before .before .before .args) in
+    let t = a .one .now in
+    let u = a .other .now in
     let m = (c .before .before .before .u32-at) in
     let n = (c .before .before .u32-at2) in
     let r = (c .same-actions .result) in
-    subst (λ (k : ℕ). Says r (actionsAt t k (a .first + 4) ≡ actionsAt t (u32At t (a .second)) (a .second + 4))) (m .ensures .0)
-    (subst (λ (k : ℕ). Says r (actionsAt t (m .result) (a .first + 4) ≡ actionsAt t k (a .second + 4))) ((c .before .if1 .taken) ∙ n .ensures .0) (c .same-actions .ensures))
+    subst (λ (k : ℕ). Says r (actionsAt t k (a .first + 4) ≡ actionsAt u (u32At u (a .second)) (a .second + 4))) (m .ensures .0)
+    (subst (λ (k : ℕ). Says r (actionsAt t (m .result) (a .first + 4) ≡ actionsAt u k (a .second + 4))) ((c .before .if1 .taken) ∙ n .ensures .0) (c .same-actions .ensures))
 
 returns-2 : tie.Need-returns-2
 returns-2 c =
-    let a = (c .before .before .before .before .args) in
-    let t = a .table .now in
+    let a = (c .before .before .before .before .before .args) in
+    let t = a .one .now in
+    let u = a .other .now in
     let m = (c .before .before .u32-at) in
     let n = (c .before .u32-at2) in
-    λ e. (c .if1 .left) (m .ensures .0 ∙ sym (list-length t (a .first)) ∙ ap length e ∙ list-length t (a .second) ∙ sym (n .ensures .0))
+    λ e. (c .if1 .left) (m .ensures .0 ∙ sym (list-length t (a .first)) ∙ ap length e ∙ list-length u (a .second) ∙ sym (n .ensures .0))
 
 pub same-list-spec : {M : Type 1} → statement M
 same-list-spec =
