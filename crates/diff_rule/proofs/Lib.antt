@@ -1,0 +1,9 @@
+pub mod Empty
+pub mod Order
+pub mod Stored
+pub mod Filled
+pub mod Through
+pub mod Merge
+pub mod Again
+pub mod Marks
+pub mod Exchange
