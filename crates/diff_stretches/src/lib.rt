@@ -1,0 +1,148 @@
+// A pass over what the glyphs have in two tables, clusters or action lists (document 02, 6/14): by stretches of glyphs that
+// have one place in each.
+ghost use mathlib.Core.Path.{_≡_};
+ghost use Prim.Native.Nat.{ℕ, _≤_, _<_, _^_};
+ghost use lib.ListN.{length};
+ghost use Rattle.write_glyphs.specs.Places.{Sound, runPlace};
+ghost use Rattle.diff_stretches.specs.Stretches.{baseOf, ServesBy, Tells, Even, Splits};
+use lookup::Cursor;
+use lookup_runs::Run;
+use lookup_targets::Kind;
+use lookup_targets::Source;
+
+// The glyphs up to `end` have one place in the first table, and one in the second; the runs tell what the glyphs after them
+// have.
+pub struct Stretch {
+    pub end: usize,
+    pub first: u16,
+    pub second: u16,
+    pub ones: Run,
+    pub others: Run,
+}
+
+// A run of no glyphs, before all others.
+fn no_glyphs(cursor: Cursor) -> Run
+    ensures { λ r. ⌜ (r .from ≡ 0) × (r .until ≡ 0) × (r .place ≡ 0) × (r .cursor ≡ cursor) ⌝ }
+{
+    Run {
+        from: 0,
+        until: 0,
+        place: 0,
+        array: false,
+        cursor,
+    }
+}
+
+// Where a pass begins.
+pub fn begin(table: &[u8], glyphs: usize, source: Source) -> Run
+    requires { ⌜ Sound (now table) glyphs source ⌝ }
+    ensures { λ r. ⌜ ((kind : Kind) → Tells kind (now (table .entry)) glyphs source 0 r) ⌝ }
+{
+    match source {
+        Source::Lookup { at, base: _ } => no_glyphs(lookup::begin(table, at)),
+        Source::Absent => no_glyphs(Cursor { at: 0, left: 0 }),
+    }
+}
+
+// The run that tells what the next glyphs have.
+fn next_of(
+    table: &[u8],
+    glyphs: usize,
+    kind: Kind,
+    source: Source,
+    cursor: Cursor,
+    glyph: usize,
+) -> Run
+    requires { ⌜ (length (now table) ≤ 2 ^ 15) × (glyphs < 2 ^ 16) × (glyph < glyphs) × Sound (now table) glyphs source × ServesBy (now table) source glyph cursor ⌝ }
+    ensures { λ r. ⌜ Tells kind (now (table .entry)) glyphs source glyph r × (glyph < r .until) ⌝ }
+{
+    match source {
+        Source::Lookup { at, base: _ } => lookup_runs::next_run(
+            table,
+            fields::u16_at(table, at),
+            at,
+            cursor,
+            glyph,
+        ),
+        Source::Absent => Run {
+            from: 65536,
+            until: 65537,
+            place: 0,
+            array: false,
+            cursor,
+        },
+    }
+}
+
+// The run itself where it tells what `glyph` has, else the next one.
+fn onward(table: &[u8], glyphs: usize, kind: Kind, source: Source, run: Run, glyph: usize) -> Run
+    requires { ⌜ (length (now table) ≤ 2 ^ 15) × (glyphs < 2 ^ 16) × (glyph < glyphs) × Sound (now table) glyphs source × Tells kind (now table) glyphs source glyph run ⌝ }
+    ensures { λ r. ⌜ Tells kind (now (table .entry)) glyphs source glyph r × (glyph < r .until) ⌝ }
+{
+    if glyph < run.until {
+        return run;
+    }
+    let cursor = run.cursor;
+    next_of(table, glyphs, kind, source, cursor, glyph)
+}
+
+// How far the glyphs of a run from `glyph` on have one place.
+fn even_end(run: Run, glyph: usize) -> usize
+    requires { ⌜ glyph < run .until ⌝ }
+    ensures { λ r. ⌜ Even run glyph r ⌝ }
+{
+    if glyph < run.from {
+        return fields::lower(run.from, run.until);
+    }
+    if run.array {
+        return glyph + 1;
+    }
+    run.until
+}
+
+fn base_of(source: Source) -> usize
+    ensures { λ r. ⌜ r ≡ baseOf source ⌝ }
+{
+    match source {
+        Source::Lookup { at: _, base } => base,
+        Source::Absent => 0,
+    }
+}
+
+// The place of what a glyph has, by its run.
+fn place_of(table: &[u8], kind: Kind, source: Source, run: Run, glyph: usize) -> u16
+    requires { ⌜ (baseOf source < 2 ^ 16) × (glyph < 2 ^ 16) × (run .place < 2 ^ 41) ⌝ }
+    ensures { λ r. ⌜ r ≡ runPlace kind (now (table .entry)) (baseOf source) (run .from) (run .place) (run .array) glyph ⌝ }
+{
+    let base = base_of(source);
+    write_glyphs::run_place(table, kind, base, run.from, run.place, run.array, glyph)
+}
+
+// The next stretch, from `glyph` on.
+pub fn next_stretch<'a>(
+    one: &'a [u8],
+    other: &'a [u8],
+    glyphs: usize,
+    kind: Kind,
+    source: Source,
+    beside: Source,
+    ones: Run,
+    others: Run,
+    glyph: usize,
+) -> Stretch
+    requires { ⌜ (length (now one) ≤ 2 ^ 15) × (length (now other) ≤ 2 ^ 15) × (glyphs < 2 ^ 16) × (glyph < glyphs) ⌝ }
+    requires { ⌜ Sound (now one) glyphs source × Sound (now other) glyphs beside ⌝ }
+    requires { ⌜ Tells kind (now one) glyphs source glyph ones × Tells kind (now other) glyphs beside glyph others ⌝ }
+    ensures { λ r. ⌜ Splits kind (now (one .entry)) (now (other .entry)) glyphs source beside glyph r ⌝ }
+{
+    let a = onward(one, glyphs, kind, source, ones, glyph);
+    let b = onward(other, glyphs, kind, beside, others, glyph);
+    let both = fields::lower(even_end(a, glyph), even_end(b, glyph));
+    Stretch {
+        end: fields::lower(both, glyphs),
+        first: place_of(one, kind, source, a, glyph),
+        second: place_of(other, kind, beside, b, glyph),
+        ones: a,
+        others: b,
+    }
+}
