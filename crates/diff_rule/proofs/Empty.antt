@@ -63,7 +63,7 @@ noted-none d a x y (some m) e = let z : _≡_ {A = ℕ} 0 1 = cc in absurd (omeg
 -- ---- parts that are the same
 
 module _ {A : Type 0} (eq : Discrete A) where
-  none-same : (x y : Option A) → markOf eq x y ≡ none → x ≡ y
+  pub none-same : (x y : Option A) → markOf eq x y ≡ none → x ≡ y
   none-same none none e = refl
   none-same (some x) none e = let z : _≡_ {A = ℕ} 0 1 = cc in absurd (omega arith)
   none-same none (some y) e = let z : _≡_ {A = ℕ} 0 1 = cc in absurd (omega arith)
@@ -73,7 +73,7 @@ module _ {A : Type 0} (eq : Discrete A) where
       go (yes p) w = ap some p
       go (no p) w = let z : _≡_ {A = ℕ} 0 1 = cc in absurd (omega arith)
 
-  same-none : (x : Option A) → markOf eq x x ≡ none
+  pub same-none : (x : Option A) → markOf eq x x ≡ none
   same-none none = refl
   same-none (some x) = go (eq x x)
     where
@@ -81,7 +81,7 @@ module _ {A : Type 0} (eq : Discrete A) where
       go (yes p) = refl
       go (no p) = absurd (p refl)
 
-list-same : (l k : List Action) → someList l ≡ someList k → l ≡ k
+pub list-same : (l k : List Action) → someList l ≡ someList k → l ≡ k
 list-same [] [] e = refl
 list-same [] (x ∷ k) e = let z : _≡_ {A = ℕ} 0 1 = cc in absurd (omega arith)
 list-same (x ∷ l) [] e = let z : _≡_ {A = ℕ} 0 1 = cc in absurd (omega arith)

@@ -1,0 +1,3 @@
+pub mod Unlike
+pub mod Complete
+pub mod Theorems

@@ -1,0 +1,48 @@
+-- What is demanded of the calls for what differs between two tables (document 02, 6/14), over any outcomes of them: no more is known of an outcome than the
+-- calls promise.
+use Prim.Native.Nat.{ℕ, _*_, _≤_, _^_}
+use mathlib.Core.Path.{_≡_}
+use mathlib.Core.List.{List, map}
+use lib.ListN.{length}
+use lib.Seq.{sets}
+use Rattle.fields.specs.Field.{Bytes}
+use Rattle.fields.specs.declared.Refusal.{Refusal}
+use Rattle.types.specs.declared.Direction.{Direction}
+use Rattle.meaning.specs.Ask.{Part, sizes}
+use Rattle.answers.specs.declared.CountAnswer.{CountAnswer}
+use Rattle.answers.specs.declared.CountAnswer.the-variants.{Count, Refused}
+use Rattle.answers.specs.Says.{saysCount}
+use Rattle.encoding.specs.Codes.{All}
+use Rattle.table.specs.Table.{Accepted}
+use Rattle.table.specs.Means.{meaningOf}
+use Rattle.sheet_laws.specs.Writing.{SheetBy}
+use Rattle.diff_rule.specs.Order.{Between, stored}
+use Rattle.diff_rule.specs.Exchange.{exchanged}
+use Rattle.diff_call.specs.Listed.{differencesOf, counted, Listing, listed}
+use Rattle.diff_laws.specs.Unlike.{Alike, Unlike, Unnamed}
+
+-- an answer of `difference_count` for the tables t and u read with n
+abbrev pub Counted : List ℕ → List ℕ → ℕ → CountAnswer → Type 0
+Counted t u n answer = saysCount answer ≡ counted t u n
+
+-- an answer of `differences`, with the room as it was lent and as it is handed back
+abbrev pub Listed : List ℕ → List ℕ → ℕ → List ℕ → CountAnswer → List ℕ → Type 0
+Listed t u n before answer after = _≡_ {A = Listing} (record { said = saysCount answer; room = after }) (listed t u n before)
+
+pub record Changes : Type 0 where
+  -- there is no difference exactly when the sheets that are written for the two tables are equal
+  pub empty-exactly : (t u s s′ : List ℕ) (n : ℕ) → Bytes t → Bytes u → Accepted t n → Accepted u n → SheetBy t n s → SheetBy u n s′
+      → (answer : CountAnswer) → Counted t u n answer → (answer ≡ Count 0 → s ≡ s′) × (s ≡ s′ → answer ≡ Count 0)
+  -- the list is what the room holds from its start on, and is counted; after a refusal the room is as it was
+  pub the-list : (t u before after : List ℕ) (n count : ℕ) → Listed t u n before (Count count) after
+      → (count ≡ length (differencesOf t u n)) × (after ≡ sets before 0 (stored (differencesOf t u n))) × (5 * count ≤ length before)
+  pub refused-unchanged : (t u before after : List ℕ) (n : ℕ) (refusal : Refusal) (at : ℕ) → Listed t u n before (Refused refusal at) after → after ≡ before
+  -- each difference stands once, in order: direction, what differs, and the two numbers, as one number, rise strictly
+  pub in-order : (t u : List ℕ) (n : ℕ) → Bytes t → Accepted t n → Between 0 (10 * 2 ^ 24) (differencesOf t u n)
+  -- and nothing else stands there: the part that a difference names answers unlike in the two tables
+  pub nothing-else : (t u : List ℕ) (n : ℕ) → All (Unlike (meaningOf t n) (meaningOf u n)) (differencesOf t u n)
+  -- and nothing is left out: a part that no difference names, in a direction whose sizes none names, answers alike
+  pub nothing-left-out : (t u : List ℕ) (n : ℕ) → Bytes t → Bytes u → Accepted t n → Accepted u n → (d : Direction) → Unnamed d sizes (differencesOf t u n)
+      → (part : Part) → Unnamed d part (differencesOf t u n) → Alike (meaningOf t n) (meaningOf u n) d part
+  -- where the tables are exchanged, so are the marks, and nothing else
+  pub exchange : (t u : List ℕ) (n : ℕ) → differencesOf u t n ≡ map exchanged (differencesOf t u n)
