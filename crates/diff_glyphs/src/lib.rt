@@ -114,7 +114,7 @@ fn same_places(last: Compared, first: u16, second: u16) -> bool
 }
 
 // Two places as one number.
-fn joined(first: u16, second: u16) -> u32
+fn pair_of(first: u16, second: u16) -> u32
     ensures { λ r. ⌜ (r / 65536 ≡ first) × (r % 65536 ≡ second) ⌝ }
 {
     first as u32 * 65536 + second as u32
@@ -127,7 +127,7 @@ fn is_kept(same: &[u32], first: u16, second: u16) -> bool
 {
     let slot = first as usize % KEPT;
     let kept = same[slot];
-    if kept == joined(first, second) {
+    if kept == pair_of(first, second) {
         return true;
     }
     false
@@ -142,8 +142,8 @@ fn keep(same: &mut [u32], first: u16, second: u16, size: usize)
         return;
     }
     let slot = first as usize % KEPT;
-    let both = joined(first, second);
-    same[slot] = both;
+    let pair = pair_of(first, second);
+    same[slot] = pair;
 }
 
 // Compares two places, unless they were compared last or are kept as holding the same; the block has the differences afterwards.

@@ -1,4 +1,4 @@
--- Nothing is left out: a part that no difference of the list names, in a direction of which the sizes are not named, answers alike in the two meanings.
+-- Nothing is left out: a part that no difference of the list names answers alike in the two meanings, a class or a cell where the sizes are not named either.
 use Prim.Native.Nat.{ℕ, zero, suc, _+_, _*_, _≤_, _<_}
 use mathlib.Core.Path.{_≡_, refl, sym, ap, ap₂, _∙_, subst}
 use mathlib.Core.Bool.{Bool, true, false, cond, _&&_}
@@ -15,7 +15,7 @@ use Rattle.types.specs.declared.Direction.{Direction}
 use Rattle.types.specs.declared.Direction.the-variants.{Horizontal, Vertical}
 use Rattle.types.specs.declared.Pair.{Pair}
 use Rattle.meaning.specs.Meaning.{Machine, Action, Side, Meaning}
-use Rattle.meaning.specs.Ask.{Part, sizes, class, cell, width, action, nothing, number, both, entry, pair, act, maybe, cellOf, recordOf, askSide, ask}
+use Rattle.meaning.specs.Ask.{Part, sizes, class, cell, width, action, number, both, entry, pair, act, maybe, cellOf, recordOf, askSide, ask}
 use Rattle.meaning.specs.Discrete.{Entry-discrete, Pair-discrete, list-discrete}
 use Rattle.meaning.specs.Limits.{OkMachine, OkMaybe, OkPair, OkCluster, OkSide, Valid}
 use Rattle.meaning.proofs.AskLaws.{record-past}
@@ -27,7 +27,7 @@ use Rattle.diff_rule.specs.declared.Difference.{Difference}
 use Rattle.diff_rule.specs.Differences.{markOf, noted, through, classesDiffer, cellsDiffer, machinesDiffer, recordDiffers, recordsDiffer, widthsDiffer, someList, listDiffers, listsDiffer, sidesDiffer, differences}
 use Rattle.diff_rule.proofs.Empty as empty
 use Rattle.diff_rule.proofs.Empty.{none-same, list-same}
-use Rattle.diff_laws.specs.Unlike.{Alike, Names, Unnamed}
+use Rattle.diff_laws.specs.Unlike.{Alike, Names, Unnamed, Listable}
 
 -- ---- lists of differences, taken apart
 
@@ -212,32 +212,48 @@ module _ (n : ℕ) (d : Direction) (a b : Side) (oka : OkSide n a) (okb : OkSide
   of-glyphs part w =
       all-second (λ (z : Difference). Names d part z → ⊥) (machinesDiffer d n (a .machine) (b .machine)) (widthsDiffer d n a b ++ listsDiffer d n a b) w
 
-  side-alike : Unnamed d sizes (sidesDiffer d n a b) → (part : Part) → Unnamed d part (sidesDiffer d n a b) → askSide a part ≡ askSide b part
+  side-alike : (part : Part) → Listable d part (sidesDiffer d n a b) → Unnamed d part (sidesDiffer d n a b) → askSide a part ≡ askSide b part
   unfolding askSide
-  side-alike s sizes w = sizes-answers n d (a .machine) (b .machine) (paired n d (a .machine) (b .machine) (of-machines sizes s))
-  side-alike s (class g) w =
+  side-alike sizes s w = sizes-answers n d (a .machine) (b .machine) (paired n d (a .machine) (b .machine) (of-machines sizes w))
+  side-alike (class g) s w =
       class-answers n d g (a .machine) (b .machine) (oka .machine) (okb .machine) (paired n d (a .machine) (b .machine) (of-machines sizes s)) (of-machines (class g) w)
-  side-alike s (cell r c) w =
+  side-alike (cell r c) s w =
       cell-answers n d r c (a .machine) (b .machine) (oka .machine) (okb .machine) (paired n d (a .machine) (b .machine) (of-machines sizes s)) (of-machines (cell r c) w)
-  side-alike s (width g c) w =
+  side-alike (width g c) s w =
       ap (maybe pair) (widths-alike n d a b oka okb g c
       (all-first (λ (z : Difference). Names d (width g c) z → ⊥) (widthsDiffer d n a b) (listsDiffer d n a b) (of-glyphs (width g c) w)))
-  side-alike s (action g k) w =
+  side-alike (action g k) s w =
       ap (λ (l : List Action). maybe act (getElem? l k)) (lists-alike n d a b oka okb g k
       (all-second (λ (z : Difference). Names d (action g k) z → ⊥) (widthsDiffer d n a b) (listsDiffer d n a b) (of-glyphs (action g k) w)))
 
+-- listable by two lists one after the other, listable by each
+module _ (d : Direction) (xs ys : List Difference) where
+  listable-first : (part : Part) → Listable d part (xs ++ ys) → Listable d part xs
+  listable-first sizes s = tt
+  listable-first (class g) s = all-first (λ (z : Difference). Names d sizes z → ⊥) xs ys s
+  listable-first (cell r c) s = all-first (λ (z : Difference). Names d sizes z → ⊥) xs ys s
+  listable-first (width g c) s = tt
+  listable-first (action g k) s = tt
+
+  listable-second : (part : Part) → Listable d part (xs ++ ys) → Listable d part ys
+  listable-second sizes s = tt
+  listable-second (class g) s = all-second (λ (z : Difference). Names d sizes z → ⊥) xs ys s
+  listable-second (cell r c) s = all-second (λ (z : Difference). Names d sizes z → ⊥) xs ys s
+  listable-second (width g c) s = tt
+  listable-second (action g k) s = tt
+
 module _ (m m′ : Meaning) (v : Valid m) (v′ : Valid m′) (e : m .glyphs ≡ m′ .glyphs) where
-  pub all-named : (d : Direction) → Unnamed d sizes (differences m m′) → (part : Part) → Unnamed d part (differences m m′) → Alike m m′ d part
+  pub all-named : (d : Direction) (part : Part) → Listable d part (differences m m′) → Unnamed d part (differences m m′) → Alike m m′ d part
   unfolding differences ask
-  all-named Horizontal s part w =
+  all-named Horizontal part s w =
       let n : ℕ = m .glyphs in
       let xs : List Difference = sidesDiffer Horizontal n (m .horizontal) (m′ .horizontal) in
       let ys : List Difference = sidesDiffer Vertical n (m .vertical) (m′ .vertical) in
       side-alike n Horizontal (m .horizontal) (m′ .horizontal) (v .horizontal) (subst (λ (k : ℕ). OkSide k (m′ .horizontal)) (sym e) (v′ .horizontal))
-      (all-first (λ (z : Difference). Names Horizontal sizes z → ⊥) xs ys s) part (all-first (λ (z : Difference). Names Horizontal part z → ⊥) xs ys w)
-  all-named Vertical s part w =
+      part (listable-first Horizontal xs ys part s) (all-first (λ (z : Difference). Names Horizontal part z → ⊥) xs ys w)
+  all-named Vertical part s w =
       let n : ℕ = m .glyphs in
       let xs : List Difference = sidesDiffer Horizontal n (m .horizontal) (m′ .horizontal) in
       let ys : List Difference = sidesDiffer Vertical n (m .vertical) (m′ .vertical) in
       side-alike n Vertical (m .vertical) (m′ .vertical) (v .vertical) (subst (λ (k : ℕ). OkSide k (m′ .vertical)) (sym e) (v′ .vertical))
-      (all-second (λ (z : Difference). Names Vertical sizes z → ⊥) xs ys s) part (all-second (λ (z : Difference). Names Vertical part z → ⊥) xs ys w)
+      part (listable-second Vertical xs ys part s) (all-second (λ (z : Difference). Names Vertical part z → ⊥) xs ys w)

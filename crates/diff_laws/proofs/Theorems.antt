@@ -14,7 +14,7 @@ use Rattle.fields.specs.declared.Refusal.the-variants.{ShortRoom}
 use Rattle.fields.specs.Field.{Bytes}
 use Rattle.fields.specs.Laws.{then-second, rule-holds}
 use Rattle.types.specs.declared.Direction.{Direction}
-use Rattle.meaning.specs.Ask.{Part, sizes, Answer, nothing, number, both, entry, pair, act}
+use Rattle.meaning.specs.Ask.{Part, sizes, class, cell, Answer, nothing, number, both, entry, pair, act}
 use Rattle.meaning.specs.Sheet.{write}
 use Rattle.answers.specs.declared.CountAnswer.{CountAnswer}
 use Rattle.answers.specs.declared.CountAnswer.the-variants.{Count, Refused}
@@ -33,9 +33,12 @@ use Rattle.diff_rule.proofs.Exchange as marks
 use Rattle.diff_call.specs.Listed.{differencesOf, tablesFault, counted, listingFault, Listing, storedUnless, listed}
 use Rattle.diff_call.proofs.Laws.{first-clear}
 use Rattle.encoding.specs.Codes.{All}
-use Rattle.diff_laws.specs.Unlike.{Alike, Unlike, Unnamed}
-use Rattle.diff_laws.proofs.Unlike.{all-unlike}
+use Rattle.diff_laws.specs.Reach.{InReach}
+use Rattle.diff_laws.specs.Unlike.{Alike, Founded, Unnamed, Listable}
+use Rattle.diff_laws.proofs.Unlike.{all-told}
 use Rattle.diff_laws.proofs.Complete.{all-named}
+use Rattle.diff_laws.proofs.Alone.{alone}
+use Rattle.diff_laws.proofs.Reach.{all-reach, key-rises}
 use Rattle.diff_laws.specs.Changes.{Counted, Listed, Changes}
 
 -- ---- what a reply says
@@ -131,14 +134,23 @@ ordered : (t u : List ℕ) (n : ℕ) → Bytes t → Accepted t n → Between 0 
 unfolding differencesOf
 ordered t u n b a = order.in-order (meaningOf t n) (meaningOf u n) (valid-meaning t n b a)
 
-unlike-parts : (t u : List ℕ) (n : ℕ) → All (Unlike (meaningOf t n) (meaningOf u n)) (differencesOf t u n)
+reached : (t u : List ℕ) (n : ℕ) → Bytes t → Accepted t n → All InReach (differencesOf t u n)
 unfolding differencesOf
-unlike-parts t u n = all-unlike (meaningOf t n) (meaningOf u n)
+reached t u n b a = all-reach (meaningOf t n) (meaningOf u n) (valid-meaning t n b a)
 
-named-parts : (t u : List ℕ) (n : ℕ) → Bytes t → Bytes u → Accepted t n → Accepted u n → (d : Direction) → Unnamed d sizes (differencesOf t u n)
-    → (part : Part) → Unnamed d part (differencesOf t u n) → Alike (meaningOf t n) (meaningOf u n) d part
+told-parts : (t u : List ℕ) (n : ℕ) → All (Founded (meaningOf t n) (meaningOf u n)) (differencesOf t u n)
+unfolding differencesOf
+told-parts t u n = all-told (meaningOf t n) (meaningOf u n)
+
+named-parts : (t u : List ℕ) (n : ℕ) → Bytes t → Bytes u → Accepted t n → Accepted u n → (d : Direction) (part : Part)
+    → Listable d part (differencesOf t u n) → Unnamed d part (differencesOf t u n) → Alike (meaningOf t n) (meaningOf u n) d part
 unfolding differencesOf meaningOf
 named-parts t u n b c a e = all-named (meaningOf t n) (meaningOf u n) (valid-meaning t n b a) (valid-meaning u n c e) refl
+
+unlike-sizes : (t u : List ℕ) (n : ℕ) (d : Direction) → (Alike (meaningOf t n) (meaningOf u n) d sizes → ⊥) → (g r c : ℕ)
+    → Unnamed d (class g) (differencesOf t u n) × Unnamed d (cell r c) (differencesOf t u n)
+unfolding differencesOf
+unlike-sizes t u n = alone (meaningOf t n) (meaningOf u n)
 
 swapped : (t u : List ℕ) (n : ℕ) → differencesOf u t n ≡ map exchanged (differencesOf t u n)
 unfolding differencesOf meaningOf
@@ -150,7 +162,10 @@ changes = record {
   the-list = λ t u before after n. list-by t u before after n;
   refused-unchanged = λ t u before after n. refused-by t u before after n;
   in-order = ordered;
-  nothing-else = unlike-parts;
+  in-reach = reached;
+  as-ordered = key-rises;
+  nothing-else = told-parts;
   nothing-left-out = named-parts;
+  sizes-alone = unlike-sizes;
   exchange = swapped;
 }

@@ -1,2 +1,4 @@
 pub mod Unlike
+pub mod Reach
 pub mod Changes
+pub mod Samples

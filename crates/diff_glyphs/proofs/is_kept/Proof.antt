@@ -13,13 +13,13 @@ mul-kept c = omega arith
 shared-slice-read-kept : tie.Need-shared-slice-read-kept
 shared-slice-read-kept c = omega (arith, c .before .before .pre)
 
-joined-requires : tie.Need-joined-requires
-joined-requires c κs = search needs
+pair-of-requires : tie.Need-pair-of-requires
+pair-of-requires c κs = search needs
 
 returns : tie.Need-returns
 returns c = λ e. (
-  ap (λ (k : ℕ). k / 65536) (c .if1 .taken) ∙ c .before .joined .ensures .0,
-  ap (λ (k : ℕ). k % 65536) (c .if1 .taken) ∙ c .before .joined .ensures .1,
+  ap (λ (k : ℕ). k / 65536) (c .if1 .taken) ∙ c .before .pair-of .ensures .0,
+  ap (λ (k : ℕ). k % 65536) (c .if1 .taken) ∙ c .before .pair-of .ensures .1,
 )
 
 returns-2 : tie.Need-returns-2
@@ -27,4 +27,4 @@ returns-2 c = λ e. let z : _≡_ {A = ℕ} 0 1 = ap (λ (b : Bool). cond b 1 0)
 
 pub is-kept-spec : {M : Type 1} → statement M
 is-kept-spec =
-    tie.close (tie.spec mul-kept shared-slice-read-kept joined-requires returns returns-2)
+    tie.close (tie.spec mul-kept shared-slice-read-kept pair-of-requires returns returns-2)

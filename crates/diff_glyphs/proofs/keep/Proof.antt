@@ -11,8 +11,8 @@ use Rattle.diff_glyphs.proofs.keep.Tie as tie
 returns : tie.Need-returns
 returns c = record { room = refl; each = λ i. inl refl }
 
-joined-requires : tie.Need-joined-requires
-joined-requires c κs = search needs
+pair-of-requires : tie.Need-pair-of-requires
+pair-of-requires c κs = search needs
 
 mul-same : tie.Need-mul-same
 mul-same c = omega arith
@@ -26,10 +26,10 @@ same-length c = search needs
 returns-2 : tie.Need-returns-2
 returns-2 c =
     let a = c .before .before .before .args in
-    let p = c .joined in
+    let p = c .pair-of in
     keeps-set (a .same .now) (a .first % 64) (p .result) (a .first) (a .second) (a .size) (omega (arith, c .before .before .before .pre)) (p .ensures .0) (p .ensures .1) (c .before .if1 .left)
 
 pub keep-spec : {M : Type 1} → statement M
 keep-spec =
     tie.close
-    (tie.spec returns joined-requires mul-same slice-write-same same-length returns-2)
+    (tie.spec returns pair-of-requires mul-same slice-write-same same-length returns-2)
