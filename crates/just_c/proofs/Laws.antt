@@ -7,9 +7,12 @@ use Rattle.answers.specs.declared.Sought.{Sought}
 use Rattle.answers.specs.declared.Sought.the-variants.{Found, Nothing, Refused}
 use Rattle.answers.specs.Says.{Reply, saysSought, roomAfter}
 use Rattle.sheet_write.specs.Written.{Said, refused, bytes, Outcome}
+use Rattle.diff_call.specs.Listed.{Listing}
 use Rattle.just_c.specs.declared.JustLength.{JustLength}
-use Rattle.just_c.specs.InC.{actionOut, actionIn}
+use Rattle.just_c.specs.declared.JustCount.{JustCount}
+use Rattle.just_c.specs.InC.{countIn, actionOut, actionIn}
 use Rattle.just_c.specs.WriterInC.{lengthIn, OutcomeInC, outcomeIn}
+use Rattle.just_c.specs.DiffInC.{ListedInC, listedIn}
 
 -- an action's answer, with the room that its reply asks for, is the reply's struct
 pub action-given : (s : Sought) (h : HeldAction) (r : Reply) → saysSought s h ≡ r → h ≡ roomAfter r → actionOut s h ≡ actionIn r
@@ -29,3 +32,9 @@ pub outcome-given : (a : JustLength) (s : Said) (after : List ℕ) (o : Outcome)
     → _≡_ {A = Outcome} (record { said = s; room = after }) o
     → _≡_ {A = OutcomeInC} (record { answer = a; room = after }) (outcomeIn o)
 outcome-given a s after o e k = cc
+
+-- and with the room that a list of differences was lent
+pub listed-given : (a : JustCount) (r : Reply) (after : List ℕ) (o : Listing) → a ≡ countIn r
+    → _≡_ {A = Listing} (record { said = r; room = after }) o
+    → _≡_ {A = ListedInC} (record { answer = a; room = after }) (listedIn o)
+listed-given a r after o e k = cc

@@ -1,3 +1,4 @@
 pub mod InC
 pub mod SheetInC
 pub mod WriterInC
+pub mod DiffInC

@@ -14,6 +14,8 @@ ghost use Rattle.sheet_write.specs.Written.{saysLength, saysWritten, sheetLengt
 ghost use Rattle.just_c.specs.InC.{checkedIn, countIn, sizesIn, classIn, cellIn, recordIn, noPair, actionIn, actionOut, stretchIn};
 ghost use Rattle.just_c.specs.SheetInC.{SheetNumber, Given};
 ghost use Rattle.just_c.specs.WriterInC.{lengthIn, OutcomeInC, outcomeIn};
+ghost use Rattle.diff_call.specs.Listed.{counted, listed};
+ghost use Rattle.just_c.specs.DiffInC.{ListedInC, listedIn};
 use answers::ActionAnswer;
 use answers::CellAnswer;
 use answers::Checked;
@@ -533,4 +535,29 @@ pub extern "C" fn just_sheet_action(
     ensures { λ r. ⌜ Given (now (sheet .entry)) (along (directionIn direction) (action glyph number)) actionIn r ⌝ }
 {
     action_out(sheet_ask::ask_action(sheet, types::direction_in(direction), glyph, number))
+}
+
+// How many differences two tables have that are read with one glyph count.
+#[no_mangle]
+pub extern "C" fn just_difference_count<'a>(
+    one: &'a [u8],
+    other: &'a [u8],
+    glyphs: u32,
+) -> JustCount
+    ensures { λ r. ⌜ r ≡ countIn (counted (now (one .entry)) (now (other .entry)) glyphs) ⌝ }
+{
+    count_out(diff_call::difference_count(one, other, glyphs))
+}
+
+// Lists the differences of two tables, five numbers each, and answers how many; or answers a refusal and changes nothing.
+#[no_mangle]
+pub extern "C" fn just_differences<'a>(
+    one: &'a [u8],
+    other: &'a [u8],
+    glyphs: u32,
+    list: &mut [u16],
+) -> JustCount
+    ensures { λ r. ⌜ record { answer = r; room = now (list .exit) } ≡ listedIn (listed (now (one .entry)) (now (other .entry)) glyphs (now (list .entry))) ⌝ }
+{
+    count_out(diff_call::differences(one, other, glyphs, list))
 }
