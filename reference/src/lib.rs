@@ -6,6 +6,7 @@
 pub mod actions;
 pub mod bytes;
 pub mod cluster;
+pub mod difference;
 pub mod examples;
 pub mod generate;
 pub mod line;
@@ -21,6 +22,7 @@ pub mod verdict;
 pub mod walk;
 
 pub use bytes::Fault;
+pub use difference::{differences, differences_into, Difference};
 pub use line::{justify, justify_with, one_size, Justified, Line, LineInput};
 pub use lookup::Found;
 pub use machine::Machine;

@@ -392,6 +392,54 @@ fn lines_meet_the_greatest_numbers() {
     assert!(notes[4] + notes[5] >= DRAWS as usize * 3 / 100, "{notes:?}");
 }
 
+/// The differences that can be: classes and cells only change.
+fn wanted_differences() -> Vec<String> {
+    let marks = |kind: &str, marks: &[&str]| marks.iter().map(|mark| format!("{kind} {mark}")).collect::<Vec<_>>();
+    let all = ["Changed", "OnlyFirst", "OnlySecond"];
+    let changed = ["GlyphClass", "Cell"].map(|kind| marks(kind, &["Changed"])).concat();
+    let any = ["Sizes", "WidthRecord", "ActionList"].map(|kind| marks(kind, &all)).concat();
+    let kinds = [changed, any].concat();
+    Direction::BOTH.iter().flat_map(|direction| kinds.iter().map(move |kind| format!("{direction:?} {kind}"))).collect()
+}
+
+#[test]
+fn pairs_show_every_difference() {
+    let mut kinds = Kinds::new();
+    let mut refused = [0usize; 17];
+    for index in 0..DRAWS {
+        let case = generate::pair(SEED, index);
+        assert!(index > 50 || case == generate::pair(SEED, index));
+        let mut note = |kind: &str| *kinds.entry(kind.into()).or_default() += 1;
+        if let Err(fault) = case.differences() {
+            refused[fault.number as usize] += 1;
+        }
+        let Ok(list) = differences(&case.first, &case.second, case.n) else { continue };
+        match list.len() {
+            0 if case.first == case.second => note("the same bytes"),
+            0 => note("the same meaning in other bytes"),
+            1 => note("one difference"),
+            2..=20 => note("a few"),
+            _ => note("many"),
+        }
+        note(if list.len() == case.room { "room just enough" } else { "other room" });
+        let mut shown: Vec<String> =
+            list.iter().map(|d| format!("{:?} {:?} {:?}", d.direction, d.kind, d.mark)).collect();
+        shown.sort();
+        shown.dedup();
+        shown.iter().for_each(|kind| note(kind));
+        if let [single] = &list[..] {
+            note(&format!("{:?} alone", single.kind));
+        }
+    }
+    println!("{kinds:?}; refused 1 to 8, 16: {refused:?}");
+    let alone = ["Sizes", "GlyphClass", "Cell", "WidthRecord", "ActionList"].map(|kind| format!("{kind} alone"));
+    let others = ["the same meaning in other bytes", "a few", "many", "room just enough"].map(String::from);
+    let wanted = [wanted_differences(), alone.to_vec(), others.to_vec()].concat();
+    let rare: Vec<&String> = wanted.iter().filter(|&kind| kinds.get(kind).is_none_or(|&met| met < 15)).collect();
+    assert!(rare.is_empty(), "{rare:?}");
+    assert!((1..=8).chain([16]).all(|number| refused[number] >= 3), "{refused:?}");
+}
+
 #[test]
 fn sheets_meet_refusal_17() {
     let mut accepted = 0;

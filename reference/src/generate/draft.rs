@@ -103,7 +103,12 @@ impl Draft {
 
     /// A random field, each kind that is there being as likely as the others.
     pub fn any_mark(&self, rng: &mut Rng) -> Option<Mark> {
-        let mut kinds: Vec<Kind> = self.marks.iter().map(|mark| mark.kind).collect();
+        self.any_mark_of(rng, |_| true)
+    }
+
+    /// The same among the kinds that are wanted.
+    pub fn any_mark_of(&self, rng: &mut Rng, wanted: impl Fn(Kind) -> bool) -> Option<Mark> {
+        let mut kinds: Vec<Kind> = self.marks.iter().map(|mark| mark.kind).filter(|&kind| wanted(kind)).collect();
         kinds.sort();
         kinds.dedup();
         if kinds.is_empty() {

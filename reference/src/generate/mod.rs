@@ -4,12 +4,14 @@
 pub mod draft;
 pub mod greatest;
 pub mod lines;
+pub mod pairs;
 pub mod parts;
 pub mod rng;
 pub mod sheets;
 pub mod tables;
 
 pub use lines::LineCase;
+pub use pairs::PairCase;
 use parts::Style;
 use rng::Rng;
 
@@ -42,6 +44,11 @@ pub fn faulty_table(seed: u64, index: u64) -> (Vec<u8>, u32) {
 /// A table with a line on it; about half of them are accepted.
 pub fn line(seed: u64, index: u64) -> LineCase {
     lines::draw(&mut Rng::new(seed, index, 3))
+}
+
+/// Two tables read with one glyph count, and a room for their differences.
+pub fn pair(seed: u64, index: u64) -> PairCase {
+    pairs::draw(&mut Rng::new(seed, index, 7))
 }
 
 /// Bytes that are a sheet about half of the time.

@@ -264,7 +264,7 @@ fn tempting(rng: &mut Rng, mark: &Mark, value: u32, length: u32, n: u32) -> u32 
 }
 
 /// Spoils a table in one place, or leaves it sound by chance.
-fn spoil(rng: &mut Rng, table: &mut Draft, n: &mut u32) {
+pub fn spoil(rng: &mut Rng, table: &mut Draft, n: &mut u32) {
     match rng.weighted(&[66, 9, 12, 4, 6, 3]) {
         0 => spoil_field(rng, table, *n),
         1 => spoil_bytes(rng, table),
@@ -276,7 +276,12 @@ fn spoil(rng: &mut Rng, table: &mut Draft, n: &mut u32) {
 }
 
 fn spoil_field(rng: &mut Rng, table: &mut Draft, n: u32) {
-    if let Some(mark) = table.any_mark(rng) {
+    change_field(rng, table, n, |_| true);
+}
+
+/// Sets one field of a kind that is wanted to a value worth trying.
+pub fn change_field(rng: &mut Rng, table: &mut Draft, n: u32, wanted: impl Fn(Kind) -> bool) {
+    if let Some(mark) = table.any_mark_of(rng, wanted) {
         let value = table.get(mark.at, mark.size);
         let value = tempting(rng, &mark, value, table.len() as u32, n);
         let kept = if mark.size == 4 { value } else { value & ((1 << (8 * mark.size)) - 1) };
