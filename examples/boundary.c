@@ -14,6 +14,7 @@
 
 #define HAS_SIZE(name, size) _Static_assert(sizeof(struct name) == size, "as the library has it")
 HAS_SIZE(just_verdict, 6);
+HAS_SIZE(just_difference, 10);
 HAS_SIZE(just_checked, 16);
 HAS_SIZE(just_count_answer, 24);
 HAS_SIZE(just_sizes_answer, 24);
@@ -64,6 +65,7 @@ static void ask_table(const uint8_t *table, size_t length) {
     just_check_table(table, length, GLYPHS);
     just_table_count(table, length, GLYPHS);
     just_table_sheet_length(table, length, GLYPHS);
+    just_difference_count(table, length, table, length, GLYPHS);
     for (uint32_t way = 0; way < 2; way++) {
         just_table_sizes(table, length, GLYPHS, way);
         just_table_class(table, length, GLYPHS, way, 9);
@@ -113,6 +115,19 @@ static uint32_t justify(const uint8_t *table, size_t length, size_t places) {
     return fired;
 }
 
+/* A second delivery, with room for each number of differences up to all of them; answers how many there are. */
+static uint32_t compare(const uint8_t *whole, size_t length) {
+    uint8_t *first = memcpy(lend(length), whole, length), *second = memcpy(lend(length), whole, length);
+    memset(second + 285, 1, 3); /* the classes of glyphs 100 to 102 */
+    second[110] = 0x40;         /* a limit of glyphs 3 to 226, for class 1 */
+    uint32_t count = just_difference_count(first, length, second, length, GLYPHS).count;
+    for (uint32_t room = 0; room <= count; room++) {
+        struct just_difference *list = lend(room * sizeof *list);
+        just_list_differences(first, length, second, length, GLYPHS, list, room);
+    }
+    return count;
+}
+
 int main(void) {
     uint8_t whole[512];
     size_t length = build(whole);
@@ -129,6 +144,7 @@ int main(void) {
         ask_sheet(memcpy(lend(cut), sheet, cut), cut);
     for (size_t places = 0; places <= PLACES; places++)
         fired += justify(whole, length, places);
-    printf("a table of %zu bytes, a sheet of %u, %u verdicts: nothing else was touched\n", length, sheet_length, fired);
+    printf("a table of %zu bytes, a sheet of %u, %u verdicts, %u differences: nothing else was touched\n", length,
+           sheet_length, fired, compare(whole, length));
     return 0;
 }

@@ -30,7 +30,7 @@
 #include <stdint.h>
 
 /* Rises when a call or a struct changes, or a refusal is added. */
-#define JUST_VERSION 5
+#define JUST_VERSION 6
 
 #ifdef __cplusplus
 extern "C" {
@@ -53,7 +53,7 @@ enum just_refusal {
     JUST_UNKNOWN_GLYPH = 13,  /* a glyph of N or more, not deleted */
     JUST_ENDLESS_WALK = 14,   /* the class walk never ends */
     JUST_STAGE_TOTAL = 15,    /* a stage's total of factors is above 8,589,934,592 units */
-    JUST_SHORT_ROOM = 16,     /* verdicts or sheet longer than the lent room */
+    JUST_SHORT_ROOM = 16,     /* verdicts, sheet or differences longer than the lent room */
     JUST_NOT_SHEET = 17,      /* bytes that are not a sheet */
     JUST_UNKNOWN_EDITION = 18 /* an edition other than 1 and 2 */
 };
@@ -67,6 +67,18 @@ enum just_edition { JUST_GX_RULE = 1, JUST_WITHIN_LIMITS = 2 };
 
 /* A direction's two lookups: from glyphs to width records, and from glyphs to actions. */
 enum just_lookup { JUST_WIDTH_LOOKUP = 0, JUST_ACTION_LOOKUP = 1 };
+
+/* What two tables differ in. */
+enum just_difference_kind {
+    JUST_SIZES_DIFFER = 0,   /* the sizes of the class machines, rows and classes as one; or one table has no machine */
+    JUST_CLASS_DIFFERS = 1,  /* a glyph's class in the machine */
+    JUST_CELL_DIFFERS = 2,   /* a cell of the machine */
+    JUST_RECORD_DIFFERS = 3, /* a glyph's width record for a class */
+    JUST_ACTIONS_DIFFER = 4  /* a glyph's action list, as a whole */
+};
+
+/* Whether both tables have it and it is not the same, or one of them alone has it. Classes and cells only change. */
+enum just_difference_mark { JUST_CHANGED = 0, JUST_ONLY_IN_FIRST = 1, JUST_ONLY_IN_SECOND = 2 };
 
 /* What a cell of the class machine holds. */
 struct just_entry {
@@ -193,6 +205,15 @@ struct just_line_answer {
     uint32_t verdicts;
 };
 
+/* A difference of two tables: a just_direction, a just_difference_kind, a just_difference_mark, and where it is: 0 and 0
+ * for sizes, glyph and 0 for classes, row and class for cells, glyph and class for records, glyph and 0 for actions. */
+struct just_difference {
+    uint16_t direction;
+    uint16_t kind;
+    uint16_t mark;
+    uint16_t numbers[2];
+};
+
 /* A stretch of a table: the offset of its first byte, and its length in bytes. */
 struct just_stretch {
     size_t offset;
@@ -234,6 +255,28 @@ struct just_length_answer just_table_sheet_length(const uint8_t *table, size_t l
  * of the room stays as it was. Refuses with 1 to 8, or with 16 exactly when the sheet is longer than the room. */
 struct just_length_answer just_table_write_sheet(const uint8_t *table, size_t length, uint32_t glyph_count, uint8_t *room,
                                                  size_t room_length);
+
+/* How many differences two tables have that are read with one glyph count. Refuses with the first table's 1 to 8, else with
+ * the second's; the answer does not say whose it is, just_check_table does. */
+struct just_count_answer just_difference_count(const uint8_t *first, size_t first_length, const uint8_t *second,
+                                               size_t second_length, uint32_t glyph_count);
+
+/* The same, and lists the differences in the first numbers of the room, five for each as a just_difference has them; the
+ * rest of the room stays as it was. They stand once each, horizontal before vertical and by kind, classes, records and
+ * actions by glyph, a glyph's records by class, cells row by row. Where the sizes of the machines differ, or one table has
+ * none, the list says so and has no classes and no cells of that direction. It is empty exactly when the tables' sheets are
+ * equal. Refuses as just_difference_count does, then with 16 exactly when the list is longer than the room, and nothing is
+ * stored before that is judged. `numbers_length` counts numbers: just_list_differences takes a room of differences. */
+struct just_count_answer just_differences(const uint8_t *first, size_t first_length, const uint8_t *second,
+                                          size_t second_length, uint32_t glyph_count, uint16_t *numbers,
+                                          size_t numbers_length);
+
+static inline struct just_count_answer just_list_differences(const uint8_t *first, size_t first_length,
+                                                             const uint8_t *second, size_t second_length,
+                                                             uint32_t glyph_count, struct just_difference *list,
+                                                             size_t room) {
+    return just_differences(first, first_length, second, second_length, glyph_count, (uint16_t *)list, 5 * room);
+}
 
 /* Justifies one line.
  *

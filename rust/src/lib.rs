@@ -3,7 +3,8 @@
 //! All work is done by the proved code. This crate passes slices on, through `just-raw`, and turns numbers into types; it
 //! judges nothing itself, but for finding words for a refusal.
 //!
-//! - [`Table`] is a table that was accepted with a glyph count; it justifies lines and writes its sheet.
+//! - [`Table`] is a table that was accepted with a glyph count; it justifies lines, writes its sheet and lists what a second
+//!   table has changed.
 //! - [`Sheet`] is bytes that were accepted as a sheet, the plain record of what a table means.
 //! - Both answer the questions of [`Meaning`].
 //! - Whatever is refused is refused with a [`Refusal`], which has the documents' number and, for faults in a table, the
@@ -23,6 +24,7 @@
 
 #![forbid(unsafe_code)]
 
+mod difference;
 mod field;
 mod layout;
 mod line;
@@ -32,6 +34,7 @@ mod sections;
 mod sheet;
 mod table;
 
+pub use difference::{Difference, DifferingPart, Mark, UnlikeCounts};
 pub use field::{Field, Place};
 pub use line::{
     one_size, Answer, Justified, Lent, Line, Verdict, VerdictRecord, DELETED, GX_RULE, POINT, WITHIN_LIMITS,

@@ -46,7 +46,7 @@ const MEANINGS: &[(u32, Reason, &str)] = &[
     (13, Reason::UnknownGlyph, "a glyph is at or past the glyph count and is not the deleted one"),
     (14, Reason::EndlessWalk, "the class walk never ends"),
     (15, Reason::StageTotal, "a stage's total of factors is above 8,589,934,592 units"),
-    (16, Reason::ShortRoom, "the verdicts or the sheet are longer than the lent room"),
+    (16, Reason::ShortRoom, "the verdicts, the sheet or the differences are longer than the lent room"),
     (17, Reason::NotSheet, "the bytes are not a sheet"),
     (18, Reason::UnknownEdition, "the edition is neither 1 nor 2"),
 ];

@@ -116,6 +116,19 @@ pub struct Units {
     pub most: u32,
 }
 
+/// The numbers that a difference takes in the room of the call that lists them.
+pub(crate) const NUMBERS: usize = 5;
+
+/// A difference of two tables: direction, kind and mark by their numbers, and where it is.
+#[derive(Clone, Copy, Debug, Default, PartialEq, Eq, Hash)]
+#[repr(C)]
+pub struct Difference {
+    pub direction: u16,
+    pub kind: u16,
+    pub mark: u16,
+    pub numbers: [u16; 2],
+}
+
 /// A stretch of a table: the offset of its first byte, and its length in bytes.
 #[derive(Clone, Copy, Debug, Default, PartialEq, Eq, Hash)]
 #[repr(C)]
@@ -137,4 +150,5 @@ const _: () = {
     assert!(size_of::<Answer<Value>>() == 24);
     assert!(size_of::<Answer<Units>>() == 24);
     assert!(size_of::<Answer<crate::Said>>() == 32);
+    assert!(size_of::<Difference>() == NUMBERS * size_of::<u16>());
 };

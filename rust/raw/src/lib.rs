@@ -8,19 +8,21 @@
 //! overlaps no other buffer.
 
 mod answers;
+mod differences;
 mod line;
 mod sheet;
 mod table;
 
 pub use answers::{
-    Action, Answer, Checked, Direction, Entry, Flags, Found, Limits, Lookup, Pair, Part, Sizes, Stretch, Units, Value,
+    Action, Answer, Checked, Difference, Direction, Entry, Flags, Found, Limits, Lookup, Pair, Part, Sizes, Stretch,
+    Units, Value,
 };
 pub use line::{Lent, Line, Said, Verdict, GX_RULE, WITHIN_LIMITS};
 pub use sheet::Sheet;
 pub use table::Table;
 
 /// The version of the C header that these functions follow.
-pub const VERSION: u32 = 5;
+pub const VERSION: u32 = 6;
 
 /// What is asked for the parts of its meaning: a table or a sheet. It is judged first each time.
 ///

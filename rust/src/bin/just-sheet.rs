@@ -2,18 +2,23 @@
 //! `just-sheet --text TABLE N`: the same, to be read, and how many units each lookup of the table has, which tables that
 //! mean the same need not have alike, and at most how many of them a find looks at.
 //! `just-sheet --same A B N [M]`: whether A, read with N glyphs, and B, read with M or N, mean the same.
+//! `just-sheet --diff [--each] A B N`: what changed from A to B, both read with N glyphs, in runs of glyphs or of each glyph.
 //!
 //! Exit status: 0, or 1 where two tables do not mean the same, or 2 where something is refused or cannot be read. Of a table
 //! that is refused standard error says why, at which byte, and which field stands there; what has a number counts from 0.
 
+mod diff;
+
 use just::{
-    Act, Action, Direction, Entry, Field, Limits, Lookup, Machine, Pair, Refusal, Rule, Run, Sheet, Side, Table, Units,
+    Act, Action, Direction, Entry, Field, Limits, Lookup, Machine, Meaning, Pair, Refusal, Rule, Run, Sheet, Side,
+    Table, Units,
 };
 use std::fmt::Write as _;
 use std::io::Write as _;
 use std::process::ExitCode;
 
-const USAGE: &str = "usage: just-sheet [--text] TABLE N, or just-sheet --same A B N [M]";
+const USAGE: &str =
+    "usage: just-sheet [--text] TABLE N, just-sheet --same A B N [M], or just-sheet --diff [--each] A B N";
 
 /// What is printed, and whether the answer is yes.
 type Answered = Result<(String, bool), String>;
@@ -41,6 +46,8 @@ fn answer(words: &[&str]) -> Answered {
         ["--text", table, n] => Ok((text(table, n)?, true)),
         ["--same", a, b, n] => same(&sheet(a, n)?, &sheet(b, n)?),
         ["--same", a, b, n, m] => same(&sheet(a, n)?, &sheet(b, m)?),
+        ["--diff", "--each", a, b, n] => changed(&accepted(a, n)?, &accepted(b, n)?, false),
+        ["--diff", a, b, n] if !a.starts_with("--") => changed(&accepted(a, n)?, &accepted(b, n)?, true),
         [table, n] if !table.starts_with("--") => Ok((hex(&sheet(table, n)?), true)),
         _ => Err(USAGE.into()),
     }
@@ -67,6 +74,16 @@ fn sheet(file: &str, glyphs: &str) -> Result<Vec<u8>, String> {
     asked(file, glyphs, |table| table.write_sheet())
 }
 
+/// The bytes of a table file that is accepted, and its glyph count.
+fn accepted(file: &str, glyphs: &str) -> Result<(Vec<u8>, u32), String> {
+    asked(file, glyphs, |table| Ok((table.bytes().to_vec(), table.glyph_count())))
+}
+
+fn changed((first, n): &(Vec<u8>, u32), (second, m): &(Vec<u8>, u32), folds: bool) -> Answered {
+    let table = |bytes, glyphs| Table::new(bytes, glyphs).expect("an accepted table");
+    diff::diff(&table(first, *n), &table(second, *m), folds)
+}
+
 /// Tables mean the same exactly when their sheets are equal.
 fn same(a: &[u8], b: &[u8]) -> Answered {
     let said = if a == b { "the same\n" } else { "not the same\n" };
@@ -91,7 +108,7 @@ fn text(file: &str, glyphs: &str) -> Result<String, String> {
     asked(file, glyphs, |table| {
         let bytes = table.write_sheet()?;
         let sheet = Sheet::new(&bytes).expect("what was written is a sheet");
-        let mut out = format!("glyphs: {}\n", just::Meaning::glyph_count(&sheet));
+        let mut out = format!("glyphs: {}\n", sheet.glyph_count());
         for (name, direction) in [("horizontal", Direction::Horizontal), ("vertical", Direction::Vertical)] {
             put(&mut out, format_args!("{name}\n"));
             put_units(&mut out, "width", table.units(direction, Lookup::Width)?);
@@ -177,11 +194,15 @@ fn ems(fixed: i64) -> String {
 }
 
 fn pair_text(pair: &Pair) -> String {
+    format!("class {}: {}", pair.class, record_text(pair))
+}
+
+/// A record without its class.
+fn record_text(pair: &Pair) -> String {
     let side = |limits: Limits| format!("+{} -{}", ems(limits.grow.into()), ems(limits.shrink.into()));
     let rule = |rule: Rule| format!("{}{}", rule.priority, if rule.unlimited { " unlimited" } else { "" });
     format!(
-        "class {}: before {}, after {} em, priority growing {}, shrinking {}",
-        pair.class,
+        "before {}, after {} em, priority growing {}, shrinking {}",
         side(pair.before),
         side(pair.after),
         rule(pair.grow),

@@ -1,6 +1,8 @@
 //! Tables for the tests, built field by field.
 #![allow(dead_code)]
 
+pub mod command;
+
 /// The glyph count that Apple's examples are read with.
 pub const GLYPHS: u32 = 280;
 
