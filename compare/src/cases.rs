@@ -49,6 +49,38 @@ pub fn shared_array(width: u16, places: u16) -> Vec<u8> {
     (0..places).fold(fields, |fields, _| cluster(fields, 7)).done()
 }
 
+/// One unit of format 2 for all glyphs, and its cluster.
+pub fn one_unit(grow: u32) -> Vec<u8> {
+    cluster(head(16 + 18).ws(&[2, 6, 1, 0, 0, 0]).ws(&[0xFFFE, 0, 0]), grow).done()
+}
+
+/// Units of format 4 that cover every glyph and share one array of `width` values, which lead in turn to two places with the same
+/// cluster of 128 pairs: no two glyphs beside each other have one place.
+pub fn turned_rows(width: u16) -> Vec<u8> {
+    let units = u16::MAX / width;
+    let array = 12 + 6 * units;
+    let size = 4 + 24 * 128;
+    let mut fields = head(16 + array + 2 * width).ws(&[4, 6, units, 0, 0, 0]);
+    for unit in 0..units {
+        fields = fields.ws(&[unit * width + (width - 1), unit * width, array]);
+    }
+    fields = (0..width).fold(fields, |fields, value| fields.w(size * (value % 2)));
+    let pairs =
+        |fields: Fields| (0..128).fold(fields.l(128), |fields, class| fields.ls(&[class, 7, 7, 7, 7]).ws(&[1, 1]));
+    pairs(pairs(fields)).done()
+}
+
+/// A second delivery of Apple's complex example: the classes of glyphs 100 to 102, a cell, a limit of glyphs 3 to 226, and the
+/// glyph that their action adds.
+pub fn delivered() -> Vec<u8> {
+    let mut table = reference::examples::complex();
+    table[285..288].fill(1);
+    table[431] = 1;
+    table[110] = 0x40;
+    table[165] = 225;
+    table
+}
+
 /// Format 8 for glyphs 0, 1, .., whose values are these offsets from the clusters.
 pub fn trimmed(values: &[u16]) -> Fields {
     let count = values.len() as u16;

@@ -16,6 +16,7 @@ pub mod letters;
 pub mod library;
 pub mod lines;
 pub mod marks;
+pub mod pairs;
 pub mod parts;
 pub mod peers;
 pub mod questions;

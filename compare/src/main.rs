@@ -3,7 +3,7 @@
 
 use compare::questions::Questions;
 use compare::tally::Tally;
-use compare::{crowded, edges, finds, lines, marks, samples, sheets, tables, Outcome};
+use compare::{crowded, edges, finds, lines, marks, pairs, samples, sheets, tables, Outcome};
 use just_raw::Table;
 use std::process::ExitCode;
 use std::time::{Duration, Instant};
@@ -41,9 +41,10 @@ fn asked() -> Result<Asked, String> {
 /// The kinds of cases, each with its comparison.
 type Kind = (&'static str, fn(u64, u64, &mut Tally) -> Outcome);
 
-const KINDS: [Kind; 7] = [
+const KINDS: [Kind; 8] = [
     ("table", table_case),
     ("find", find_case),
+    ("pair", pair_case),
     ("sheet", sheet_case),
     ("line", line_case),
     ("edges", edges_case),
@@ -68,6 +69,14 @@ fn find_case(seed: u64, index: u64, tally: &mut Tally) -> Outcome {
     }
     let (bytes, glyph_count) = finds::draw(seed, index);
     finds::compare(Table { bytes: &bytes, glyph_count }, &mut Questions::new(seed, index), tally)
+}
+
+/// The differences are listed eight times: every third case is one.
+fn pair_case(seed: u64, index: u64, tally: &mut Tally) -> Outcome {
+    if index % 3 != 0 {
+        return Ok(());
+    }
+    pairs::compare(&pairs::draw(seed, index), &mut Questions::new(seed, index), tally)
 }
 
 fn sheet_case(seed: u64, index: u64, _: &mut Tally) -> Outcome {

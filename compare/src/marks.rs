@@ -1,7 +1,7 @@
 //! What a drawn line shows, by name, and how often a long run has to meet each.
 
 use crate::tally::Tally;
-use crate::{edges, finds};
+use crate::{edges, finds, pairs};
 use reference::generate::LineCase;
 use reference::line::{classes_of, rooms_of, MOST_TOTAL, MOST_WIDTH};
 use reference::meaning::DELETED;
@@ -84,6 +84,7 @@ pub fn wanted() -> Vec<(String, u64)> {
     SHOWN.iter().for_each(|(shown, _)| want(shown.to_string()));
     edges::marks().for_each(&mut want);
     finds::MARKS.iter().for_each(|mark| want(mark.to_string()));
+    pairs::MARKS.iter().for_each(|mark| want(mark.to_string()));
     for stage in 0..STAGES {
         BESIDE.iter().for_each(|beside| want(cap_mark(beside, stage)));
     }

@@ -5,7 +5,7 @@
 
 use compare::questions::Questions;
 use compare::{cases, clock, drafts, letters, library, lines, peers};
-use just_raw::{Lent, Sheet, Table, Verdict};
+use just_raw::{Difference, Lent, Sheet, Table, Verdict};
 use reference::examples::{complex, simple};
 use reference::{Direction, Parts};
 use std::hint::black_box;
@@ -81,10 +81,14 @@ fn print_case(mut case: Case) {
 }
 
 fn print_group(title: &str, cases: Vec<Case>) {
+    print_by(title, ["ns a byte", "times an ordinary one"], cases);
+}
+
+/// A group whose last two columns, the library's time for each of something and beside something else, are these.
+fn print_by(title: &str, [each, beside]: [&str; 2], cases: Vec<Case>) {
     let words = std::env::args().skip(1).collect::<Vec<_>>().join(" ");
-    println!(
-        "\n{title}\n\n| case | library, µs | second program, µs | ratio | library, ns a byte | times an ordinary one |\n|---|---|---|---|---|---|"
-    );
+    println!("\n{title}\n\n| case | library, µs | second program, µs | ratio | library, {each} | {beside} |");
+    println!("|---|---|---|---|---|---|");
     cases.into_iter().filter(|case| case.name.contains(&words)).for_each(print_case);
 }
 
@@ -132,6 +136,26 @@ fn record(name: &str, sheet: &[u8], glyph: u16) -> Case {
         read.map(|read| read.width_record(Direction::Horizontal, glyph.into(), 0))
     };
     Case::new(format!("sheet_record: {name}"), sheet.len(), library, second)
+}
+
+/// The list of what two tables differ in, beside judging both. What is counted for each is the differences, or the bytes of
+/// both tables where there are none.
+fn differences(name: &str, first: &[u8], second: &[u8], n: u32) -> Case {
+    let count = reference::differences(first, second, n).expect("accepted tables").len();
+    let each = if count == 0 { first.len() + second.len() } else { count };
+    let [ours, theirs, judged] = [(); 3].map(|_| [first.to_vec(), second.to_vec()]);
+    let mut room = vec![Difference::default(); count];
+    let library = move || {
+        let [first, second] = black_box(&ours);
+        Table { bytes: first, glyph_count: n }.differences(second, black_box(&mut room))
+    };
+    let second = move || {
+        let [first, second] = black_box(&theirs);
+        reference::differences(first, second, n)
+    };
+    let both = move || black_box(&judged).each_ref().map(|bytes| Table { bytes, glyph_count: n }.check());
+    let judging = Case::new("judging both".into(), each, both, || ());
+    Case::new(format!("differences: {name}, {count} of them"), each, library, second).beside(vec![judging])
 }
 
 /// The whole call, with the table's check.
@@ -283,6 +307,37 @@ fn hostile_rest() -> Vec<Case> {
     ]
 }
 
+/// Pairs of tables that mean the same.
+fn equal_pairs() -> Vec<Case> {
+    let (units, rows) = (cases::ranges(5_000, 13, 8), cases::turned_rows(255));
+    let (nested, lists) = (cases::nested_rows(), cases::shared_lists(148));
+    vec![
+        differences("Apple's complex example twice, N 280", &complex(), &complex(), 280),
+        differences("5,000 format 2 units, N 65,535", &units, &units, 65_535),
+        differences("clusters inside each other", &nested, &nested, 1_152),
+        differences("clusters of 128 pairs at two places in turn, N 65,535", &rows, &rows, 65_535),
+        differences("148 lists of 64 actions for 65,416 glyphs in turn", &lists, &lists, 65_416),
+    ]
+}
+
+/// Pairs of tables that do not.
+fn unlike_pairs() -> Vec<Case> {
+    let (one, other) = (cases::one_unit(7), cases::one_unit(8));
+    let (units, fewer) = (cases::ranges(5_000, 13, 8), cases::ranges(5_000, 13, 7));
+    vec![
+        differences("Apple's complex example, a second delivery, N 280", &complex(), &cases::delivered(), 280),
+        differences("Apple's simple and complex examples, N 280", &simple(), &complex(), 280),
+        differences("one changed cluster, N 65,535", &one, &other, 65_535),
+        differences("all of 5,000 units changed but an eighth, N 65,535", &units, &fewer, 65_535),
+        differences(
+            "a cluster of 128 pairs in one table alone, N 65,535",
+            &cases::turned_rows(255),
+            &drafts::empty(),
+            65_535,
+        ),
+    ]
+}
+
 fn doubled() -> Vec<Case> {
     let mut cases = Vec::new();
     for units in [625, 1_250, 2_500, 5_000] {
@@ -315,5 +370,7 @@ fn main() {
     print_group("Clusters that overlap, units that share arrays, and a large machine", hostile_clusters());
     print_group("Lists that overlap", hostile_lists());
     print_group("Other hostile inputs", hostile_rest());
+    print_by("Two deliveries that mean the same", ["ns a byte", "times judging both"], equal_pairs());
+    print_by("Two deliveries that do not", ["ns a difference", "times judging both"], unlike_pairs());
     print_group("Bytes, N, glyphs and distinct clusters doubled", doubled());
 }
