@@ -4,7 +4,7 @@ use mathlib.Core.List.{List, [], _∷_}
 use lib.ListN.{getD}
 use mathlib.Core.Path.{_≡_, refl, sym, _∙_, ap}
 use Rattle.fields.specs.declared.Refusal.{Refusal}
-use Rattle.fields.specs.declared.Refusal.the-variants.{TableLength, GlyphCount, Version, Outside, BadLookup, BadCluster, BadMachine, BadActions, UnequalLengths, LongLine, PointSize, Advances, UnknownGlyph, EndlessWalk, StageTotal, ShortRoom, NotSheet, UnknownEdition}
+use Rattle.fields.specs.declared.Refusal.the-variants.{TableLength, GlyphCount, Version, Outside, BadLookup, BadCluster, BadMachine, BadActions, UnequalLengths, LongLine, PointSize, Advances, UnknownGlyph, EndlessWalk, StageTotal, ShortRoom, NotSheet, UnknownEdition, FontEnds, MissingTable, WrongSum}
 
 abbrev pub numberOf : Refusal → ℕ
 numberOf TableLength = 1
@@ -25,13 +25,16 @@ numberOf StageTotal = 15
 numberOf ShortRoom = 16
 numberOf NotSheet = 17
 numberOf UnknownEdition = 18
+numberOf FontEnds = 21
+numberOf MissingTable = 22
+numberOf WrongSum = 23
 
--- the refusals in the order of their numbers
+-- the refusals by their numbers, from 1 on; 19 and 20 are none, and what stands there is not looked at
 inOrder : List Refusal
 inOrder =
     TableLength ∷ GlyphCount ∷ Version ∷ Outside ∷ BadLookup ∷ BadCluster ∷ BadMachine ∷ BadActions ∷ UnequalLengths ∷ LongLine
     ∷ PointSize ∷ Advances ∷ UnknownGlyph ∷ EndlessWalk ∷ StageTotal ∷ ShortRoom ∷ NotSheet
-    ∷ UnknownEdition ∷ []
+    ∷ UnknownEdition ∷ NotSheet ∷ NotSheet ∷ FontEnds ∷ MissingTable ∷ WrongSum ∷ []
 
 withNumber : ℕ → Refusal
 unfolding inOrder
@@ -57,6 +60,9 @@ withNumber-of StageTotal = refl
 withNumber-of ShortRoom = refl
 withNumber-of NotSheet = refl
 withNumber-of UnknownEdition = refl
+withNumber-of FontEnds = refl
+withNumber-of MissingTable = refl
+withNumber-of WrongSum = refl
 
 -- no two refusals have one number
 pub one-number : (r s : Refusal) → numberOf r ≡ numberOf s → r ≡ s

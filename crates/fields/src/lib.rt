@@ -10,7 +10,7 @@ ghost use Rattle.fields.specs.Field.{u16At, u32At, be16, be32};
 ghost use Rattle.fields.specs.Refusals.{numberOf};
 ghost use Rattle.fields.specs.Faults.{_then_, rule, inside};
 
-// The refusals, each named by what is wrong, in the order of their numbers, 1 to 18.
+// The refusals, each named by what is wrong, in the order of their numbers, 1 to 18 and 21 to 23.
 pub enum Refusal {
     TableLength,
     GlyphCount,
@@ -30,6 +30,9 @@ pub enum Refusal {
     ShortRoom,
     NotSheet,
     UnknownEdition,
+    FontEnds,
+    MissingTable,
+    WrongSum,
 }
 
 // No fault, or a refusal and, for 4 to 8, the offset of the first byte of the field that was found or judged; 0 for
@@ -62,6 +65,9 @@ pub fn number_of(refusal: Refusal) -> u32
         Refusal::ShortRoom => 16,
         Refusal::NotSheet => 17,
         Refusal::UnknownEdition => 18,
+        Refusal::FontEnds => 21,
+        Refusal::MissingTable => 22,
+        Refusal::WrongSum => 23,
     }
 }
 

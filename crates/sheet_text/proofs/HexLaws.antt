@@ -9,7 +9,7 @@ use lib.ListN.{length, getD, set, take, drop, length-append, length-drop, drop-o
 use lib.Seq.{sets, sets-eq, drop-cons, drop-drop, take-all}
 use borrow.Author.Tests.{lt-ltb, le-ltb}
 use Rattle.fields.specs.declared.Refusal.{Refusal}
-use Rattle.fields.specs.declared.Refusal.the-variants.{TableLength, GlyphCount, Version, Outside, BadLookup, BadCluster, BadMachine, BadActions, UnequalLengths, LongLine, PointSize, Advances, UnknownGlyph, EndlessWalk, StageTotal, ShortRoom, NotSheet, UnknownEdition}
+use Rattle.fields.specs.declared.Refusal.the-variants.{TableLength, GlyphCount, Version, Outside, BadLookup, BadCluster, BadMachine, BadActions, UnequalLengths, LongLine, PointSize, Advances, UnknownGlyph, EndlessWalk, StageTotal, ShortRoom, NotSheet, UnknownEdition, FontEnds, MissingTable, WrongSum}
 use Rattle.fields.specs.Refusals.{numberOf}
 use Rattle.fields.specs.Stores.{put-two}
 use Rattle.sheet_text.specs.Printed.{newline, digitOf, hexOf, lineOf, perLine, printedSheet, refused, decimalOf, printedRefusal}
@@ -93,7 +93,7 @@ stored-refusal n end l₀ l₁ l₂ h word number =
     record { count = omega (arith, number .end); bytes = all ∙ stored-first (refused ++ (decimalOf n ++ last)) l₀ (omega arith) }
 
 -- the numbers of the refusals are small
-pub number-most : (r : Refusal) → numberOf r ≤ 18
+pub number-most : (r : Refusal) → numberOf r ≤ 23
 number-most TableLength = omega arith
 number-most GlyphCount = omega arith
 number-most Version = omega arith
@@ -112,3 +112,6 @@ number-most StageTotal = omega arith
 number-most ShortRoom = omega arith
 number-most NotSheet = omega arith
 number-most UnknownEdition = omega arith
+number-most FontEnds = omega arith
+number-most MissingTable = omega arith
+number-most WrongSum = omega arith

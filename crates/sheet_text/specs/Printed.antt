@@ -53,6 +53,6 @@ refused = 114 ∷ 101 ∷ 102 ∷ 117 ∷ 115 ∷ 101 ∷ 100 ∷ 32 ∷ []
 unfoldable pub decimalOf : ℕ → List ℕ
 decimalOf n = cond (ltb n 10) (digitOf n ∷ []) (digitOf (n / 10) ∷ digitOf (n % 10) ∷ [])
 
--- the line of the refusal with this number, 1 to 17
+-- the line of the refusal with this number
 unfoldable pub printedRefusal : ℕ → List ℕ
 printedRefusal number = refused ++ (decimalOf number ++ (newline ∷ []))
