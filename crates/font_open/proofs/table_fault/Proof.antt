@@ -1,0 +1,42 @@
+-- `font_open::table_fault` meets its contract.
+use Rattle.font_open.proofs.Laws.{table-as}
+use borrow.Author.Needs.{needs}
+use Rattle.font_open.proofs.table_fault.Statement.{statement}
+use Rattle.font_open.proofs.table_fault.Tie as tie
+
+cast-from : tie.Need-cast-from
+cast-from c = search needs
+
+cast-to : tie.Need-cast-to
+cast-to c = search needs
+
+add-to : tie.Need-add-to
+add-to c = search needs
+
+sub-table-fault : tie.Need-sub-table-fault
+sub-table-fault c = search needs
+
+part-table-fault-start : tie.Need-part-table-fault-start
+part-table-fault-start c = search needs
+
+part-table-fault-end : tie.Need-part-table-fault-end
+part-table-fault-end c = search needs
+
+table-fault-requires : tie.Need-table-fault-requires
+table-fault-requires c κs = search needs
+
+returns : tie.Need-returns
+returns c = let a = c .before .before .before .before .before .args in table-as (a .font .now) (a .place) (a .count) (c .table-fault .ensures)
+
+pub table-fault-spec : {M : Type 1} → statement M
+table-fault-spec =
+    tie.close
+    (tie.spec
+    cast-from
+    cast-to
+    add-to
+    sub-table-fault
+    part-table-fault-start
+    part-table-fault-end
+    table-fault-requires
+    returns)
