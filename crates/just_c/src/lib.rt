@@ -10,6 +10,8 @@ ghost use Rattle.table.specs.Means.{meaningOf};
 ghost use Rattle.table_ask.specs.Components.{componentsOf};
 ghost use Rattle.table_find.specs.Values.{valueAsked, unitsAsked};
 ghost use Rattle.table_find.specs.ValuesInC.{kindIn, valueIn, unitsOut};
+ghost use Rattle.font_open.specs.Opened.{fontOpened};
+ghost use Rattle.font_open.specs.OpenedInC.{fontIn};
 ghost use Rattle.sheet_write.specs.Written.{saysLength, saysWritten, sheetLength, written};
 ghost use Rattle.just_c.specs.InC.{checkedIn, countIn, sizesIn, classIn, cellIn, recordIn, noPair, actionIn, actionOut, stretchIn};
 ghost use Rattle.just_c.specs.SheetInC.{SheetNumber, Given};
@@ -24,6 +26,7 @@ use answers::CountAnswer;
 use answers::RecordAnswer;
 use answers::SizesAnswer;
 use answers::Sought;
+use font_open::JustFont;
 use sheet_write::LengthAnswer;
 use sheet_write::WriteAnswer;
 use table_find::JustUnits;
@@ -453,6 +456,15 @@ pub extern "C" fn just_table_components(
         offset: from,
         length: to - from,
     }
+}
+
+// Where the 'just' table of a whole font stands, its length and the font's glyph count: every call for a table takes that
+// stretch of the font with that count.
+#[no_mangle]
+pub extern "C" fn just_open_font(font: &[u8]) -> JustFont
+    ensures { λ r. ⌜ r ≡ fontIn (fontOpened (now (font .entry))) ⌝ }
+{
+    font_open::font_out(font_open::open_font(font))
 }
 
 // How long the sheet of a table is, in bytes: as much room as writing it needs.

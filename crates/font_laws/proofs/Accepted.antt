@@ -1,0 +1,92 @@
+-- What an opened font gives back serves every call for a table; its refusals have offset 0 but for 4 to 8.
+use Prim.Native.Nat.{ℕ, _+_, _≤_}
+use mathlib.Core.Path.{_≡_, refl, sym, ap, ap₂, _∙_}
+use mathlib.Core.Logic.{inr}
+use mathlib.Core.List.{List}
+use native.Mathlib.Omega.{arith}
+use lib.Dec.{leb}
+use lib.ListN.{length, take, drop}
+use Rattle.fields.specs.declared.Fault.{Fault}
+use Rattle.fields.specs.declared.Fault.the-variants.{Clear, Bad}
+use Rattle.fields.specs.declared.Refusal.the-variants.{FontEnds}
+use Rattle.fields.specs.Faults.{_then_, rule}
+use Rattle.fields.specs.Refusals.{numberOf}
+use Rattle.fields.specs.Laws.{then-first, then-second}
+use Rattle.meaning.specs.Ask.{ask}
+use Rattle.answers.specs.Says.{judgedBy, unlessBad}
+use Rattle.table.specs.Table.{tableFault, Accepted}
+use Rattle.table.specs.Means.{meaningOf}
+use Rattle.table_laws.specs.Offsets.{Offset, Placed}
+use Rattle.table_laws.proofs.Faults.{no-fault, good-header}
+use Rattle.table_laws.proofs.Placed.{placed-bad, placed-table, zero-at, _and_}
+use Rattle.sheet_write.specs.Written.{sheetOf, lengthBy, sheetLength, writtenBy, written}
+use Rattle.font_directory.specs.declared.TableRecord.{TableRecord}
+use Rattle.font_directory.specs.declared.Listing.{Listing}
+use Rattle.font_directory.specs.declared.Listing.the-variants.{Listed, Missing}
+use Rattle.font_directory.specs.Directory.{firstListed, tableOf}
+use Rattle.font_open.specs.Opened.{just, maxp, countOf, insideFault, sumFault, placesFault, sumsFault, tablesFault, opened, refused, unlessRefused, openedBy, directoryFault, fontOpened}
+use Rattle.font_open.proofs.Laws.{places-clear}
+use Rattle.font_laws.specs.Accepted.{stretch, Serves, Opens}
+
+-- an accepted table serves every call
+serving : (t : List ℕ) (n : ℕ) → tableFault t n ≡ Clear → Serves t n
+unfolding Accepted sheetLength written writtenBy
+serving t n e =
+    record {
+      clear = e;
+      header = good-header t n .0 (no-fault t n .0 e .0);
+      checked = λ r p. p ∙ ap judgedBy e;
+      asked = λ q r p. p ∙ ap (λ (f : Fault). unlessBad f (ask (meaningOf t n) q)) e;
+      measured = λ r p. p ∙ ap (λ (f : Fault). lengthBy f (sheetOf t n)) e;
+      wrote = λ room. ap (λ (f : Fault). writtenBy f (sheetOf t n) room) e;
+    }
+
+module _ (font : List ℕ) where
+  -- two tables without fault
+  no-faults : (j m : TableRecord) → tablesFault font j m ≡ Clear → Opens font (j .offset) (j .length) (countOf font m)
+  unfolding tablesFault tableOf
+  no-faults j m e =
+      let rest = then-second (placesFault font j m) (sumsFault font j m then tableFault (tableOf font j) (countOf font m)) e in
+      record {
+        inside = places-clear font j m (then-first (placesFault font j m) (sumsFault font j m then tableFault (tableOf font j) (countOf font m)) e) .0;
+        serves = serving (tableOf font j) (countOf font m) (then-second (sumsFault font j m) (tableFault (tableOf font j) (countOf font m)) rest);
+      }
+
+  pub opened-serves : (offset size n : ℕ) → fontOpened font ≡ opened offset size n → Opens font offset size n
+  unfolding fontOpened
+  opened-serves offset size n e = by (directoryFault font) (firstListed font just) (firstListed font maxp) e
+    where
+      found : (j m : TableRecord) (f : Fault) → tablesFault font j m ≡ f
+          → unlessRefused f (opened (j .offset) (j .length) (countOf font m)) ≡ opened offset size n → Opens font offset size n
+      found j m Clear q e =
+          let a : j .offset ≡ offset = cc in
+          let b : j .length ≡ size = cc in
+          let d : countOf font m ≡ n = cc in
+          rw (a, b, d) at (no-faults j m q)
+      found j m (Bad r at) q e = let z : _≡_ {A = ℕ} 0 1 = cc in absurd (omega arith)
+
+      by : (f : Fault) (x y : Listing) → unlessRefused f (openedBy font x y) ≡ opened offset size n → Opens font offset size n
+      by (Bad r at) x y e = let z : _≡_ {A = ℕ} 0 1 = cc in absurd (omega arith)
+      by Clear (Listed j) (Listed m) e = found j m (tablesFault font j m) refl e
+      by Clear (Listed j) Missing e = let z : _≡_ {A = ℕ} 0 1 = cc in absurd (omega arith)
+      by Clear Missing y e = let z : _≡_ {A = ℕ} 0 1 = cc in absurd (omega arith)
+
+  -- ---- offsets (document 02, 4/14)
+
+  placed-tables : (j m : TableRecord) → Placed (tablesFault font j m)
+  unfolding tablesFault placesFault sumsFault insideFault sumFault
+  placed-tables j m = (zero-at _ _ and zero-at _ _ and zero-at _ _) and (zero-at _ _ and zero-at _ _) and placed-table (tableOf font j) (countOf font m)
+
+  pub placed-font : (number at : ℕ) → fontOpened font ≡ refused number at → Offset number at
+  unfolding fontOpened directoryFault
+  placed-font number at e = by (directoryFault font) (zero-at _ FontEnds) (firstListed font just) (firstListed font maxp) e
+    where
+      told : (f : Fault) → Placed f → (o l n : ℕ) → unlessRefused f (opened o l n) ≡ refused number at → Offset number at
+      told Clear p o l n e = let z : _≡_ {A = ℕ} 0 1 = cc in absurd (omega arith)
+      told (Bad r q) p o l n e = let k : numberOf r ≡ number = cc in let i : q ≡ at = cc in rw (k, i) at (placed-bad p refl)
+
+      by : (f : Fault) → Placed f → (x y : Listing) → unlessRefused f (openedBy font x y) ≡ refused number at → Offset number at
+      by (Bad r q) p x y e = let k : numberOf r ≡ number = cc in let i : q ≡ at = cc in rw (k, i) at (placed-bad p refl)
+      by Clear p (Listed j) (Listed m) e = told (tablesFault font j m) (placed-tables j m) _ _ _ e
+      by Clear p (Listed j) Missing e = let i : 0 ≡ at = cc in inr (sym i)
+      by Clear p Missing y e = let i : 0 ≡ at = cc in inr (sym i)

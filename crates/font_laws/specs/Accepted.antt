@@ -1,0 +1,32 @@
+-- "hand the stretch holding 'just' to the reader and, where it is accepted, give back its offset, its length and the count" (document 02, 12/14): what is given back
+-- serves every call for a table.
+use Prim.Native.Nat.{ℕ, _+_, _≤_}
+use mathlib.Core.Path.{_≡_}
+use mathlib.Core.List.{List}
+use lib.ListN.{length, take, drop}
+use Rattle.meaning.specs.Ask.{Question, ask}
+use Rattle.answers.specs.declared.Checked.{Checked}
+use Rattle.answers.specs.Says.{accepted, judgedBy, saysChecked, Reply, given, unlessBad}
+use Rattle.table.specs.Table.{tableFault, Accepted}
+use Rattle.table.specs.Means.{meaningOf}
+use Rattle.table_laws.specs.Order.{GoodHeader}
+use Rattle.sheet_write.specs.declared.LengthAnswer.{LengthAnswer}
+use Rattle.sheet_write.specs.Written.{saysLength, sheetOf, sheetLength, bytes, written, stored}
+
+-- the bytes that are handed to the reader
+abbrev pub stretch : List ℕ → ℕ → ℕ → List ℕ
+stretch font offset size = take size (drop offset font)
+
+-- the table `t` is accepted with `n`: it has no fault, and so each call, by what it promises of a table and a count, gives what it is asked for and no refusal
+pub record Serves (t : List ℕ) (n : ℕ) : Type 0 where
+  pub clear : Accepted t n
+  pub header : GoodHeader t n
+  pub checked : (r : Checked) → saysChecked r ≡ judgedBy (tableFault t n) → saysChecked r ≡ accepted
+  pub asked : (q : Question) (r : Reply) → r ≡ unlessBad (tableFault t n) (ask (meaningOf t n) q) → r ≡ given (ask (meaningOf t n) q)
+  pub measured : (r : LengthAnswer) → saysLength r ≡ sheetLength t n → saysLength r ≡ bytes (length (sheetOf t n))
+  pub wrote : (room : List ℕ) → written t n room ≡ stored (sheetOf t n) room
+
+-- the stretch is wholly in the font, and its table serves with the count
+pub record Opens (font : List ℕ) (offset size n : ℕ) : Type 0 where
+  pub inside : offset + size ≤ length font
+  pub serves : Serves (stretch font offset size) n
