@@ -1,7 +1,6 @@
 -- Small fonts: what opening each of them answers, computed.
-use mathlib.Core.Path.{_≡_, refl}
-use mathlib.Core.List.{List}
 use Prim.Native.Nat.{ℕ}
+use mathlib.Core.Path.{_≡_, refl}
 use lib.ListN.{take}
 use Rattle.fields.specs.Field.{u16At, u32At}
 use Rattle.fields.specs.Faults.{_then_, rule, inside}
@@ -11,7 +10,59 @@ use Rattle.font_directory.specs.Directory.{firstFrom, firstListed, tableOf}
 use Rattle.font_open.specs.Opened.{insideFault, sumFault, placesFault, sumsFault, tablesFault, opened, refused, directoryFault, fontOpened}
 use Rattle.font_laws.specs.Samples.{wholeFont, twiceListed, withoutMaxp, shortMaxp, neighbourSum, shortSum, newVersion, newVersionWrongSum, strayDirection}
 
--- 'just' stands at 44, has 10 bytes, and there are 3 glyphs
+-- 'just' stands at 44 and has 10 bytes, and there are 3 glyphs
 pub whole : fontOpened wholeFont ≡ opened 44 10 3
 unfolding wholeFont u16At u32At _then_ rule wordSum checksumOf firstFrom firstListed tableOf insideFault sumFault placesFault sumsFault tablesFault directoryFault fontOpened present headerFault directionFault tableFault
 whole = refl
+
+-- its last byte, which is the last of 'maxp', is missing
+pub cut-in-maxp : fontOpened (take 60 wholeFont) ≡ refused 21 0
+unfolding wholeFont u16At u32At _then_ rule firstFrom firstListed insideFault placesFault tablesFault directoryFault fontOpened
+cut-in-maxp = refl
+
+-- the directory's last byte is missing
+pub cut-in-directory : fontOpened (take 43 wholeFont) ≡ refused 21 0
+unfolding wholeFont u16At rule directoryFault fontOpened
+cut-in-directory = refl
+
+-- the first of two records counts
+pub twice : fontOpened twiceListed ≡ opened 60 10 3
+unfolding twiceListed u16At u32At _then_ rule wordSum checksumOf firstFrom firstListed tableOf insideFault sumFault placesFault sumsFault tablesFault directoryFault fontOpened present headerFault directionFault tableFault
+twice = refl
+
+pub missing : fontOpened withoutMaxp ≡ refused 22 0
+unfolding withoutMaxp u16At u32At rule firstFrom firstListed directoryFault fontOpened
+missing = refl
+
+-- 22 comes before 21: 'just', too, is not wholly in this file
+pub missing-first : fontOpened (take 53 withoutMaxp) ≡ refused 22 0
+unfolding withoutMaxp u16At u32At rule firstFrom firstListed directoryFault fontOpened
+missing-first = refl
+
+pub short-maxp : fontOpened shortMaxp ≡ refused 21 0
+unfolding shortMaxp u16At u32At _then_ rule firstFrom firstListed insideFault placesFault tablesFault directoryFault fontOpened
+short-maxp = refl
+
+-- no byte after a table counts in its checksum
+pub neighbour : fontOpened neighbourSum ≡ refused 23 0
+unfolding neighbourSum u16At u32At _then_ rule wordSum checksumOf firstFrom firstListed tableOf insideFault sumFault placesFault sumsFault tablesFault directoryFault fontOpened
+neighbour = refl
+
+-- the last word counts, though it is not whole
+pub last-word : fontOpened shortSum ≡ refused 23 0
+unfolding shortSum u16At u32At _then_ rule wordSum checksumOf firstFrom firstListed tableOf insideFault sumFault placesFault sumsFault tablesFault directoryFault fontOpened
+last-word = refl
+
+-- a table's own refusal, which comes after 23
+pub version : fontOpened newVersion ≡ refused 3 0
+unfolding newVersion u16At u32At _then_ rule wordSum checksumOf firstFrom firstListed tableOf insideFault sumFault placesFault sumsFault tablesFault directoryFault fontOpened headerFault tableFault
+version = refl
+
+pub sum-first : fontOpened newVersionWrongSum ≡ refused 23 0
+unfolding newVersionWrongSum u16At u32At _then_ rule wordSum checksumOf firstFrom firstListed tableOf insideFault sumFault placesFault sumsFault tablesFault directoryFault fontOpened
+sum-first = refl
+
+-- its offset counts from the start of 'just'
+pub stray : fontOpened strayDirection ≡ refused 4 10
+unfolding strayDirection u16At u32At _then_ rule inside wordSum checksumOf firstFrom firstListed tableOf insideFault sumFault placesFault sumsFault tablesFault directoryFault fontOpened present headerFault offsetsFault directionFault tableFault
+stray = refl
