@@ -23,5 +23,9 @@ fn main() {
     time("check_long", &long, |(table, n)| check_table(table, *n).is_ok() as usize);
     time("write_sheet", &tables, |(table, n)| write_sheet(table, *n).map_or(0, |sheet| sheet.len()));
     time("check_sheet", &sheets, |sheet| check_sheet(sheet) as usize);
+    let pairs: Vec<_> = (0..DRAWS / 10).map(|index| generate::pair(1, index)).collect();
+    let fonts: Vec<_> = (0..DRAWS).map(|index| generate::font(1, index)).collect();
+    time("differences", &pairs, |case| case.differences().map_or(0, |list| list.len()));
+    time("open_font", &fonts, |font| open_font(font).is_ok() as usize);
     time("justify", &lines, |case| case.justify().map_or(0, |answer| answer.verdicts.len()));
 }

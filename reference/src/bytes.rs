@@ -37,6 +37,9 @@ pub const ACTIONS: u32 = 8;
 pub const ROOM: u32 = 16;
 pub const SHEET: u32 = 17;
 pub const EDITION: u32 = 18;
+pub const FONT: u32 = 21;
+pub const MISSING: u32 = 22;
+pub const CHECKSUM: u32 = 23;
 
 /// Passes over a field that keeps its rule; otherwise gives the fault.
 pub fn judge(kept: bool, number: u32, at: u64) -> Result<(), Fault> {

@@ -8,6 +8,7 @@ pub mod bytes;
 pub mod cluster;
 pub mod difference;
 pub mod examples;
+pub mod font;
 pub mod generate;
 pub mod line;
 pub mod lookup;
@@ -23,6 +24,7 @@ pub mod walk;
 
 pub use bytes::Fault;
 pub use difference::{differences, differences_into, Difference};
+pub use font::{open_font, Opened};
 pub use line::{justify, justify_with, one_size, Justified, Line, LineInput};
 pub use lookup::Found;
 pub use machine::Machine;

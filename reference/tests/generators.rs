@@ -3,7 +3,7 @@
 
 use std::collections::BTreeMap;
 
-use reference::bytes::get_u16;
+use reference::bytes::{get_u16, get_u32};
 use reference::generate;
 use reference::generate::rng::Rng;
 use reference::line::{classes_of, rooms_of};
@@ -438,6 +438,56 @@ fn pairs_show_every_difference() {
     let rare: Vec<&String> = wanted.iter().filter(|&kind| kinds.get(kind).is_none_or(|&met| met < 15)).collect();
     assert!(rare.is_empty(), "{rare:?}");
     assert!((1..=8).chain([16]).all(|number| refused[number] >= 3), "{refused:?}");
+}
+
+/// What a font shows, besides its answer.
+fn note_font(font: &[u8], note: &mut impl FnMut(&str, bool)) {
+    let there = (font.len().saturating_sub(12)) / 16;
+    if font.len() < 12 || there < get_u16(font, 4) as usize {
+        note("a header that is cut short", font.len() < 12);
+        note("a directory that is cut short", font.len() >= 12);
+        return;
+    }
+    let records: Vec<&[u8]> = font[12..].chunks(16).take(get_u16(font, 4) as usize).collect();
+    let of = |tag: &[u8]| records.iter().filter(|record| &record[..4] == tag).copied().collect::<Vec<_>>();
+    let place = |record: &[u8]| (get_u32(record, 8) as u64, get_u32(record, 12) as u64);
+    let (just, maxp) = (of(b"just"), of(b"maxp"));
+    note("'just' twice", just.len() > 1);
+    note("'maxp' twice", maxp.len() > 1);
+    note("'just' missing", just.is_empty());
+    note("'maxp' missing", maxp.is_empty());
+    if let (Some(just), Some(maxp)) = (just.first(), maxp.first()) {
+        let (a, b) = (place(just), place(maxp));
+        let inside = |(at, length): (u64, u64)| at + length <= font.len() as u64;
+        note("'just' outside", !inside(a));
+        note("'maxp' outside", !inside(b));
+        note("a sum past 32 bits", a.0 + a.1 > 1 << 32 || b.0 + b.1 > 1 << 32);
+        note("one byte past the end", a.0 + a.1 == font.len() as u64 + 1 || b.0 + b.1 == font.len() as u64 + 1);
+        note("'just' of length 0 at the end", a == (font.len() as u64, 0));
+        (4..=6).for_each(|length| note(&format!("'maxp' of {length} bytes"), b.1 == length));
+        let overlap = inside(a) && inside(b) && a.0 < b.0 + b.1 && b.0 < a.0 + a.1;
+        note("overlapping", overlap);
+        note("overlapping and accepted", overlap && open_font(font).is_ok());
+        let odd = (1..4).map(|rest| a.1 % 4 == rest).collect::<Vec<_>>();
+        (1..4).for_each(|rest| note(&format!("length past a multiple of four by {rest}"), odd[rest - 1]));
+    }
+}
+
+#[test]
+fn fonts_meet_every_refusal() {
+    let mut kinds = Kinds::new();
+    let mut counts = [0usize; 24];
+    for index in 0..DRAWS {
+        let font = generate::font(SEED, index);
+        assert!(index > 50 || font == generate::font(SEED, index));
+        counts[open_font(&font).map_or_else(|fault| fault.number as usize, |_| 0)] += 1;
+        note_font(&font, &mut |kind, met| *kinds.entry(kind.into()).or_default() += met as usize);
+    }
+    println!("fonts accepted {}, refused: {:?}; {kinds:?}", counts[0], &counts[1..]);
+    assert!((35..=60).contains(&(counts[0] * 100 / DRAWS as usize)), "{}", counts[0]);
+    assert!((1..=8).chain(21..=23).all(|number| counts[number] >= 20), "{counts:?}");
+    assert_eq!(kinds.len(), 19);
+    assert!(kinds.values().all(|&met| met >= 15), "{kinds:?}");
 }
 
 #[test]

@@ -2,6 +2,7 @@
 //! seed and the index alone.
 
 pub mod draft;
+pub mod fonts;
 pub mod greatest;
 pub mod lines;
 pub mod pairs;
@@ -49,6 +50,11 @@ pub fn line(seed: u64, index: u64) -> LineCase {
 /// Two tables read with one glyph count, and a room for their differences.
 pub fn pair(seed: u64, index: u64) -> PairCase {
     pairs::draw(&mut Rng::new(seed, index, 7))
+}
+
+/// A whole font; about half of them are accepted.
+pub fn font(seed: u64, index: u64) -> Vec<u8> {
+    fonts::draw(&mut Rng::new(seed, index, 8))
 }
 
 /// Bytes that are a sheet about half of the time.
