@@ -24,6 +24,7 @@ HAS_SIZE(just_record_answer, 48);
 HAS_SIZE(just_action_answer, 104);
 HAS_SIZE(just_value_answer, 24);
 HAS_SIZE(just_units_answer, 24);
+HAS_SIZE(just_font_answer, 32);
 HAS_SIZE(just_length_answer, 24);
 HAS_SIZE(just_line_answer, 32);
 

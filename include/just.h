@@ -55,7 +55,10 @@ enum just_refusal {
     JUST_STAGE_TOTAL = 15,    /* a stage's total of factors is above 8,589,934,592 units */
     JUST_SHORT_ROOM = 16,     /* verdicts, sheet or differences longer than the lent room */
     JUST_NOT_SHEET = 17,      /* bytes that are not a sheet */
-    JUST_UNKNOWN_EDITION = 18 /* an edition other than 1 and 2 */
+    JUST_UNKNOWN_EDITION = 18, /* an edition other than 1 and 2 */
+    JUST_FONT_ENDS = 21,      /* a font's directory, 'just' or 'maxp' is not wholly in it, or 'maxp' is under 6 bytes */
+    JUST_MISSING_TABLE = 22,  /* a font has no 'just' or no 'maxp' table */
+    JUST_WRONG_SUM = 23       /* the checksum of 'just' or 'maxp' is not the one that the font's directory has */
 };
 
 enum just_direction { JUST_HORIZONTAL = 0, JUST_VERTICAL = 1 };
@@ -180,6 +183,15 @@ struct just_units_answer {
     uint32_t most;
 };
 
+/* Where the 'just' table of a font begins, its length in bytes, and the font's glyph count. */
+struct just_font_answer {
+    uint32_t refusal;
+    uint64_t offset;
+    uint32_t table_offset;
+    uint32_t table_length;
+    uint32_t glyph_count;
+};
+
 /* How many bytes a sheet has. */
 struct just_length_answer {
     uint32_t refusal;
@@ -219,6 +231,13 @@ struct just_stretch {
     size_t offset;
     size_t length;
 };
+
+/* Opens a whole font: finds 'just' and 'maxp' in its directory, the first of each tag, and judges the 'just' table with the
+ * glyph count that 'maxp' has. Where it answers, `table_length` bytes from `font + table_offset` on are in the font, and
+ * every call below accepts them with `glyph_count`. The version of the font and its other tables are not looked at; a
+ * collection of fonts is no font. Refuses with 21 for the directory, 22, 21 for the two tables, 23, then the table's 1 to 8,
+ * whose offsets count from the start of 'just'. */
+struct just_font_answer just_open_font(const uint8_t *font, size_t length);
 
 /* Whether a table is accepted: refusal 0, or the number and the offset of its first fault. */
 struct just_checked just_check_table(const uint8_t *table, size_t length, uint32_t glyph_count);

@@ -10,6 +10,7 @@ pub mod crowded;
 pub mod drafts;
 pub mod edges;
 pub mod finds;
+pub mod fonts;
 pub mod guarded;
 pub mod hostile;
 pub mod letters;

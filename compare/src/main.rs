@@ -3,7 +3,7 @@
 
 use compare::questions::Questions;
 use compare::tally::Tally;
-use compare::{crowded, edges, finds, lines, marks, pairs, samples, sheets, tables, Outcome};
+use compare::{crowded, edges, finds, fonts, lines, marks, pairs, samples, sheets, tables, Outcome};
 use just_raw::Table;
 use std::process::ExitCode;
 use std::time::{Duration, Instant};
@@ -41,10 +41,11 @@ fn asked() -> Result<Asked, String> {
 /// The kinds of cases, each with its comparison.
 type Kind = (&'static str, fn(u64, u64, &mut Tally) -> Outcome);
 
-const KINDS: [Kind; 8] = [
+const KINDS: [Kind; 9] = [
     ("table", table_case),
     ("find", find_case),
     ("pair", pair_case),
+    ("font", font_case),
     ("sheet", sheet_case),
     ("line", line_case),
     ("edges", edges_case),
@@ -77,6 +78,10 @@ fn pair_case(seed: u64, index: u64, tally: &mut Tally) -> Outcome {
         return Ok(());
     }
     pairs::compare(&pairs::draw(seed, index), &mut Questions::new(seed, index), tally)
+}
+
+fn font_case(seed: u64, index: u64, tally: &mut Tally) -> Outcome {
+    fonts::compare(&fonts::draw(seed, index), tally)
 }
 
 fn sheet_case(seed: u64, index: u64, _: &mut Tally) -> Outcome {

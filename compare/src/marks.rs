@@ -1,7 +1,7 @@
 //! What a drawn line shows, by name, and how often a long run has to meet each.
 
 use crate::tally::Tally;
-use crate::{edges, finds, pairs};
+use crate::{edges, finds, fonts, pairs};
 use reference::generate::LineCase;
 use reference::line::{classes_of, rooms_of, MOST_TOTAL, MOST_WIDTH};
 use reference::meaning::DELETED;
@@ -85,6 +85,7 @@ pub fn wanted() -> Vec<(String, u64)> {
     edges::marks().for_each(&mut want);
     finds::MARKS.iter().for_each(|mark| want(mark.to_string()));
     pairs::MARKS.iter().for_each(|mark| want(mark.to_string()));
+    fonts::marks().into_iter().for_each(&mut want);
     for stage in 0..STAGES {
         BESIDE.iter().for_each(|beside| want(cap_mark(beside, stage)));
     }

@@ -5,10 +5,12 @@
 //!
 //! - [`Table`] is a table that was accepted with a glyph count; it justifies lines, writes its sheet and lists what a second
 //!   table has changed.
+//! - [`Font`] is a whole font, whose 'just' table was found and accepted with the font's own glyph count.
 //! - [`Sheet`] is bytes that were accepted as a sheet, the plain record of what a table means.
-//! - Both answer the questions of [`Meaning`].
+//! - [`Table`] and [`Sheet`] answer the questions of [`Meaning`].
 //! - Whatever is refused is refused with a [`Refusal`], which has the documents' number and, for faults in a table, the
-//!   byte; [`Field::of`] says which field stands there. A refusal changes no lent buffer.
+//!   byte; [`Field::of`] says which field stands there, [`FontPlace::of`] what of a font it is. A refusal changes no lent
+//!   buffer.
 //!
 //! One unit is 1/65,536 point, so [`POINT`] units are a point; limits are in ems, 65,536 to the em.
 //!
@@ -25,7 +27,9 @@
 #![forbid(unsafe_code)]
 
 mod difference;
+mod directory;
 mod field;
+mod font;
 mod layout;
 mod line;
 mod parts;
@@ -36,6 +40,7 @@ mod table;
 
 pub use difference::{Difference, DifferingPart, Mark, UnlikeCounts};
 pub use field::{Field, Place};
+pub use font::{Font, FontPlace};
 pub use line::{
     one_size, Answer, Justified, Lent, Line, Verdict, VerdictRecord, DELETED, GX_RULE, POINT, WITHIN_LIMITS,
 };

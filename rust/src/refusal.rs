@@ -25,6 +25,9 @@ pub enum Reason {
     ShortRoom,
     NotSheet,
     UnknownEdition,
+    FontEnds,
+    MissingTable,
+    WrongSum,
     /// A number that a later library gives and this layer does not know.
     Unknown(u32),
 }
@@ -49,6 +52,9 @@ const MEANINGS: &[(u32, Reason, &str)] = &[
     (16, Reason::ShortRoom, "the verdicts, the sheet or the differences are longer than the lent room"),
     (17, Reason::NotSheet, "the bytes are not a sheet"),
     (18, Reason::UnknownEdition, "the edition is neither 1 nor 2"),
+    (21, Reason::FontEnds, "the font's directory or its 'just' or 'maxp' table is not wholly there"),
+    (22, Reason::MissingTable, "the font has no 'just' or no 'maxp' table"),
+    (23, Reason::WrongSum, "the checksum of 'just' or 'maxp' is not the one that the font's directory has"),
 ];
 
 impl Reason {
@@ -149,6 +155,7 @@ mod tests {
     #[test]
     fn each_number_has_its_reason() {
         assert_eq!(answered(0, 0), Ok(()));
+        assert!(MEANINGS.is_sorted_by(|(a, ..), (b, ..)| a < b));
         for &(number, reason, meaning) in MEANINGS {
             let refusal = Refusal { reason, offset: 0 };
             assert_eq!(refusal.number(), number);

@@ -16,7 +16,7 @@ fn every_answer_begins_with_refusal_and_offset() {
     let bodies = header.split("\nstruct ").skip(1).filter_map(|text| text.split_once(" {\n"));
     let answers: Vec<(&str, &str)> =
         bodies.filter(|(name, _)| name.ends_with("_answer") || *name == "just_checked").collect();
-    assert_eq!(answers.len(), 11);
+    assert_eq!(answers.len(), 12);
     for (name, body) in answers {
         assert!(body.starts_with("    uint32_t refusal;\n    uint64_t offset;\n"), "{name}");
     }

@@ -129,6 +129,15 @@ pub struct Difference {
     pub numbers: [u16; 2],
 }
 
+/// Where the 'just' table of a font begins, its length in bytes, and the font's glyph count.
+#[derive(Clone, Copy, Debug, Default, PartialEq, Eq, Hash)]
+#[repr(C)]
+pub struct Opened {
+    pub table_offset: u32,
+    pub table_length: u32,
+    pub glyph_count: u32,
+}
+
 /// A stretch of a table: the offset of its first byte, and its length in bytes.
 #[derive(Clone, Copy, Debug, Default, PartialEq, Eq, Hash)]
 #[repr(C)]
@@ -149,6 +158,7 @@ const _: () = {
     assert!(size_of::<Part<Action>>() == 104);
     assert!(size_of::<Answer<Value>>() == 24);
     assert!(size_of::<Answer<Units>>() == 24);
+    assert!(size_of::<Answer<Opened>>() == 32);
     assert!(size_of::<Answer<crate::Said>>() == 32);
     assert!(size_of::<Difference>() == NUMBERS * size_of::<u16>());
 };

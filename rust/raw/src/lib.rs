@@ -9,14 +9,16 @@
 
 mod answers;
 mod differences;
+mod font;
 mod line;
 mod sheet;
 mod table;
 
 pub use answers::{
-    Action, Answer, Checked, Difference, Direction, Entry, Flags, Found, Limits, Lookup, Pair, Part, Sizes, Stretch,
-    Units, Value,
+    Action, Answer, Checked, Difference, Direction, Entry, Flags, Found, Limits, Lookup, Opened, Pair, Part, Sizes,
+    Stretch, Units, Value,
 };
+pub use font::Font;
 pub use line::{Lent, Line, Said, Verdict, GX_RULE, WITHIN_LIMITS};
 pub use sheet::Sheet;
 pub use table::Table;

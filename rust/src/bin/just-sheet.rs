@@ -1,24 +1,29 @@
-//! `just-sheet TABLE N`: the sheet of a table file read with N glyphs, in hex, four bytes a line.
-//! `just-sheet --text TABLE N`: the same, to be read, and how many units each lookup of the table has, which tables that
-//! mean the same need not have alike, and at most how many of them a find looks at.
-//! `just-sheet --same A B N [M]`: whether A, read with N glyphs, and B, read with M or N, mean the same.
-//! `just-sheet --diff [--each] A B N`: what changed from A to B, both read with N glyphs, in runs of glyphs or of each glyph.
+//! `just-sheet FONT`: the sheet of a font's 'just' table, read with the font's glyph count, in hex, four bytes a line.
+//! `just-sheet TABLE N`: the sheet of a table file read with N glyphs.
+//! `just-sheet --text ..`: the same, to be read, and how many units each lookup of the table has, which tables that mean the
+//! same need not have alike, and at most how many of them a find looks at.
+//! `just-sheet --same A B [N [M]]`: whether two fonts, or tables, mean the same. With both counts A and B are tables, read with
+//! N and M glyphs; else those with another format than 0, where a font has its table count, are fonts, and others are read
+//! with N. A font is compared only with what has as many glyphs.
+//! `just-sheet --diff [--each] A B [N]`: what changed from A to B, in runs of glyphs or of each glyph; they are told apart as
+//! for `--same`, and have one glyph count.
 //!
-//! Exit status: 0, or 1 where two tables do not mean the same, or 2 where something is refused or cannot be read. Of a table
-//! that is refused standard error says why, at which byte, and which field stands there; what has a number counts from 0.
+//! Exit status: 0, or 1 where two tables do not mean the same, or 2 where something is refused or cannot be read. Of a font or
+//! table that is refused standard error says why, at which byte of the table, and which field stands there; what has a
+//! number counts from 0.
 
 mod diff;
 
 use just::{
-    Act, Action, Direction, Entry, Field, Limits, Lookup, Machine, Meaning, Pair, Refusal, Rule, Run, Sheet, Side,
-    Table, Units,
+    Act, Action, Direction, Entry, Field, Font, FontPlace, Limits, Lookup, Machine, Meaning, Pair, Refusal, Rule, Run,
+    Sheet, Side, Table, Units,
 };
 use std::fmt::Write as _;
 use std::io::Write as _;
 use std::process::ExitCode;
 
-const USAGE: &str =
-    "usage: just-sheet [--text] TABLE N, just-sheet --same A B N [M], or just-sheet --diff [--each] A B N";
+const USAGE: &str = "usage: just-sheet [--text] FONT, just-sheet [--text] TABLE N, just-sheet --same A B [N [M]], \
+                     or just-sheet --diff [--each] A B [N]";
 
 /// What is printed, and whether the answer is yes.
 type Answered = Result<(String, bool), String>;
@@ -43,45 +48,104 @@ fn print((text, yes): (String, bool)) -> Result<bool, String> {
 
 fn answer(words: &[&str]) -> Answered {
     match *words {
-        ["--text", table, n] => Ok((text(table, n)?, true)),
-        ["--same", a, b, n] => same(&sheet(a, n)?, &sheet(b, n)?),
-        ["--same", a, b, n, m] => same(&sheet(a, n)?, &sheet(b, m)?),
-        ["--diff", "--each", a, b, n] => changed(&accepted(a, n)?, &accepted(b, n)?, false),
-        ["--diff", a, b, n] if !a.starts_with("--") => changed(&accepted(a, n)?, &accepted(b, n)?, true),
-        [table, n] if !table.starts_with("--") => Ok((hex(&sheet(table, n)?), true)),
+        ["--text", file, ref counts @ ..] => Ok((text(&Input::one(file, counts)?)?, true)),
+        ["--same", a, b, ref counts @ ..] => compared(&Input::all([a, b], counts)?),
+        ["--diff", "--each", a, b, ref count @ ..] if count.len() < 2 => changed(&Input::all([a, b], count)?, false),
+        ["--diff", a, b, ref count @ ..] if count.len() < 2 && !a.starts_with("--") => {
+            changed(&Input::all([a, b], count)?, true)
+        }
+        [file, ref counts @ ..] if !file.starts_with("--") => Ok((hex(&Input::one(file, counts)?.sheet()?), true)),
         _ => Err(USAGE.into()),
     }
 }
 
-/// What is asked of the table in a file.
-fn asked<T>(file: &str, glyphs: &str, what: impl Fn(&Table) -> Result<T, Refusal>) -> Result<T, String> {
-    let glyphs: u32 = glyphs.parse().map_err(|_| format!("{glyphs} is no glyph count"))?;
-    let bytes = std::fs::read(file).map_err(|wrong| format!("{file}: {wrong}"))?;
-    let said = Table::new(&bytes, glyphs).and_then(|table| what(&table));
-    said.map_err(|refusal| format!("{file}: {}", refused(&bytes, glyphs, refusal)))
+/// What a file holds: a font, or a table and the glyph count that it is read with.
+struct Input<'a> {
+    file: &'a str,
+    bytes: Vec<u8>,
+    glyphs: Option<u32>,
 }
 
-/// What is said of a refused table: the refusal and, where it speaks of one, the field.
-fn refused(bytes: &[u8], glyphs: u32, refusal: Refusal) -> String {
-    match Field::of(bytes, glyphs, refusal) {
-        Some(field) => format!("{refusal} ({field})"),
-        None => refusal.to_string(),
+impl<'a> Input<'a> {
+    fn one(file: &'a str, counts: &[&str]) -> Result<Input<'a>, String> {
+        Input::all([file], counts).map(|[input]| input)
+    }
+
+    /// With a count for each file all are tables. Otherwise a file is a table only if it has a table's format, 0, and all tables
+    /// are read with the last count.
+    fn all<const N: usize>(files: [&'a str; N], counts: &[&str]) -> Result<[Input<'a>; N], String> {
+        let mut glyphs = Vec::new();
+        for count in counts {
+            glyphs.push(count.parse::<u32>().map_err(|_| format!("{count} is no glyph count"))?);
+        }
+        let mut inputs = Vec::new();
+        for (place, file) in files.into_iter().enumerate() {
+            let bytes = std::fs::read(file).map_err(|wrong| format!("{file}: {wrong}"))?;
+            let is_table = glyphs.len() == N || bytes.get(4..6) == Some(&[0, 0]);
+            let count = is_table.then(|| glyphs.get(place).or(glyphs.last()).copied());
+            if count == Some(None) {
+                return Err(format!("{file}: a table that is in no font wants its glyph count; {USAGE}"));
+            }
+            inputs.push(Input { file, bytes, glyphs: count.flatten() });
+        }
+        let idle = !glyphs.is_empty() && inputs.iter().all(|input| input.glyphs.is_none());
+        if glyphs.len() > N || idle {
+            return Err(format!("more glyph counts than tables; {USAGE}"));
+        }
+        inputs.try_into().map_err(|_| USAGE.into())
+    }
+
+    fn table(&self) -> Result<Table<'_>, String> {
+        match self.glyphs {
+            Some(glyphs) => Table::new(&self.bytes, glyphs).map_err(|refusal| self.refused(refusal)),
+            None if self.bytes.starts_with(b"ttcf") => {
+                Err(format!("{}: a collection of fonts (ttcf), which is not read: take one font out of it", self.file))
+            }
+            None => Font::open(&self.bytes).map(|font| font.table()).map_err(|refusal| self.refused(refusal)),
+        }
+    }
+
+    /// What is said of a refused table or font: the refusal and, where it speaks of one, the field or the part.
+    fn refused(&self, refusal: Refusal) -> String {
+        let place = match self.glyphs {
+            Some(glyphs) => Field::of(&self.bytes, glyphs, refusal).map(FontPlace::Field),
+            None => FontPlace::of(&self.bytes, refusal),
+        };
+        let of = if self.glyphs.is_some() || refusal.reason.is_of_font() { "" } else { ", table 'just'" };
+        match place {
+            Some(place) => format!("{}{of}: {refusal} ({place})", self.file),
+            None if of.is_empty() && Font::open(&self.bytes).is_ok() => {
+                format!("{}: {refusal}; it is a font, which is read without N", self.file)
+            }
+            None => format!("{}{of}: {refusal}", self.file),
+        }
+    }
+
+    fn sheet(&self) -> Result<Vec<u8>, String> {
+        self.table()?.write_sheet().map_err(|refusal| self.refused(refusal))
     }
 }
 
-/// The sheet of a table file.
-fn sheet(file: &str, glyphs: &str) -> Result<Vec<u8>, String> {
-    asked(file, glyphs, |table| table.write_sheet())
+/// The tables of two inputs; fonts with different glyph counts cannot be held against each other.
+fn tables<'a>([a, b]: &'a [Input; 2]) -> Result<[Table<'a>; 2], String> {
+    let [first, second] = [a.table()?, b.table()?];
+    let (n, m) = (first.glyph_count(), second.glyph_count());
+    if n != m && (a.glyphs.is_none() || b.glyphs.is_none()) {
+        return Err(format!("{} has {n} glyphs and {} has {m}: they cannot be compared", a.file, b.file));
+    }
+    Ok([first, second])
 }
 
-/// The bytes of a table file that is accepted, and its glyph count.
-fn accepted(file: &str, glyphs: &str) -> Result<(Vec<u8>, u32), String> {
-    asked(file, glyphs, |table| Ok((table.bytes().to_vec(), table.glyph_count())))
+fn compared(inputs: &[Input; 2]) -> Answered {
+    tables(inputs)?;
+    let [a, b] = inputs;
+    same(&a.sheet()?, &b.sheet()?)
 }
 
-fn changed((first, n): &(Vec<u8>, u32), (second, m): &(Vec<u8>, u32), folds: bool) -> Answered {
-    let table = |bytes, glyphs| Table::new(bytes, glyphs).expect("an accepted table");
-    diff::diff(&table(first, *n), &table(second, *m), folds)
+/// What changed from the first input to the second.
+fn changed(inputs: &[Input; 2], folds: bool) -> Answered {
+    let [a, b] = tables(inputs)?;
+    diff::diff(&a, &b, folds)
 }
 
 /// Tables mean the same exactly when their sheets are equal.
@@ -104,19 +168,22 @@ fn put(out: &mut String, what: std::fmt::Arguments) {
     out.write_fmt(what).expect("a string grows");
 }
 
-fn text(file: &str, glyphs: &str) -> Result<String, String> {
-    asked(file, glyphs, |table| {
-        let bytes = table.write_sheet()?;
-        let sheet = Sheet::new(&bytes).expect("what was written is a sheet");
-        let mut out = format!("glyphs: {}\n", sheet.glyph_count());
-        for (name, direction) in [("horizontal", Direction::Horizontal), ("vertical", Direction::Vertical)] {
-            put(&mut out, format_args!("{name}\n"));
-            put_units(&mut out, "width", table.units(direction, Lookup::Width)?);
-            put_units(&mut out, "action", table.units(direction, Lookup::Action)?);
-            put_side(&mut out, &sheet.side(direction));
-        }
-        Ok(out)
-    })
+fn text(input: &Input) -> Result<String, String> {
+    let table = input.table()?;
+    table_text(&table).map_err(|refusal| input.refused(refusal))
+}
+
+fn table_text(table: &Table) -> Result<String, Refusal> {
+    let bytes = table.write_sheet()?;
+    let sheet = Sheet::new(&bytes)?;
+    let mut out = format!("glyphs: {}\n", sheet.glyph_count());
+    for (name, direction) in [("horizontal", Direction::Horizontal), ("vertical", Direction::Vertical)] {
+        put(&mut out, format_args!("{name}\n"));
+        put_units(&mut out, "width", table.units(direction, Lookup::Width)?);
+        put_units(&mut out, "action", table.units(direction, Lookup::Action)?);
+        put_side(&mut out, &sheet.side(direction));
+    }
+    Ok(out)
 }
 
 /// A lookup without units, absent or not, is not searched.

@@ -82,3 +82,33 @@ pub fn with_actions(count: u32) -> Vec<u8> {
     let action = [words(&[0, 3]), longs(&[8])].concat();
     with_list(count, &action.repeat(count as usize))
 }
+
+/// The sum of a table's 32-bit words, zeros filling the last, without its carries.
+pub fn checksum(table: &[u8]) -> u32 {
+    let byte = |(at, &byte): (usize, &u8)| u64::from(byte) << (24 - 8 * (at % 4));
+    (table.iter().enumerate().map(byte).sum::<u64>() % (1 << 32)) as u32
+}
+
+/// A 'maxp' table of version 0.5.
+pub fn maxp(glyphs: u16) -> Vec<u8> {
+    [longs(&[0x0000_5000]), words(&[glyphs])].concat()
+}
+
+/// A font of these tables, in this order, each at a multiple of four; what lies between is not zeros.
+pub fn font(tables: &[(&[u8; 4], &[u8])]) -> Vec<u8> {
+    let mut directory = [longs(&[0x0001_0000]), words(&[tables.len() as u16, 0, 0, 0])].concat();
+    let start = directory.len() + 16 * tables.len();
+    let mut body = Vec::new();
+    for (tag, table) in tables {
+        directory.extend(*tag);
+        directory.extend(longs(&[checksum(table), (start + body.len()) as u32, table.len() as u32]));
+        body.extend(*table);
+        body.resize(body.len().next_multiple_of(4), 0xEE);
+    }
+    [directory, body].concat()
+}
+
+/// A font of three tables around a 'just' table.
+pub fn font_of(just: &[u8], glyphs: u16) -> Vec<u8> {
+    font(&[(b"glyf", &[7; 5]), (b"just", just), (b"maxp", &maxp(glyphs))])
+}
