@@ -62,6 +62,27 @@ static size_t build(uint8_t *table) {
     return at + 223 + sizeof rows;
 }
 
+/* A table of a font: its record, and its bytes at an offset. */
+static void place(uint8_t *font, size_t record, const char *tag, size_t offset, const uint8_t *bytes, size_t length) {
+    uint32_t fields[] = {0, (uint32_t)offset, (uint32_t)length};
+    for (size_t i = 0; i < length; i++)
+        fields[0] += (uint32_t)bytes[i] << (24 - 8 * (i % 4));
+    memcpy(font + record, tag, 4);
+    for (size_t i = 0; i < 12; i++)
+        font[record + 4 + i] = (uint8_t)(fields[i / 4] >> (24 - 8 * (i % 4)));
+    memcpy(font + offset, bytes, length);
+}
+
+/* A font of two tables: a directory of 44 bytes, 'just', then 'maxp', which has the glyph count in its last two bytes. */
+static size_t build_font(uint8_t *font, const uint8_t *table, size_t length) {
+    static const uint8_t maxp[] = {0, 0, 0x50, 0, GLYPHS >> 8, GLYPHS & 0xFF};
+    memset(font, 0, 44);
+    font[5] = 2;
+    place(font, 12, "just", 44, table, length);
+    place(font, 28, "maxp", 44 + length, maxp, sizeof maxp);
+    return 44 + length + sizeof maxp;
+}
+
 static void ask_table(const uint8_t *table, size_t length) {
     just_check_table(table, length, GLYPHS);
     just_table_count(table, length, GLYPHS);
@@ -130,14 +151,17 @@ static uint32_t compare(const uint8_t *whole, size_t length) {
 }
 
 int main(void) {
-    uint8_t whole[512];
-    size_t length = build(whole);
+    uint8_t whole[512], font[600];
+    size_t length = build(whole), font_length = build_font(font, whole, length);
     uint32_t sheet_length = just_table_sheet_length(whole, length, GLYPHS).length, fired = 0;
     for (size_t cut = 0; cut <= length; cut++) {
         uint8_t *table = memcpy(lend(cut), whole, cut);
         ask_table(table, cut);
         just_table_write_sheet(table, cut, GLYPHS, lend(sheet_length), sheet_length);
     }
+    uint32_t opened = 0;
+    for (size_t cut = 0; cut <= font_length; cut++)
+        opened += just_open_font(memcpy(lend(cut), font, cut), cut).glyph_count;
     uint8_t *sheet = lend(sheet_length);
     for (uint32_t room = 0; room <= sheet_length; room++)
         just_table_write_sheet(whole, length, GLYPHS, sheet + sheet_length - room, room);
@@ -145,7 +169,7 @@ int main(void) {
         ask_sheet(memcpy(lend(cut), sheet, cut), cut);
     for (size_t places = 0; places <= PLACES; places++)
         fired += justify(whole, length, places);
-    printf("a table of %zu bytes, a sheet of %u, %u verdicts, %u differences: nothing else was touched\n", length,
-           sheet_length, fired, compare(whole, length));
-    return 0;
+    printf("a table of %zu bytes, a font of %zu, a sheet of %u, %u verdicts, %u differences: nothing else was touched\n", length,
+           font_length, sheet_length, fired, compare(whole, length));
+    return opened == GLYPHS ? 0 : 1;
 }

@@ -45,7 +45,7 @@ fn words_for(size: usize) -> usize
 }
 
 // The sum of a table's 32-bit words, big-endian; carries out of 32 bits are thrown away.
-pub fn checksum(table: &[u8]) -> u32
+fn checksum(table: &[u8]) -> u32
     ensures { λ r. ⌜ r ≡ checksumOf (now (table .entry)) ⌝ }
 {
     let words = words_for(table.len());

@@ -34,7 +34,12 @@ pub missing : fontOpened withoutMaxp ≡ refused 22 0
 unfolding withoutMaxp u16At u32At rule firstFrom firstListed directoryFault fontOpened
 missing = refl
 
--- 22 comes before 21: 'just', too, is not wholly in this file
+-- 21 for the directory comes before 22
+pub directory-first : fontOpened (take 43 withoutMaxp) ≡ refused 21 0
+unfolding withoutMaxp u16At rule directoryFault fontOpened
+directory-first = refl
+
+-- 22 comes before 21 for a table: 'just', too, is not wholly in this file
 pub missing-first : fontOpened (take 53 withoutMaxp) ≡ refused 22 0
 unfolding withoutMaxp u16At u32At rule firstFrom firstListed directoryFault fontOpened
 missing-first = refl
@@ -52,6 +57,11 @@ neighbour = refl
 pub last-word : fontOpened shortSum ≡ refused 23 0
 unfolding shortSum u16At u32At _then_ rule wordSum checksumOf firstFrom firstListed tableOf insideFault sumFault placesFault sumsFault tablesFault directoryFault fontOpened
 last-word = refl
+
+-- 21 for a table comes before 23
+pub place-first : fontOpened (take 60 neighbourSum) ≡ refused 21 0
+unfolding neighbourSum u16At u32At _then_ rule firstFrom firstListed insideFault placesFault tablesFault directoryFault fontOpened
+place-first = refl
 
 -- a table's own refusal, which comes after 23
 pub version : fontOpened newVersion ≡ refused 3 0
