@@ -1,13 +1,12 @@
 -- Laws of the checksum and of the directory's records.
-use Prim.Native.Nat.{ℕ, zero, suc, _+_, _-_, _*_, _/_, _%_, _^_, _≤_, _<_}
+use Prim.Native.Nat.{ℕ, zero, suc, _+_, _-_, _*_, _%_, _^_, _≤_, _<_}
 use mathlib.Core.List.{List}
 use mathlib.Core.Path.{_≡_, refl, sym, _∙_, ap}
 use native.Mathlib.Omega.{arith}
 use lib.ListN.{length, take, drop}
 use borrow.Author.Tests.{eq-eqb, ne-eqb}
-use Rattle.fields.specs.Field.{u16At, u32At}
+use Rattle.fields.specs.Field.{u32At}
 use Rattle.font_directory.specs.declared.TableRecord.{TableRecord}
-use Rattle.font_directory.specs.declared.Listing.{Listing}
 use Rattle.font_directory.specs.declared.Listing.the-variants.{Listed, Missing}
 use Rattle.font_directory.specs.Sum.{wordSum, wordsFor, checksumOf}
 use Rattle.font_directory.specs.Directory.{tableCount, recordAt, firstFrom, firstListed, tableOf}

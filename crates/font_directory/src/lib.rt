@@ -1,6 +1,6 @@
 // The directory of a whole font, and the checksum of one of its tables (document 02, 12/14).
 ghost use mathlib.Core.Path.{_≡_};
-ghost use Prim.Native.Nat.{ℕ, _+_, _≤_, _<_, _^_};
+ghost use Prim.Native.Nat.{_+_, _≤_, _<_, _^_};
 ghost use lib.ListN.{length};
 ghost use Rattle.font_directory.specs.Sum.{wordsFor, checksumOf};
 ghost use Rattle.font_directory.specs.Directory.{directorySize, recordAt, firstListed, tableOf};

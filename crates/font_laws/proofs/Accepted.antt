@@ -1,24 +1,27 @@
 -- What an opened font gives back serves every call for a table; its refusals have offset 0 but for 4 to 8.
-use Prim.Native.Nat.{ℕ, _+_, _≤_}
-use mathlib.Core.Path.{_≡_, refl, sym, ap, ap₂, _∙_}
+use Prim.Native.Nat.{ℕ}
+use mathlib.Core.Path.{_≡_, refl, sym, ap, _∙_}
 use mathlib.Core.Logic.{inr}
-use mathlib.Core.List.{List}
+use mathlib.Core.List.{List, _++_}
 use native.Mathlib.Omega.{arith}
-use lib.Dec.{leb}
-use lib.ListN.{length, take, drop}
+use lib.ListN.{length}
 use Rattle.fields.specs.declared.Fault.{Fault}
 use Rattle.fields.specs.declared.Fault.the-variants.{Clear, Bad}
 use Rattle.fields.specs.declared.Refusal.the-variants.{FontEnds}
-use Rattle.fields.specs.Faults.{_then_, rule}
+use Rattle.fields.specs.Faults.{_then_}
 use Rattle.fields.specs.Refusals.{numberOf}
-use Rattle.fields.specs.Laws.{then-first, then-second}
-use Rattle.meaning.specs.Ask.{ask}
+use Rattle.fields.specs.Laws.{then-first, then-second, then-go}
+use Rattle.meaning.specs.Ask.{ask, sideOf}
 use Rattle.answers.specs.Says.{judgedBy, unlessBad}
 use Rattle.table.specs.Table.{tableFault, Accepted}
 use Rattle.table.specs.Means.{meaningOf}
 use Rattle.table_laws.specs.Offsets.{Offset, Placed}
 use Rattle.table_laws.proofs.Faults.{no-fault, good-header}
 use Rattle.table_laws.proofs.Placed.{placed-bad, placed-table, zero-at, _and_}
+use Rattle.table_ask.specs.Places.{lookupIn}
+use Rattle.table_find.specs.Values.{foundIn, unlessRefused as unlessBarred, valueAsked, unitsIn, unitsSaid, unitsAsked}
+use Rattle.line_rule.specs.Line.{Line}
+use Rattle.line_call.specs.Justified.{Lent, lengthsOf, inputTests, workTests, roomTest, firstFault, workedFault, lineFault, settled, justified}
 use Rattle.sheet_write.specs.Written.{sheetOf, lengthBy, sheetLength, writtenBy, written}
 use Rattle.font_directory.specs.declared.TableRecord.{TableRecord}
 use Rattle.font_directory.specs.declared.Listing.{Listing}
@@ -26,17 +29,27 @@ use Rattle.font_directory.specs.declared.Listing.the-variants.{Listed, Missing}
 use Rattle.font_directory.specs.Directory.{firstListed, tableOf}
 use Rattle.font_open.specs.Opened.{just, maxp, countOf, insideFault, sumFault, placesFault, sumsFault, tablesFault, opened, refused, unlessRefused, openedBy, directoryFault, fontOpened}
 use Rattle.font_open.proofs.Laws.{places-clear}
-use Rattle.font_laws.specs.Accepted.{stretch, Serves, Opens}
+use Rattle.font_laws.specs.Accepted.{ownFault, Serves, Opens}
+
+-- a line is barred only by what is its own
+own-bars : (t : List ℕ) (n : ℕ) → tableFault t n ≡ Clear → (l : Line) (b : Lent) → lineFault t n l b ≡ ownFault t n l b
+unfolding lineFault workedFault
+own-bars t n e l b =
+    ap (λ (f : Fault). f then roomTest (sideOf (l .direction) (meaningOf t n)) l (length (b .verdicts)))
+    (then-go (firstFault (inputTests l (lengthsOf b) ++ workTests (sideOf (l .direction) (meaningOf t n)) n l)) e)
 
 -- an accepted table serves every call
 serving : (t : List ℕ) (n : ℕ) → tableFault t n ≡ Clear → Serves t n
-unfolding Accepted sheetLength written writtenBy
+unfolding Accepted valueAsked unitsAsked justified sheetLength written writtenBy
 serving t n e =
     record {
       clear = e;
       header = good-header t n .0 (no-fault t n .0 e .0);
       checked = λ r p. p ∙ ap judgedBy e;
       asked = λ q r p. p ∙ ap (λ (f : Fault). unlessBad f (ask (meaningOf t n) q)) e;
+      found = λ d kind g. ap (λ (f : Fault). unlessBarred f (foundIn t n (lookupIn t d kind) g)) e;
+      counted = λ d kind. ap (λ (f : Fault). unitsSaid f (unitsIn t (lookupIn t d kind))) e;
+      lined = λ l b. ap (λ (f : Fault). settled f (sideOf (l .direction) (meaningOf t n)) l b) (own-bars t n e l b);
       measured = λ r p. p ∙ ap (λ (f : Fault). lengthBy f (sheetOf t n)) e;
       wrote = λ room. ap (λ (f : Fault). writtenBy f (sheetOf t n) room) e;
     }

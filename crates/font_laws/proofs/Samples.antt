@@ -1,5 +1,4 @@
 -- Small fonts: what opening each of them answers, computed.
-use Prim.Native.Nat.{ℕ}
 use mathlib.Core.Path.{_≡_, refl}
 use lib.ListN.{take}
 use Rattle.fields.specs.Field.{u16At, u32At}

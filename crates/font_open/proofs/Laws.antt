@@ -19,9 +19,7 @@ use Rattle.font_directory.specs.declared.Listing.{Listing}
 use Rattle.font_directory.specs.declared.Listing.the-variants.{Listed, Missing}
 use Rattle.font_directory.specs.Sum.{checksumOf}
 use Rattle.font_directory.specs.Directory.{directorySize, firstListed, tableOf}
-use Rattle.font_open.specs.declared.FontAnswer.{FontAnswer}
-use Rattle.font_open.specs.declared.FontAnswer.the-variants as answer
-use Rattle.font_open.specs.Opened.{just, maxp, leastMaxp, Inside, countOf, insideFault, sumFault, placesFault, sumsFault, tablesFault, FontReply, opened, refused, saysFont, unlessRefused, openedBy, directoryFault, fontOpened}
+use Rattle.font_open.specs.Opened.{just, maxp, leastMaxp, Inside, countOf, insideFault, sumFault, placesFault, sumsFault, tablesFault, FontReply, opened, refused, unlessRefused, openedBy, directoryFault, fontOpened}
 
 module _ (font : List ℕ) where
   pub directory-as : {size : ℕ} {r : Fault} → size ≡ directorySize font → r ≡ rule (leb size (length font)) FontEnds 0 → r ≡ directoryFault font
