@@ -17,10 +17,7 @@ type Fault = (Reason, FontPlace);
 /// The 'just' table and the glyph count, or what bars them.
 pub(crate) fn tables(font: &[u8]) -> Result<(&[u8], u32), Fault> {
     let records = records(font).ok_or((Reason::FontEnds, FontPlace::Directory))?;
-    let first = |tag: &[u8; 4], place| {
-        let record = records.chunks_exact(RECORD).find(|record| record.starts_with(tag));
-        record.ok_or((Reason::MissingTable, place))
-    };
+    let first = |tag: &[u8; 4], place| first(records, tag).ok_or((Reason::MissingTable, place));
     let (just, maxp) = (first(b"just", FontPlace::Just)?, first(b"maxp", FontPlace::Maxp)?);
     let just_bytes = stretch(font, just).ok_or((Reason::FontEnds, FontPlace::Just))?;
     let maxp_bytes = stretch(font, maxp).filter(|maxp| maxp.len() >= LEAST_MAXP);
@@ -33,13 +30,19 @@ pub(crate) fn tables(font: &[u8]) -> Result<(&[u8], u32), Fault> {
     Ok((just_bytes, number(&maxp_bytes[4..6])))
 }
 
-fn records(font: &[u8]) -> Option<&[u8]> {
+/// The records of a directory that is all there.
+pub(crate) fn records(font: &[u8]) -> Option<&[u8]> {
     let count = number(font.get(4..6)?) as usize;
     font.get(HEADER..HEADER + RECORD * count)
 }
 
+/// The first record of a tag.
+pub(crate) fn first<'a>(records: &'a [u8], tag: &[u8]) -> Option<&'a [u8]> {
+    records.chunks_exact(RECORD).find(|record| record.starts_with(tag))
+}
+
 /// The bytes that a record names, where they are all there.
-fn stretch<'a>(font: &'a [u8], record: &[u8]) -> Option<&'a [u8]> {
+pub(crate) fn stretch<'a>(font: &'a [u8], record: &[u8]) -> Option<&'a [u8]> {
     let (offset, length) = (number(&record[8..12]) as usize, number(&record[12..16]) as usize);
     font.get(offset..offset.checked_add(length)?)
 }

@@ -1,11 +1,12 @@
 //! AAT 'just' tables, lines and sheets: a safe layer over the proved library.
 //!
-//! All work is done by the proved code. This crate passes slices on, through `just-raw`, and turns numbers into types; it
-//! judges nothing itself, but for finding words for a refusal.
+//! All work on tables, lines and sheets is done by the proved code. This crate passes slices on, through `just-raw`, and turns
+//! numbers into types; it judges nothing itself, but for finding words for a refusal, and for a font's advances.
 //!
 //! - [`Table`] is a table that was accepted with a glyph count; it justifies lines, writes its sheet and lists what a second
 //!   table has changed.
 //! - [`Font`] is a whole font, whose 'just' table was found and accepted with the font's own glyph count.
+//! - [`Advances`] are those of a font's glyphs, which its lines are measured by.
 //! - [`Sheet`] is bytes that were accepted as a sheet, the plain record of what a table means.
 //! - [`Table`] and [`Sheet`] answer the questions of [`Meaning`].
 //! - Whatever is refused is refused with a [`Refusal`], which has the documents' number and, for faults in a table, the
@@ -26,6 +27,7 @@
 
 #![forbid(unsafe_code)]
 
+mod advances;
 mod difference;
 mod directory;
 mod field;
@@ -38,6 +40,7 @@ mod sections;
 mod sheet;
 mod table;
 
+pub use advances::{Advances, NoAdvances};
 pub use difference::{Difference, DifferingPart, Mark, UnlikeCounts};
 pub use field::{Field, Place};
 pub use font::{Font, FontPlace};

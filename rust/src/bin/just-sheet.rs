@@ -7,12 +7,15 @@
 //! with N. A font is compared only with what has as many glyphs.
 //! `just-sheet --diff [--each] A B [N]`: what changed from A to B, in runs of glyphs or of each glyph; they are told apart as
 //! for `--same`, and have one glyph count.
+//! `just-sheet --picture [--rtl] FONT GLYPHS WIDTH SIZE`: a line of glyph numbers, justified by a font, as an SVG; width and
+//! size in points.
 //!
 //! Exit status: 0, or 1 where two tables do not mean the same, or 2 where something is refused or cannot be read. Of a font or
 //! table that is refused standard error says why, at which byte of the table, and which field stands there; what has a
 //! number counts from 0.
 
 mod diff;
+mod picture;
 
 use just::{
     Act, Action, Direction, Entry, Field, Font, FontPlace, Limits, Lookup, Machine, Meaning, Pair, Refusal, Rule, Run,
@@ -23,7 +26,8 @@ use std::io::Write as _;
 use std::process::ExitCode;
 
 const USAGE: &str = "usage: just-sheet [--text] FONT, just-sheet [--text] TABLE N, just-sheet --same A B [N [M]], \
-                     or just-sheet --diff [--each] A B [N]";
+                     just-sheet --diff [--each] A B [N], \
+                     or just-sheet --picture [--rtl] FONT GLYPHS WIDTH SIZE";
 
 /// What is printed, and whether the answer is yes.
 type Answered = Result<(String, bool), String>;
@@ -54,6 +58,7 @@ fn answer(words: &[&str]) -> Answered {
         ["--diff", a, b, ref count @ ..] if count.len() < 2 && !a.starts_with("--") => {
             changed(&Input::all([a, b], count)?, true)
         }
+        ["--picture", ref words @ ..] => Ok((picture::picture(words)?, true)),
         [file, ref counts @ ..] if !file.starts_with("--") => Ok((hex(&Input::one(file, counts)?.sheet()?), true)),
         _ => Err(USAGE.into()),
     }

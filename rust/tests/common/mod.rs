@@ -58,7 +58,7 @@ pub fn complex() -> Vec<u8> {
 }
 
 /// One glyph that is unlimited, with a list of these actions, already written.
-fn with_list(count: u32, actions: &[u8]) -> Vec<u8> {
+pub fn with_list(count: u32, actions: &[u8]) -> Vec<u8> {
     [
         longs(&[0x0001_0000]),
         words(&[0, 10, 0, 0, 24, 52, 8, 0, 1, 0]),
@@ -111,4 +111,25 @@ pub fn font(tables: &[(&[u8; 4], &[u8])]) -> Vec<u8> {
 /// A font of three tables around a 'just' table.
 pub fn font_of(just: &[u8], glyphs: u16) -> Vec<u8> {
     font(&[(b"glyf", &[7; 5]), (b"just", just), (b"maxp", &maxp(glyphs))])
+}
+
+/// 'head' and 'hhea' with the units per em, and with the number of advances in 'hmtx'; their other fields are not zeros.
+pub fn head(units_per_em: u16) -> Vec<u8> {
+    [vec![0xEE; 18], words(&[units_per_em]), vec![0xEE; 34]].concat()
+}
+
+pub fn hhea(count: u16) -> Vec<u8> {
+    [vec![0xEE; 34], words(&[count])].concat()
+}
+
+/// An 'hmtx' of these advances, each with a side bearing.
+pub fn hmtx(advances: &[u16]) -> Vec<u8> {
+    advances.iter().flat_map(|&advance| words(&[advance, 0xEEEE])).collect()
+}
+
+/// A font of a 'just' table and of advances, 1,000 units to the em.
+pub fn font_with_advances(just: &[u8], glyphs: u16, advances: &[u16]) -> Vec<u8> {
+    let hhea = hhea(advances.len() as u16);
+    let hmtx = hmtx(advances);
+    font(&[(b"head", &head(1_000)), (b"hhea", &hhea), (b"hmtx", &hmtx), (b"just", just), (b"maxp", &maxp(glyphs))])
 }
