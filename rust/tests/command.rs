@@ -85,6 +85,16 @@ fn a_font_is_read_with_its_own_glyph_count() {
 }
 
 #[test]
+fn the_table_of_a_font_is_taken_out() {
+    let font = file("font-whole", &common::font_of(&common::complex(), 280));
+    let table = file("font-taken", &[]);
+    assert_eq!(says(&["--table", &font, &table]), ("444 bytes, to be read with 280 glyphs\n".into(), 0));
+    assert_eq!(std::fs::read(&table).expect("a table"), common::complex());
+    assert!(complains(&["--table", &font, "no/such/folder"]).contains("no/such/folder: "));
+    assert!(complains(&["--table", &table, "other"]).contains("a table that is in no font"));
+}
+
+#[test]
 fn fonts_are_compared() {
     let mut other = common::complex();
     other[60..64].copy_from_slice(&0x0B00u32.to_be_bytes()); // a shrink limit without its sign

@@ -7,8 +7,9 @@
 //! with N. A font is compared only with what has as many glyphs.
 //! `just-sheet --diff [--each] A B [N]`: what changed from A to B, in runs of glyphs or of each glyph; they are told apart as
 //! for `--same`, and have one glyph count.
-//! `just-sheet --picture [--rtl] FONT GLYPHS WIDTH SIZE`: a line of glyph numbers, justified by a font, as an SVG; width and
-//! size in points.
+//! `just-sheet --table FONT FILE`: writes the 'just' table of a font into a file of its own.
+//! `just-sheet --picture [--rtl] FONT GLYPHS WIDTH SIZE [EDITION]`: a line of glyph numbers, justified by a font, as an SVG;
+//! width and size in points, and the edition of the rule, 1 where it is not named.
 //!
 //! Exit status: 0, or 1 where two tables do not mean the same, or 2 where something is refused or cannot be read. Of a font or
 //! table that is refused standard error says why, at which byte of the table, and which field stands there; what has a
@@ -26,8 +27,8 @@ use std::io::Write as _;
 use std::process::ExitCode;
 
 const USAGE: &str = "usage: just-sheet [--text] FONT, just-sheet [--text] TABLE N, just-sheet --same A B [N [M]], \
-                     just-sheet --diff [--each] A B [N], \
-                     or just-sheet --picture [--rtl] FONT GLYPHS WIDTH SIZE";
+                     just-sheet --diff [--each] A B [N], just-sheet --table FONT FILE, \
+                     or just-sheet --picture [--rtl] FONT GLYPHS WIDTH SIZE [EDITION]";
 
 /// What is printed, and whether the answer is yes.
 type Answered = Result<(String, bool), String>;
@@ -58,6 +59,7 @@ fn answer(words: &[&str]) -> Answered {
         ["--diff", a, b, ref count @ ..] if count.len() < 2 && !a.starts_with("--") => {
             changed(&Input::all([a, b], count)?, true)
         }
+        ["--table", font, file] => take_out(&Input::one(font, &[])?, file),
         ["--picture", ref words @ ..] => Ok((picture::picture(words)?, true)),
         [file, ref counts @ ..] if !file.starts_with("--") => Ok((hex(&Input::one(file, counts)?.sheet()?), true)),
         _ => Err(USAGE.into()),
@@ -157,6 +159,13 @@ fn changed(inputs: &[Input; 2], folds: bool) -> Answered {
 fn same(a: &[u8], b: &[u8]) -> Answered {
     let said = if a == b { "the same\n" } else { "not the same\n" };
     Ok((said.into(), a == b))
+}
+
+/// Writes a font's table into a file.
+fn take_out(font: &Input, file: &str) -> Answered {
+    let table = font.table()?;
+    std::fs::write(file, table.bytes()).map_err(|wrong| format!("{file}: {wrong}"))?;
+    Ok((format!("{} bytes, to be read with {} glyphs\n", table.bytes().len(), table.glyph_count()), true))
 }
 
 fn hex(bytes: &[u8]) -> String {
