@@ -60,6 +60,23 @@ fn plain_font() -> Vec<u8> {
     font_with_advances(&simple(), 280, &[500, 600, 250, 700])
 }
 
+/// Glyph 2 alone, 2.5 points long in a column of 22.5, may grow by 5 points on each side.
+#[test]
+fn a_line_past_its_limits_by_either_edition() {
+    let font = file("picture-limits", &plain_font());
+    let line = [&font[..], "2", "22.5", "10"];
+    let by = |edition: &'static str| [&line[..], &[edition]].concat();
+    let gx = picture(&line);
+    assert_eq!(rows(&gx), ["0", "2", "0", "2.500", "+10.000", "+10.000", "10.000", "12.500"]);
+    assert_eq!(gx, picture(&by("1")));
+    let within = picture(&by("2"));
+    assert_eq!(rows(&within), ["0", "2", "0", "2.500", "+5.000", "+5.000", "5.000", "7.500"]);
+    assert_eq!(texts(&within)[0], "picture-limits: 1 glyph at 10 pt in a column of 22.5 pt, within the limits");
+    assert_eq!(texts(&within)[1], "advances 2.5 pt, gap +20 pt, of which +10 pt are left over");
+    assert!(complains(&by("3")).contains("refused 18"));
+    assert!(complains(&by("one")).contains("one is no edition"));
+}
+
 #[test]
 fn a_line_that_grows() {
     let font = file("picture-grows", &plain_font());

@@ -4,6 +4,7 @@
 use super::svg::{width, Area, Svg};
 use super::words::{points, signed, thousandths, wrapped};
 use super::{Glyph, Picture, UNITS_PER_POINT};
+use just::WITHIN_LIMITS;
 
 /// The paper, and what of it a line may take across.
 const PAPER: f64 = 960.0;
@@ -112,11 +113,12 @@ fn placed(picture: &Picture) -> Vec<Placed> {
 }
 
 fn put_head(svg: &mut Svg, picture: &Picture) {
-    let Picture { file, rtl, width, size, remainder, ref glyphs } = *picture;
+    let Picture { file, rtl, width, size, edition, remainder, ref glyphs } = *picture;
     let name = file.rsplit('/').next().unwrap_or(file);
     let count = if glyphs.len() == 1 { "1 glyph".into() } else { format!("{} glyphs", glyphs.len()) };
     let (size, column) = (points(size.into()), points(width.into()));
-    svg.text("title", MARGIN, TITLE, &format!("{name}: {count} at {size} pt in a column of {column} pt"));
+    let rule = if edition == WITHIN_LIMITS { ", within the limits" } else { "" };
+    svg.text("title", MARGIN, TITLE, &format!("{name}: {count} at {size} pt in a column of {column} pt{rule}"));
     let advances: i64 = glyphs.iter().map(|glyph| i64::from(glyph.advance)).sum();
     let gap = signed(i64::from(width) - advances);
     let left = signed(remainder.into());

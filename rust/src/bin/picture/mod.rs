@@ -1,5 +1,5 @@
-//! `just-sheet --picture [--rtl] FONT GLYPHS WIDTH SIZE`: a line of glyph numbers, justified by a font's 'just' table to a
-//! width and at a size in points, as an SVG. The line is a text of its own: it starts and ends the text. With `--rtl` its first
+//! `just-sheet --picture [--rtl] FONT GLYPHS WIDTH SIZE [EDITION]`: a line of glyph numbers, justified by a font's 'just' table
+//! to a width and at a size in points, by an edition of the rule, as an SVG. The line is a text of its own: it starts and ends the text. With `--rtl` its first
 //! glyph stands at the right; a glyph's before side is its left one all the same.
 
 mod draw;
@@ -7,7 +7,7 @@ mod svg;
 mod words;
 
 use crate::Input;
-use just::{Advances, Direction, Justified, Line, Meaning, Refusal, Table, Verdict};
+use just::{one_size, Advances, Direction, Justified, Line, Meaning, Refusal, Table, Verdict, GX_RULE};
 
 const UNITS_PER_POINT: f64 = 65_536.0;
 
@@ -16,6 +16,7 @@ struct Wanted {
     glyphs: Vec<u16>,
     width: i32,
     size: u32,
+    edition: u32,
 }
 
 /// A line as it is drawn; lengths in units.
@@ -24,6 +25,7 @@ struct Picture<'a> {
     rtl: bool,
     width: i32,
     size: u32,
+    edition: u32,
     remainder: i32,
     glyphs: Vec<Glyph>,
 }
@@ -44,11 +46,16 @@ pub fn picture(words: &[&str]) -> Result<String, String> {
         ["--rtl", ref words @ ..] => (true, words),
         _ => (false, words),
     };
+    let (words, edition) = match *words {
+        [ref words @ .., edition] if words.len() == 4 => (words, numbered(edition, "edition")?),
+        _ => (words, GX_RULE),
+    };
     let [file, glyphs, width, size] = *words else { return Err(crate::USAGE.into()) };
     let wanted = Wanted {
-        glyphs: glyphs.split_whitespace().map(number).collect::<Result<_, _>>()?,
+        glyphs: glyphs.split_whitespace().map(|word| numbered(word, "glyph number")).collect::<Result<_, _>>()?,
         width: units(width)? as i32,
         size: units(size)? as u32,
+        edition,
     };
     let input = Input::one(file, &[])?;
     let table = input.table()?;
@@ -58,11 +65,11 @@ pub fn picture(words: &[&str]) -> Result<String, String> {
         justified(&table, &wanted, &advances).map_err(|refusal| format!("{file}: the line is {refusal}"))?;
     let glyphs = glyphs_of(&table, &wanted.glyphs, &advances, &justified);
     let Wanted { width, size, .. } = wanted;
-    Ok(draw::draw(&Picture { file, rtl, width, size, remainder: justified.remainder, glyphs }))
+    Ok(draw::draw(&Picture { file, rtl, width, size, edition, remainder: justified.remainder, glyphs }))
 }
 
-fn number(word: &str) -> Result<u16, String> {
-    word.parse().map_err(|_| format!("{word} is no glyph number"))
+fn numbered<T: std::str::FromStr>(word: &str, what: &str) -> Result<T, String> {
+    word.parse().map_err(|_| format!("{word} is no {what}"))
 }
 
 /// A number of points in units, rounded; what no line may have, the library refuses.
@@ -76,7 +83,8 @@ fn justified(table: &Table, wanted: &Wanted, advances: &[i32]) -> Result<Justifi
         direction: Direction::Horizontal,
         starts: true,
         ends: true,
-        size: wanted.size,
+        edition: wanted.edition,
+        sizes: &one_size(wanted.size, &wanted.glyphs),
         glyphs: &wanted.glyphs,
         advances,
         target: wanted.width,
