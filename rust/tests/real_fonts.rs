@@ -80,10 +80,10 @@ fn fonts_with_one_count_are_compared() {
     assert_eq!(status, 2);
 }
 
-/// The tables of Ekran and its bold, in files of their own.
-fn tables() -> [String; 2] {
+/// The tables of Ekran and its bold, in files of a test's own.
+fn tables(test: &str) -> [String; 2] {
     [&EKRAN, &EKRAN_BOLD].map(|known| {
-        let file: PathBuf = Path::new(env!("CARGO_TARGET_TMPDIR")).join(known.name).with_extension("just");
+        let file: PathBuf = Path::new(env!("CARGO_TARGET_TMPDIR")).join(format!("{test}-{}.just", known.name));
         let file = file.to_str().expect("a path").to_string();
         let bytes = known.bytes().expect("a font");
         std::fs::write(&file, Font::open(&bytes).expect("a font").table().bytes()).expect("a file");
@@ -94,8 +94,26 @@ fn tables() -> [String; 2] {
 #[test]
 fn tables_are_compared_with_one_count() {
     let Some(_) = fonts([&EKRAN, &EKRAN_BOLD]) else { return };
-    let [a, b] = tables();
+    let [a, b] = tables("same");
     assert_eq!(says(&["--same", &a, &b, "989"]), ("not the same\n".into(), 1));
+}
+
+/// What `--diff` says in its last line where nothing differs.
+const NOTHING: &str = "differences: 0 (sizes 0, class 0, cell 0, record 0, actions 0)\n";
+
+/// The same machine over other glyphs: the tatweel is glyph 44 of the one and 71 of the other.
+#[test]
+fn what_changed() {
+    let Some(_) = fonts([&BASMA, &BASMA_BOLD, &EKRAN, &EKRAN_BOLD]) else { return };
+    assert_eq!(says(&["--diff", &BASMA.path(), &BASMA_BOLD.path()]), (NOTHING.into(), 0));
+    let [a, b] = tables("diff");
+    let (said, status) = says(&["--diff", &a, &b, "989"]);
+    assert_eq!(status, 1);
+    assert!(
+        said.starts_with("horizontal class glyph 44 changed: 18 -> 1\nhorizontal class glyph 71 changed: 1 -> 18\n")
+    );
+    assert!(said.ends_with("\ndifferences: 1941 (sizes 0, class 699, cell 0, record 724, actions 518)\n"));
+    assert_eq!(says(&["--diff", &a, &a, "935"]), (NOTHING.into(), 0));
 }
 
 /// The glyph that its letters add. That of Ekran is its kashida; the two with 1,200 glyphs have the same table, and there the
