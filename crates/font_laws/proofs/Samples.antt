@@ -7,7 +7,7 @@ use Rattle.table.specs.Table.{present, headerFault, offsetsFault, directionFaul
 use Rattle.font_directory.specs.Sum.{wordSum, checksumOf}
 use Rattle.font_directory.specs.Directory.{firstFrom, firstListed, tableOf}
 use Rattle.font_open.specs.Opened.{insideFault, sumFault, placesFault, sumsFault, tablesFault, opened, refused, directoryFault, fontOpened}
-use Rattle.font_laws.specs.Samples.{wholeFont, twiceListed, withoutMaxp, shortMaxp, neighbourSum, shortSum, newVersion, newVersionWrongSum, strayDirection}
+use Rattle.font_laws.specs.Samples.{wholeFont, twiceListed, withoutMaxp, withoutJust, exactMaxp, farMaxp, emptyJust, shortMaxp, neighbourSum, shortSum, newVersion, newVersionWrongSum, strayDirection}
 
 -- 'just' stands at 44 and has 10 bytes, and there are 3 glyphs
 pub whole : fontOpened wholeFont ≡ opened 44 10 3
@@ -33,6 +33,11 @@ pub missing : fontOpened withoutMaxp ≡ refused 22 0
 unfolding withoutMaxp u16At u32At rule firstFrom firstListed directoryFault fontOpened
 missing = refl
 
+-- all four bytes of a tag count
+pub missing-just : fontOpened withoutJust ≡ refused 22 0
+unfolding withoutJust u16At u32At rule firstFrom firstListed directoryFault fontOpened
+missing-just = refl
+
 -- 21 for the directory comes before 22
 pub directory-first : fontOpened (take 43 withoutMaxp) ≡ refused 21 0
 unfolding withoutMaxp u16At rule directoryFault fontOpened
@@ -46,6 +51,21 @@ missing-first = refl
 pub short-maxp : fontOpened shortMaxp ≡ refused 21 0
 unfolding shortMaxp u16At u32At _then_ rule firstFrom firstListed insideFault placesFault tablesFault directoryFault fontOpened
 short-maxp = refl
+
+-- 6 bytes are enough
+pub exact-maxp : fontOpened exactMaxp ≡ opened 44 10 3
+unfolding exactMaxp u16At u32At _then_ rule wordSum checksumOf firstFrom firstListed tableOf insideFault sumFault placesFault sumsFault tablesFault directoryFault fontOpened present headerFault directionFault tableFault
+exact-maxp = refl
+
+-- offset and length do not wrap
+pub far-maxp : fontOpened farMaxp ≡ refused 21 0
+unfolding farMaxp u16At u32At _then_ rule firstFrom firstListed insideFault placesFault tablesFault directoryFault fontOpened
+far-maxp = refl
+
+-- a table without bytes is in the file, even at its end, and is the reader's to refuse
+pub empty-just : fontOpened emptyJust ≡ refused 1 0
+unfolding emptyJust u16At u32At _then_ rule wordSum checksumOf firstFrom firstListed tableOf insideFault sumFault placesFault sumsFault tablesFault directoryFault fontOpened headerFault tableFault
+empty-just = refl
 
 -- no byte after a table counts in its checksum
 pub neighbour : fontOpened neighbourSum ≡ refused 23 0

@@ -38,6 +38,22 @@ twiceListed = header 3 ++ listing just 0x00010000 60 10 ++ listing just 0 0 0 ++
 unfoldable pub withoutMaxp : List ℕ
 withoutMaxp = twoTables 0x00010000 justBytes 0x6D617871 maxpSum 7
 
+-- the first table is 'jusu'
+unfoldable pub withoutJust : List ℕ
+withoutJust = header 2 ++ listing 0x6A757375 0x00010000 44 10 ++ listing maxp maxpSum 54 7 ++ justBytes ++ maxpBytes
+
+-- 'maxp' has 6 bytes: FFFFF000 and 0003, filled with 0000
+unfoldable pub exactMaxp : List ℕ
+exactMaxp = twoTables 0x00010000 justBytes maxp 0x0002F000 6
+
+-- 'maxp' has 10 bytes at FFFFFFFC, whose end, in 32 bits, would be 6
+unfoldable pub farMaxp : List ℕ
+farMaxp = header 2 ++ listing just 0x00010000 44 10 ++ listing maxp maxpSum 0xFFFFFFFC 10 ++ justBytes ++ maxpBytes
+
+-- 'just' has no bytes and stands at the file's end, after 'maxp'
+unfoldable pub emptyJust : List ℕ
+emptyJust = header 2 ++ listing just 0 51 0 ++ listing maxp maxpSum 44 7 ++ maxpBytes
+
 -- 'maxp' has 5 bytes, whose checksum is right
 unfoldable pub shortMaxp : List ℕ
 shortMaxp = twoTables 0x00010000 justBytes maxp 0xFFFFF000 5

@@ -11,6 +11,7 @@ use Rattle.fields.specs.declared.Refusal.the-variants.{FontEnds, MissingTable, 
 use Rattle.fields.specs.declared.Fault.{Fault}
 use Rattle.fields.specs.declared.Fault.the-variants.{Clear, Bad}
 use Rattle.fields.specs.Faults.{_then_, rule}
+use Rattle.fields.specs.Field.{u16At}
 use Rattle.fields.specs.Refusals.{numberOf}
 use Rattle.fields.specs.Laws.{then-first, then-second, then-stop, then-go, then-of, rule-holds}
 use Rattle.table.specs.Table.{tableFault}
@@ -19,7 +20,7 @@ use Rattle.font_directory.specs.declared.Listing.{Listing}
 use Rattle.font_directory.specs.declared.Listing.the-variants.{Listed, Missing}
 use Rattle.font_directory.specs.Sum.{checksumOf}
 use Rattle.font_directory.specs.Directory.{directorySize, firstListed, tableOf}
-use Rattle.font_open.specs.Opened.{just, maxp, leastMaxp, Inside, countOf, insideFault, sumFault, placesFault, sumsFault, tablesFault, FontReply, opened, refused, unlessRefused, openedBy, directoryFault, fontOpened}
+use Rattle.font_open.specs.Opened.{just, maxp, countOffset, leastMaxp, Inside, glyphCountOf, insideFault, sumFault, placesFault, sumsFault, tablesFault, FontReply, opened, refused, openedUnless, openedBy, directoryFault, fontOpened}
 
 module _ (font : List ℕ) where
   pub directory-as : {size : ℕ} {r : Fault} → size ≡ directorySize font → r ≡ rule (leb size (length font)) FontEnds 0 → r ≡ directoryFault font
@@ -44,6 +45,12 @@ module _ (font : List ℕ) where
     table-as n e =
         let s : p .offset + p .length - p .offset ≡ p .length = omega arith in
         e ∙ ap (λ (x : ℕ). tableFault (take x (drop (p .offset) font)) n) s
+
+    pub count-as : {n : ℕ} → n ≡ u16At (take (p .offset + p .length - p .offset) (drop (p .offset) font)) countOffset → n ≡ glyphCountOf font p
+    unfolding tableOf
+    count-as e =
+        let s : p .offset + p .length - p .offset ≡ p .length = omega arith in
+        e ∙ ap (λ (x : ℕ). u16At (take x (drop (p .offset) font)) countOffset) s
 
   module _ (j m : TableRecord) where
     pub places-as : {f g h u r : Fault} → f ≡ insideFault font j → g ≡ insideFault font m → h ≡ rule (leb leastMaxp (m .length)) FontEnds 0
@@ -74,34 +81,38 @@ module _ (font : List ℕ) where
         unfolding tablesFault
         sums-stop e = b ∙ sym (then-go _ (sym a ∙ a0) ∙ then-stop _ (sym b ∙ e))
 
-        pub reader-last : {n : ℕ} {r : Fault} → g ≡ Clear → n ≡ countOf font m → r ≡ tableFault (tableOf font j) n → r ≡ tablesFault font j m
+        pub reader-last : {n : ℕ} {r : Fault} → g ≡ Clear → n ≡ glyphCountOf font m → r ≡ tableFault (tableOf font j) n → r ≡ tablesFault font j m
         unfolding tablesFault
         reader-last b0 c e =
             e ∙ ap (tableFault (tableOf font j)) c
-            ∙ sym (then-go (sumsFault font j m then tableFault (tableOf font j) (countOf font m)) (sym a ∙ a0) ∙ then-go (tableFault (tableOf font j) (countOf font m)) (sym b ∙ b0))
+            ∙ sym (then-go (sumsFault font j m then tableFault (tableOf font j) (glyphCountOf font m)) (sym a ∙ a0) ∙ then-go (tableFault (tableOf font j) (glyphCountOf font m)) (sym b ∙ b0))
+
+    pub tables-clear : tablesFault font j m ≡ Clear → Inside font j × Inside font m
+    unfolding tablesFault
+    tables-clear e = places-clear (then-first (placesFault font j m) (sumsFault font j m then tableFault (tableOf font j) (glyphCountOf font m)) e)
 
     -- both tables are listed
     module _ {f : Fault} (a : f ≡ tablesFault font j m) where
       pub both-refused : {r : Refusal} {at : ℕ} → f ≡ Bad r at → refused (numberOf r) at ≡ openedBy font (Listed j) (Listed m)
-      both-refused e = ap (λ (x : Fault). unlessRefused x (opened (j .offset) (j .length) (countOf font m))) (sym e ∙ a)
+      both-refused e = ap (λ (x : Fault). openedUnless x (opened (j .offset) (j .length) (glyphCountOf font m))) (sym e ∙ a)
 
-      pub both-opened : {n : ℕ} → f ≡ Clear → n ≡ countOf font m → opened (j .offset) (j .length) n ≡ openedBy font (Listed j) (Listed m)
+      pub both-opened : {n : ℕ} → f ≡ Clear → n ≡ glyphCountOf font m → opened (j .offset) (j .length) n ≡ openedBy font (Listed j) (Listed m)
       both-opened e c =
           ap (opened (j .offset) (j .length)) c
-          ∙ ap (λ (x : Fault). unlessRefused x (opened (j .offset) (j .length) (countOf font m))) (sym e ∙ a)
+          ∙ ap (λ (x : Fault). openedUnless x (opened (j .offset) (j .length) (glyphCountOf font m))) (sym e ∙ a)
 
   -- the whole font
   module _ {f : Fault} (a : f ≡ directoryFault font) where
     pub no-directory : {r : Refusal} {at : ℕ} → f ≡ Bad r at → refused (numberOf r) at ≡ fontOpened font
     unfolding fontOpened
-    no-directory e = ap (λ (x : Fault). unlessRefused x (openedBy font (firstListed font just) (firstListed font maxp))) (sym e ∙ a)
+    no-directory e = ap (λ (x : Fault). openedUnless x (openedBy font (firstListed font just) (firstListed font maxp))) (sym e ∙ a)
 
     module _ (a0 : f ≡ Clear) where
       listings : {x y : Listing} → x ≡ firstListed font just → y ≡ firstListed font maxp → openedBy font x y ≡ fontOpened font
       unfolding fontOpened
       listings u v =
           ap₂ (openedBy font) u v
-          ∙ ap (λ (x : Fault). unlessRefused x (openedBy font (firstListed font just) (firstListed font maxp))) (sym a0 ∙ a)
+          ∙ ap (λ (x : Fault). openedUnless x (openedBy font (firstListed font just) (firstListed font maxp))) (sym a0 ∙ a)
 
       pub no-just : {x : Listing} → x ≡ Missing → x ≡ firstListed font just → refused (numberOf MissingTable) 0 ≡ fontOpened font
       no-just e u = listings (sym e ∙ u) refl

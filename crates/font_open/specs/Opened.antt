@@ -32,8 +32,8 @@ countOffset = 4
 abbrev pub leastMaxp : ℕ
 leastMaxp = 6
 
-abbrev pub countOf : List ℕ → TableRecord → ℕ
-countOf font m = u16At font (m .offset + countOffset)
+abbrev pub glyphCountOf : List ℕ → TableRecord → ℕ
+glyphCountOf font m = u16At (tableOf font m) countOffset
 
 -- the bytes that a record names are wholly in the file; offset and length are plain numbers, whose sum does not wrap
 abbrev pub Inside : List ℕ → TableRecord → Type 0
@@ -57,7 +57,7 @@ sumsFault font j m = sumFault font j then sumFault font m
 
 -- both before the refusals of document 01, which are those of the bytes of 'just', read with the count
 unfoldable pub tablesFault : List ℕ → TableRecord → TableRecord → Fault
-tablesFault font j m = placesFault font j m then sumsFault font j m then tableFault (tableOf font j) (countOf font m)
+tablesFault font j m = placesFault font j m then sumsFault font j m then tableFault (tableOf font j) (glyphCountOf font m)
 
 -- what an answer says: the offset and the length of 'just' and the glyph count; or a refusal's number and, for 4 to 8, its offset from the start of 'just'
 pub data FontReply : Type 0 where
@@ -68,13 +68,13 @@ abbrev pub saysFont : FontAnswer → FontReply
 saysFont (answer.Opened offset length count) = opened offset length count
 saysFont (answer.Refused r at) = refused (numberOf r) at
 
-abbrev pub unlessRefused : Fault → FontReply → FontReply
-unlessRefused Clear reply = reply
-unlessRefused (Bad r at) reply = refused (numberOf r) at
+abbrev pub openedUnless : Fault → FontReply → FontReply
+openedUnless Clear reply = reply
+openedUnless (Bad r at) reply = refused (numberOf r) at
 
 -- 22 where one of the two is missing
 abbrev pub openedBy : List ℕ → Listing → Listing → FontReply
-openedBy font (Listed j) (Listed m) = unlessRefused (tablesFault font j m) (opened (j .offset) (j .length) (countOf font m))
+openedBy font (Listed j) (Listed m) = openedUnless (tablesFault font j m) (opened (j .offset) (j .length) (glyphCountOf font m))
 openedBy font (Listed j) Missing = refused (numberOf MissingTable) 0
 openedBy font Missing m = refused (numberOf MissingTable) 0
 
@@ -83,4 +83,4 @@ unfoldable pub directoryFault : List ℕ → Fault
 directoryFault font = rule (leb (directorySize font) (length font)) FontEnds 0
 
 unfoldable pub fontOpened : List ℕ → FontReply
-fontOpened font = unlessRefused (directoryFault font) (openedBy font (firstListed font just) (firstListed font maxp))
+fontOpened font = openedUnless (directoryFault font) (openedBy font (firstListed font just) (firstListed font maxp))

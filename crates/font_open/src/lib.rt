@@ -3,7 +3,7 @@ ghost use mathlib.Core.Path.{_≡_};
 ghost use Rattle.table.specs.Table.{tableFault};
 ghost use Rattle.font_directory.specs.declared.Listing.the-variants.{Listed};
 ghost use Rattle.font_directory.specs.Directory.{tableOf};
-ghost use Rattle.font_open.specs.Opened.{Inside, countOf, insideFault, sumFault, placesFault, sumsFault, tablesFault, saysFont, openedBy, directoryFault, fontOpened};
+ghost use Rattle.font_open.specs.Opened.{Inside, glyphCountOf, insideFault, sumFault, placesFault, sumsFault, tablesFault, saysFont, openedBy, directoryFault, fontOpened};
 ghost use Rattle.font_open.specs.OpenedInC.{fontIn};
 use fields::Fault;
 use fields::Refusal;
@@ -74,9 +74,12 @@ fn sum_fault(font: &[u8], place: TableRecord) -> Fault
 
 // The glyph count that 'maxp' has.
 fn count_of(font: &[u8], maxp: TableRecord) -> u32
-    ensures { λ r. ⌜ r ≡ countOf (now (font .entry)) maxp ⌝ }
+    requires { ⌜ Inside (now font) maxp ⌝ }
+    ensures { λ r. ⌜ r ≡ glyphCountOf (now (font .entry)) maxp ⌝ }
 {
-    fields::u16_at(font, maxp.offset as usize + GLYPH_COUNT) as u32
+    let from = maxp.offset as usize;
+    let to = from + maxp.length as usize;
+    fields::u16_at(&font[from..to], GLYPH_COUNT) as u32
 }
 
 // The first fault of the table that a record names, read with a glyph count.

@@ -1,5 +1,6 @@
 -- `font_open::open_tables` meets its contract.
-use Rattle.font_open.proofs.Laws.{both-opened, both-refused}
+use Rattle.font_open.proofs.Laws.{tables-clear, both-opened, both-refused}
+use mathlib.Core.Path.{sym, _∙_}
 use borrow.Author.Needs.{needs}
 use Rattle.font_open.proofs.open_tables.Statement.{statement}
 use Rattle.font_open.proofs.open_tables.Tie as tie
@@ -11,7 +12,9 @@ enum-told : tie.Need-enum-told
 enum-told c = search needs
 
 count-of-requires : tie.Need-count-of-requires
-count-of-requires c κs = search needs
+count-of-requires c κs =
+    let a = c .before .before .before .before .args in
+    tables-clear (a .font .now) (a .just) (a .maxp) (sym (c .before .before .tables-fault .ensures) ∙ c .enum-told .given .1) .1
 
 enum-known-refusal : tie.Need-enum-known-refusal
 enum-known-refusal c = search needs

@@ -32,7 +32,9 @@ enum-told-4 : tie.Need-enum-told-4
 enum-told-4 c = search needs
 
 count-of-requires : tie.Need-count-of-requires
-count-of-requires c κs = search needs
+count-of-requires c κs =
+    let a = c .before .before .before .before .before .before .before .args in
+    places-clear (a .font .now) (a .just) (a .maxp) (sym (c .before .before .before .before .before .places-fault .ensures) ∙ c .before .before .before .enum-told2 .given .1) .1
 
 table-fault-requires : tie.Need-table-fault-requires
 table-fault-requires c κs =
