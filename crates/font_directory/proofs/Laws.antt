@@ -52,12 +52,11 @@ module _ (bytes : List ℕ) where
       sym (e ∙ y)
 
 -- the bytes that a record names, their length as the code has it
-pub part-sum : (font : List ℕ) (r : TableRecord) {s : ℕ} → s ≡ checksumOf (take (r .offset + r .length - r .offset) (drop (r .offset) font))
-    → s ≡ checksumOf (tableOf font r)
+pub named-bytes : (font : List ℕ) (r : TableRecord) → take (r .offset + r .length - r .offset) (drop (r .offset) font) ≡ tableOf font r
 unfolding tableOf
-part-sum font r e =
+named-bytes font r =
     let s : r .offset + r .length - r .offset ≡ r .length = omega arith in
-    e ∙ ap (λ (k : ℕ). checksumOf (take k (drop (r .offset) font))) s
+    ap (λ (k : ℕ). take k (drop (r .offset) font)) s
 
 pub record-as : (font : List ℕ) (p s o l : ℕ) → s ≡ u32At font (p + 4) → o ≡ u32At font (p + 8) → l ≡ u32At font (p + 12)
     → _≡_ {A = TableRecord} (record { sum = s; offset = o; length = l }) (recordAt font p)

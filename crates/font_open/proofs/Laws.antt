@@ -1,17 +1,15 @@
 -- Laws of a font's faults and of what opening it answers.
-use Prim.Native.Nat.{ℕ, _+_, _-_}
+use Prim.Native.Nat.{ℕ, _+_}
 use mathlib.Core.List.{List}
 use mathlib.Core.Path.{_≡_, refl, sym, ap, ap₂, _∙_}
-use native.Mathlib.Omega.{arith}
 use lib.Dec.{leb, eqb}
-use lib.ListN.{length, take, drop}
+use lib.ListN.{length}
 use borrow.Author.Tests.{leb-true}
 use Rattle.fields.specs.declared.Refusal.{Refusal}
 use Rattle.fields.specs.declared.Refusal.the-variants.{FontEnds, MissingTable, WrongSum}
 use Rattle.fields.specs.declared.Fault.{Fault}
 use Rattle.fields.specs.declared.Fault.the-variants.{Clear, Bad}
 use Rattle.fields.specs.Faults.{_then_, rule}
-use Rattle.fields.specs.Field.{u16At}
 use Rattle.fields.specs.Refusals.{numberOf}
 use Rattle.fields.specs.Laws.{then-first, then-second, then-stop, then-go, then-of, rule-holds}
 use Rattle.table.specs.Table.{tableFault}
@@ -20,7 +18,7 @@ use Rattle.font_directory.specs.declared.Listing.{Listing}
 use Rattle.font_directory.specs.declared.Listing.the-variants.{Listed, Missing}
 use Rattle.font_directory.specs.Sum.{checksumOf}
 use Rattle.font_directory.specs.Directory.{directorySize, firstListed, tableOf}
-use Rattle.font_open.specs.Opened.{just, maxp, countOffset, leastMaxp, Inside, glyphCountOf, insideFault, sumFault, placesFault, sumsFault, tablesFault, FontReply, opened, refused, openedUnless, openedBy, directoryFault, fontOpened}
+use Rattle.font_open.specs.Opened.{just, maxp, leastMaxp, Inside, glyphCountOf, insideFault, sumFault, placesFault, sumsFault, tablesFault, FontReply, opened, refused, openedUnless, openedBy, directoryFault, fontOpened}
 
 module _ (font : List ℕ) where
   pub directory-as : {size : ℕ} {r : Fault} → size ≡ directorySize font → r ≡ rule (leb size (length font)) FontEnds 0 → r ≡ directoryFault font
@@ -39,18 +37,6 @@ module _ (font : List ℕ) where
     pub sum-as : {s : ℕ} {r : Fault} → s ≡ checksumOf (tableOf font p) → r ≡ rule (eqb s (p .sum)) WrongSum 0 → r ≡ sumFault font p
     unfolding sumFault
     sum-as e q = q ∙ ap (λ (x : ℕ). rule (eqb x (p .sum)) WrongSum 0) e
-
-    pub table-as : (n : ℕ) {r : Fault} → r ≡ tableFault (take (p .offset + p .length - p .offset) (drop (p .offset) font)) n → r ≡ tableFault (tableOf font p) n
-    unfolding tableOf
-    table-as n e =
-        let s : p .offset + p .length - p .offset ≡ p .length = omega arith in
-        e ∙ ap (λ (x : ℕ). tableFault (take x (drop (p .offset) font)) n) s
-
-    pub count-as : {n : ℕ} → n ≡ u16At (take (p .offset + p .length - p .offset) (drop (p .offset) font)) countOffset → n ≡ glyphCountOf font p
-    unfolding tableOf
-    count-as e =
-        let s : p .offset + p .length - p .offset ≡ p .length = omega arith in
-        e ∙ ap (λ (x : ℕ). u16At (take x (drop (p .offset) font)) countOffset) s
 
   module _ (j m : TableRecord) where
     pub places-as : {f g h u r : Fault} → f ≡ insideFault font j → g ≡ insideFault font m → h ≡ rule (leb leastMaxp (m .length)) FontEnds 0

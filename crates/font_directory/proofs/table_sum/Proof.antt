@@ -1,5 +1,7 @@
 -- `font_directory::table_sum` meets its contract.
-use Rattle.font_directory.proofs.Laws.{part-sum}
+use Rattle.font_directory.proofs.Laws.{named-bytes}
+use mathlib.Core.Path.{ap, _∙_}
+use Rattle.font_directory.specs.Sum.{checksumOf}
 use borrow.Author.Needs.{needs}
 use Rattle.font_directory.proofs.table_sum.Statement.{statement}
 use Rattle.font_directory.proofs.table_sum.Tie as tie
@@ -26,7 +28,7 @@ checksum-requires : tie.Need-checksum-requires
 checksum-requires c κs = search needs
 
 returns : tie.Need-returns
-returns c = let a = c .before .before .before .before .before .args in part-sum (a .font .now) (a .place) (c .checksum .ensures)
+returns c = let a = c .before .before .before .before .before .args in c .checksum .ensures ∙ ap checksumOf (named-bytes (a .font .now) (a .place))
 
 pub table-sum-spec : {M : Type 1} → statement M
 table-sum-spec =

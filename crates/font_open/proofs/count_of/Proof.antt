@@ -1,5 +1,10 @@
 -- `font_open::count_of` meets its contract.
-use Rattle.font_open.proofs.Laws.{count-as}
+use Prim.Native.Nat.{ℕ}
+use mathlib.Core.List.{List}
+use mathlib.Core.Path.{ap, _∙_}
+use Rattle.fields.specs.Field.{u16At}
+use Rattle.font_directory.proofs.Laws.{named-bytes}
+use Rattle.font_open.specs.Opened.{countOffset}
 use borrow.Author.Needs.{needs}
 use Rattle.font_open.proofs.count_of.Statement.{statement}
 use Rattle.font_open.proofs.count_of.Tie as tie
@@ -29,7 +34,7 @@ cast-result : tie.Need-cast-result
 cast-result c = search needs
 
 returns : tie.Need-returns
-returns c = let a = c .before .before .before .before .before .args in count-as (a .font .now) (a .maxp) (c .u16-at .ensures .0)
+returns c = let a = c .before .before .before .before .before .args in c .u16-at .ensures .0 ∙ ap (λ (t : List ℕ). u16At t countOffset) (named-bytes (a .font .now) (a .maxp))
 
 pub count-of-spec : {M : Type 1} → statement M
 count-of-spec =

@@ -1,5 +1,9 @@
 -- `font_open::table_fault` meets its contract.
-use Rattle.font_open.proofs.Laws.{table-as}
+use Prim.Native.Nat.{ℕ}
+use mathlib.Core.List.{List}
+use mathlib.Core.Path.{ap, _∙_}
+use Rattle.table.specs.Table.{tableFault}
+use Rattle.font_directory.proofs.Laws.{named-bytes}
 use borrow.Author.Needs.{needs}
 use Rattle.font_open.proofs.table_fault.Statement.{statement}
 use Rattle.font_open.proofs.table_fault.Tie as tie
@@ -26,7 +30,7 @@ table-fault-requires : tie.Need-table-fault-requires
 table-fault-requires c κs = search needs
 
 returns : tie.Need-returns
-returns c = let a = c .before .before .before .before .before .args in table-as (a .font .now) (a .place) (a .count) (c .table-fault .ensures)
+returns c = let a = c .before .before .before .before .before .args in c .table-fault .ensures ∙ ap (λ (t : List ℕ). tableFault t (a .count)) (named-bytes (a .font .now) (a .place))
 
 pub table-fault-spec : {M : Type 1} → statement M
 table-fault-spec =
