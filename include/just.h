@@ -30,7 +30,7 @@
 #include <stdint.h>
 
 /* Rises when a call or a struct changes, or a refusal is added. */
-#define JUST_VERSION 6
+#define JUST_VERSION 7
 
 #ifdef __cplusplus
 extern "C" {

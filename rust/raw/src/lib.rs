@@ -24,7 +24,7 @@ pub use sheet::Sheet;
 pub use table::Table;
 
 /// The version of the C header that these functions follow.
-pub const VERSION: u32 = 6;
+pub const VERSION: u32 = 7;
 
 /// What is asked for the parts of its meaning: a table or a sheet. It is judged first each time.
 ///
