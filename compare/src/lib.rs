@@ -1,4 +1,4 @@
-//! Holds the proved library against the second program.
+//! Holds the proved library against the second program, and the peer, a program in C, in its place.
 //!
 //! A case is a name, `KIND-SEED-INDEX`, from which its input is drawn again; a case in which the two differ is saved as a
 //! file of that name.
@@ -17,9 +17,10 @@ pub mod letters;
 pub mod library;
 pub mod lines;
 pub mod marks;
+pub mod ordinary;
 pub mod pairs;
 pub mod parts;
-pub mod peers;
+pub mod peer;
 pub mod questions;
 pub mod refused;
 pub mod samples;

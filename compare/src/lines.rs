@@ -4,8 +4,8 @@ use crate::caps;
 use crate::guarded::Guarded;
 use crate::questions::Questions;
 use crate::refused::{self, Refused};
-use crate::{library, same, Outcome};
-use just_raw::{Lent, Line, Said, Table, Verdict};
+use crate::{library, peer, same, Outcome};
+use just_raw::{Answer, Lent, Line, Said, Table, Verdict};
 use reference::generate::{self, LineCase};
 use reference::{Direction, Fault, Justified};
 
@@ -131,8 +131,16 @@ fn said(answer: &Justified) -> Said {
     Said { remainder: answer.remainder as i32, entries: answer.entries as u32, verdicts: answer.verdicts.len() as u32 }
 }
 
-/// Compares the call on one line with what the second program answers.
+/// Compares the call on one line, the library's and the peer's, with what the second program answers.
 pub fn compare(case: &LineCase, second: &Result<Justified, Fault>, asked: &mut Questions) -> Outcome {
+    compare_call(Table::justify, case, second, asked)?;
+    peer::in_place(compare_call(peer::justify, case, second, asked))
+}
+
+/// What justifies a line.
+type Call = fn(Table, &Line, Lent) -> Answer<Said>;
+
+fn compare_call(call: Call, case: &LineCase, second: &Result<Justified, Fault>, asked: &mut Questions) -> Outcome {
     let mut lent = Buffers::new(case, asked);
     let wanted = match second {
         Ok(answer) => lent.clone().filled(answer),
@@ -141,7 +149,7 @@ pub fn compare(case: &LineCase, second: &Result<Justified, Fault>, asked: &mut Q
     let inputs = Inputs::new(case, asked);
     let untouched = inputs.clone();
     let line = Line { direction: direction(case, asked), ..inputs.line(case) };
-    let answer = table(case).justify(&line, lent.lend());
+    let answer = call(table(case), &line, lent.lend());
     same("justify", refused::said(answer), second.as_ref().map(said).map_err(|&fault| Refused::fault(fault)))?;
     inputs.compare(&untouched)?;
     lent.compare(&wanted)

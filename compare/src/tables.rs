@@ -3,7 +3,7 @@
 
 use crate::questions::{self, Questions};
 use crate::refused::{said, Refused};
-use crate::{library, parts, same, written, Outcome};
+use crate::{library, parts, peer, same, written, Outcome};
 use just_raw::{Sheet, Table};
 use reference::{generate, Direction};
 
@@ -18,6 +18,7 @@ pub fn compare(table: Table, asked: &mut Questions) -> Outcome {
     let second = reference::read_table(bytes, glyph_count);
     let read = second.as_ref().map_err(|&fault| Refused::fault(fault));
     same("check_table", said(table.check()), read.map(|_| ()))?;
+    peer::in_place(same("check_table", said(peer::check(table)), read.map(|_| ())))?;
     compare_field(table, read.err())?;
     parts::compare("table", table, read, asked)?;
     for way in Direction::BOTH {

@@ -1,8 +1,9 @@
 //! `search SEED SECONDS`: draws hostile tables and times judging and writing them, and prints for both calls those that cost
 //! most beside an ordinary table of about as many bytes, with its sheet: of several kinds the one that costs least for a byte.
 
+use compare::ordinary::Ordinary;
 use compare::questions::Questions;
-use compare::{clock, hostile, peers};
+use compare::{clock, hostile, ordinary};
 use just_raw::Table;
 use std::collections::HashMap;
 use std::hint::black_box;
@@ -53,11 +54,11 @@ fn least<A>(calls: u32, mut call: impl FnMut() -> A) -> f64 {
 /// What ordinary tables of about so many bytes cost for a byte, timed once for sizes within a tenth of each other.
 fn ordinary(known: &mut HashMap<u32, [f64; 2]>, bytes: usize) -> [f64; 2] {
     let size = ((bytes as f64).ln() * 10.0) as u32;
-    let least = |peers: Vec<peers::Peer>, each: fn(&Timed, u32) -> f64| {
-        let timed = peers.into_iter().filter_map(|(table, glyphs)| Timed::new(table, glyphs));
-        timed.map(|peer| each(&peer, 60)).fold(f64::MAX, f64::min)
+    let least = |tables: Vec<Ordinary>, each: fn(&Timed, u32) -> f64| {
+        let timed = tables.into_iter().filter_map(|(table, glyphs)| Timed::new(table, glyphs));
+        timed.map(|table| each(&table, 60)).fold(f64::MAX, f64::min)
     };
-    let time = || [least(peers::judged(bytes), Timed::judging), least(peers::written(bytes), Timed::writing)];
+    let time = || [least(ordinary::judged(bytes), Timed::judging), least(ordinary::written(bytes), Timed::writing)];
     *known.entry(size).or_insert_with(time)
 }
 
