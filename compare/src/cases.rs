@@ -286,10 +286,10 @@ pub fn both_ways(mut table: Vec<u8>) -> Vec<u8> {
     table
 }
 
-/// A table with a list of 64 actions for each of its glyphs, and an unlimited record.
-pub fn many_actions() -> Vec<u8> {
+/// A table with a list of so many actions for each of its glyphs, and an unlimited record.
+pub fn many_actions(count: u32) -> Vec<u8> {
     let action = |fields: Fields, _| fields.ws(&[0, 3]).l(8);
-    let list = (0..64).fold(Fields::new().l(64), action).done();
+    let list = (0..count).fold(Fields::new().l(count), action).done();
     drafts::table(&[drafts::grows(0, 0, 0x1000); 4], &list, &[])
 }
 

@@ -133,7 +133,7 @@ fn said(answer: &Justified) -> Said {
 
 /// Compares the call on one line, the library's and the peer's, with what the second program answers.
 pub fn compare(case: &LineCase, second: &Result<Justified, Fault>, asked: &mut Questions) -> Outcome {
-    compare_call(Table::justify, case, second, asked)?;
+    compare_call(|table, line, lent| table.justify(line, lent), case, second, asked)?;
     peer::in_place(compare_call(peer::justify, case, second, asked))
 }
 

@@ -1,12 +1,15 @@
-//! `bench [WORDS]`: the proved library against the second program, on the same input in the same run. Prints tables of
-//! times and ratios (the library's time over the second program's, medians of several rounds), and the library's time for
-//! each byte of table and sheet; for hostile tables and sheets also how many times that of an ordinary one of about as
+//! `bench [WORDS]`: the proved library against the second program, and for the two calls that it has against the peer, a
+//! program in C, on the same input in the same run. Prints tables of times and ratios (the library's time over the second
+//! program's and over the peer's, medians of several rounds taken in turn), and the library's time for each byte of table and sheet; for hostile tables and sheets also how many times that of an ordinary one of about as
 //! many bytes it is, of several the one that costs least. With words, only cases whose name has them are run.
 
+use compare::letters::{self, Font};
+use compare::ordinary::{self, Ordinary};
 use compare::questions::Questions;
-use compare::{cases, clock, drafts, letters, library, lines, peers};
-use just_raw::{Difference, Lent, Sheet, Table, Verdict};
+use compare::{cases, clock, drafts, library, lines, peer};
+use just_raw::{Answer, Difference, Lent, Line, Said, Sheet, Table, Verdict};
 use reference::examples::{complex, simple};
+use reference::generate::LineCase;
 use reference::{Direction, Parts};
 use std::hint::black_box;
 
@@ -17,6 +20,7 @@ struct Case {
     bytes: usize,
     library: Box<dyn FnMut()>,
     second: Box<dyn FnMut()>,
+    peer: Option<Box<dyn FnMut()>>,
     /// The same call on ordinary inputs.
     beside: Vec<Case>,
 }
@@ -30,7 +34,11 @@ impl Case {
     ) -> Case {
         let library = Box::new(move || drop(black_box(library())));
         let second = Box::new(move || drop(black_box(second())));
-        Case { name, bytes, library, second, beside: Vec::new() }
+        Case { name, bytes, library, second, peer: None, beside: Vec::new() }
+    }
+
+    fn against<C>(self, mut peer: impl FnMut() -> C + 'static) -> Case {
+        Case { peer: Some(Box::new(move || drop(black_box(peer())))), ..self }
     }
 
     fn beside(self, ordinary: Vec<Case>) -> Case {
@@ -61,23 +69,29 @@ fn once(call: &mut dyn FnMut()) -> f64 {
     }
 }
 
-/// Both in turn, nine rounds, or three where a call takes longer than 100 ms; prints the medians and their ratio.
-fn print_case(mut case: Case) {
-    let mut times = [vec![once(&mut case.library)], vec![once(&mut case.second)]];
+/// The medians of calls that are timed in turn, nine rounds, or three where the first takes longer than 100 ms.
+fn medians(calls: &mut [&mut Box<dyn FnMut()>]) -> Vec<f64> {
+    let mut times: Vec<Vec<f64>> = calls.iter_mut().map(|call| vec![once(call)]).collect();
     let rounds = if times[0][0] > 1e8 { 3 } else { 9 };
     for _ in 1..rounds {
-        times[0].push(once(&mut case.library));
-        times[1].push(once(&mut case.second));
+        calls.iter_mut().zip(&mut times).for_each(|(call, times)| times.push(once(call)));
     }
-    let median = |times: &mut Vec<f64>| {
-        times.sort_by(f64::total_cmp);
-        times[times.len() / 2]
-    };
-    let [ours, theirs] = times.each_mut().map(median);
-    let (ratio, each) = (ours / theirs, ours / case.bytes as f64);
+    times.iter_mut().for_each(|times| times.sort_by(f64::total_cmp));
+    times.iter().map(|times| times[times.len() / 2]).collect()
+}
+
+/// Prints a line of a table: medians and their ratios.
+fn print_case(mut case: Case) {
+    let mut calls = vec![&mut case.library, &mut case.second];
+    calls.extend(&mut case.peer);
+    let times = medians(&mut calls);
+    let ours = times[0];
+    let against = |time: f64| format!("{:.2} | {:.2}", time / 1000.0, ours / time);
+    let peer = times.get(2).map_or(" | ".to_string(), |&time| against(time));
+    let each = ours / case.bytes as f64;
     let least = case.beside.iter_mut().map(Case::each).reduce(f64::min);
-    let times = least.map_or(String::new(), |least| format!("{:.1}", each / least));
-    println!("| {} | {:.2} | {:.2} | {ratio:.2} | {each:.2} | {times} |", case.name, ours / 1000.0, theirs / 1000.0);
+    let beside = least.map_or(String::new(), |least| format!("{:.1}", each / least));
+    println!("| {} | {:.2} | {} | {peer} | {each:.2} | {beside} |", case.name, ours / 1000.0, against(times[1]));
 }
 
 fn print_group(title: &str, cases: Vec<Case>) {
@@ -87,8 +101,8 @@ fn print_group(title: &str, cases: Vec<Case>) {
 /// A group whose last two columns, the library's time for each of something and beside something else, are these.
 fn print_by(title: &str, [each, beside]: [&str; 2], cases: Vec<Case>) {
     let words = std::env::args().skip(1).collect::<Vec<_>>().join(" ");
-    println!("\n{title}\n\n| case | library, µs | second program, µs | ratio | library, {each} | {beside} |");
-    println!("|---|---|---|---|---|---|");
+    println!("\n{title}\n\n| case | library, µs | second program, µs | ratio | C, µs | library over C | library, {each} | {beside} |");
+    println!("|---|---|---|---|---|---|---|---|");
     cases.into_iter().filter(|case| case.name.contains(&words)).for_each(print_case);
 }
 
@@ -98,10 +112,11 @@ fn bytes(table: &[u8], n: u32) -> usize {
 }
 
 fn check(name: &str, table: &[u8], n: u32) -> Case {
-    let [ours, theirs] = [table.to_vec(), table.to_vec()];
+    let [ours, theirs, in_c] = [table.to_vec(), table.to_vec(), table.to_vec()];
     let library = move || Table { bytes: black_box(&ours), glyph_count: n }.check();
     let second = move || reference::check_table(black_box(&theirs), n);
-    Case::new(format!("check_table: {name}"), bytes(table, n), library, second)
+    let peer = move || peer::check(Table { bytes: black_box(&in_c), glyph_count: n });
+    Case::new(format!("check_table: {name}"), bytes(table, n), library, second).against(peer)
 }
 
 fn write(name: &str, table: &[u8], n: u32) -> Case {
@@ -158,27 +173,43 @@ fn differences(name: &str, first: &[u8], second: &[u8], n: u32) -> Case {
     Case::new(format!("differences: {name}, {count} of them"), each, library, second).beside(vec![judging])
 }
 
+/// A call that justifies a line again and again, into buffers of its own.
+fn justifies(case: &LineCase, call: fn(Table, &Line, Lent) -> Answer<Said>) -> impl FnMut() -> Answer<Said> {
+    let (case, count) = (case.clone(), case.glyphs.len());
+    let inputs = lines::Inputs::new(&case, &mut Questions::new(1, 1));
+    let (mut classes, mut before, mut after) = (vec![0; count], vec![0; count], vec![0; count]);
+    let mut verdicts = vec![Verdict::default(); case.room];
+    move || {
+        let lent = Lent { classes: &mut classes, before: &mut before, after: &mut after, verdicts: &mut verdicts };
+        let case = black_box(&case);
+        call(lines::table(case), &inputs.line(case), lent)
+    }
+}
+
 /// The whole call, with the table's check.
 fn line(name: &str, table: Vec<u8>, n: u32, count: usize) -> Case {
     let bytes = bytes(&table, n);
-    let ours = cases::line(table, n, count);
-    let theirs = ours.clone();
-    assert!(ours.justify().is_ok(), "{name} is refused");
-    let inputs = lines::Inputs::new(&ours, &mut Questions::new(1, 1));
-    let (mut classes, mut before, mut after) = (vec![0; count], vec![0; count], vec![0; count]);
-    let mut verdicts = vec![Verdict::default(); ours.room];
-    let library = move || {
-        let lent = Lent { classes: &mut classes, before: &mut before, after: &mut after, verdicts: &mut verdicts };
-        let ours = black_box(&ours);
-        lines::table(ours).justify(&inputs.line(ours), lent)
-    };
-    let second = move || black_box(&theirs).justify();
-    Case::new(format!("justify: {name}, {count} glyphs"), bytes, library, second)
+    let case = cases::line(table, n, count);
+    assert!(case.justify().is_ok(), "{name} is refused");
+    let library = justifies(&case, |table, line, lent| table.justify(line, lent));
+    let peer = justifies(&case, peer::justify);
+    let second = move || black_box(&case).justify();
+    let glyphs = if count == 1 { "1 glyph".to_string() } else { format!("{count} glyphs") };
+    Case::new(format!("justify: {name}, {glyphs}"), bytes, library, second).against(peer)
 }
 
 /// A line by a table with so many units for its letters.
 fn line_of_letters(units: u16, count: usize) -> Case {
-    line(&format!("{units} units of letters"), letters::table(units), letters::glyphs(units), count)
+    let font = Font::of_units(units);
+    line(&format!("{units} units of letters"), font.table(), font.glyphs(), count)
+}
+
+/// Judging the tables of a small and of a large font, and lines by them.
+fn of_fonts() -> Vec<Case> {
+    let (small, large) = (("200 units, 3.7 KB", letters::SMALL), ("1,200 units, 30 KB", letters::LARGE));
+    let check = |(name, font): (&str, Font)| check(name, &font.table(), font.glyphs());
+    let line = |(name, font): (&str, Font), count| line(name, font.table(), font.glyphs(), count);
+    vec![check(small), check(large), line(small, 8), line(small, 60), line(large, 60)]
 }
 
 fn sheet_by_reference(table: &[u8], n: u32) -> Vec<u8> {
@@ -194,6 +225,7 @@ fn ordinary() -> Vec<Case> {
         check("5,000 format 2 units, N 65,000", &units, 65_000),
         check("1,500 units, 500 distinct clusters, N 60,000", &spread, 60_000),
         check("600 units, 300 distinct lists, N 6,000", &lists, 6_000),
+        line("Apple's simple example", simple(), 280, 1),
         line("Apple's simple example", simple(), 280, 60),
         line("Apple's complex example", apple.clone(), 280, 60),
         line("Apple's complex example", apple.clone(), 280, 1_024),
@@ -203,6 +235,7 @@ fn ordinary() -> Vec<Case> {
         line_of_letters(200, 1_024),
         line_of_letters(1_200, 60),
         line_of_letters(1_200, 1_024),
+        line("16 actions a glyph, all fire", cases::many_actions(16), 4, 60),
         length("Apple's complex example, N 280", &apple, 280),
         write("Apple's simple example, N 280", &simple(), 280),
         write("Apple's complex example, N 280", &apple, 280),
@@ -219,12 +252,12 @@ fn ordinary() -> Vec<Case> {
 /// Judging and writing a hostile table, each beside the same call on ordinary ones.
 fn hostile_table(name: &str, table: &[u8], n: u32) -> [Case; 2] {
     let bytes = bytes(table, n);
-    let ordinary = |call: fn(&str, &[u8], u32) -> Case, peers: Vec<peers::Peer>| {
-        peers.iter().map(|(peer, count)| call("ordinary", peer, *count)).collect()
+    let ordinary = |call: fn(&str, &[u8], u32) -> Case, tables: Vec<Ordinary>| {
+        tables.iter().map(|(table, count)| call("ordinary", table, *count)).collect()
     };
     [
-        check(name, table, n).beside(ordinary(check, peers::judged(bytes))),
-        write(name, table, n).beside(ordinary(write, peers::written(bytes))),
+        check(name, table, n).beside(ordinary(check, ordinary::judged(bytes))),
+        write(name, table, n).beside(ordinary(write, ordinary::written(bytes))),
     ]
 }
 
@@ -300,7 +333,7 @@ fn hostile_rest() -> Vec<Case> {
         hostile_sheet("20,000 clusters that find one slot", &cases::one_slot(20_000)),
         hostile_sheet("20,000 lists that differ in one component", &cases::ligature_sheet(20_000)),
         hostile_sheet("lists with long common beginnings", &sheet_by_reference(&cases::alike_lists(2_800), 2_800)),
-        line("64 actions a glyph, all fire", cases::many_actions(), 4, 1_024),
+        line("64 actions a glyph, all fire", cases::many_actions(64), 4, 1_024),
         line("256 entries a glyph", cases::long_walk(), 1, 1_024),
         line("5,000 format 2 units", cases::ranges(5_000, 13, 8), 65_000, 1_024),
         line("clusters of up to 128 pairs", cases::nested_rows(), 1_152, 1_024),
@@ -372,6 +405,7 @@ fn doubled() -> Vec<Case> {
 
 fn main() {
     print_group("Ordinary inputs", ordinary());
+    print_group("Tables of fonts, and lines by them", of_fonts());
     print_group("Clusters that overlap, units that share arrays, and a large machine", hostile_clusters());
     print_group("Lists that overlap", hostile_lists());
     print_group("Other hostile inputs", hostile_rest());
