@@ -1,8 +1,6 @@
 /* Judging an action list. */
 #include "judge.h"
 
-#include <stdbool.h>
-
 /* The least length of an action by its type: class, type, length and data, type 0's without glyphs. */
 static const uint8_t LEAST_LENGTH[LAST_TYPE + 1] = {20, 10, 16, 8, 24, 12};
 
@@ -10,80 +8,73 @@ static const uint8_t LEAST_LENGTH[LAST_TYPE + 1] = {20, 10, 16, 8, 24, 12};
 enum { COMPONENT_COUNT = 18, COMPONENTS = 20, MOST_COMPONENTS = 32 };
 enum { ADDED = 12, SUBSTITUTE = 14, REPEATED = 10 };
 
-/* Where an action stands: its offset, and the bytes of the table from there on. */
-struct place {
-    const uint8_t *table;
-    size_t length, at, room;
+/* An action: its first byte and that byte's offset, how many bytes of the table are from there on, and the glyph count. */
+struct action {
+    const uint8_t *bytes;
+    size_t at, room;
     uint32_t glyph_count;
 };
 
 /* The first fault of class, type and length. */
-static struct just_checked head_fault(struct place p) {
-    const uint8_t *action = p.table + p.at;
-    if (p.room < ACTION_TYPE) return fault(JUST_OUTSIDE, p.at);
-    if (be16(action) > MOST_CLASS) return fault(JUST_BAD_ACTIONS, p.at);
-    if (p.room < ACTION_LENGTH) return fault(JUST_OUTSIDE, p.at + ACTION_TYPE);
-    if (be16(action + ACTION_TYPE) > LAST_TYPE) return fault(JUST_BAD_ACTIONS, p.at + ACTION_TYPE);
-    return fault(p.room < ACTION_DATA ? JUST_OUTSIDE : JUST_BAD_ACTIONS, p.at + ACTION_LENGTH);
+static struct just_checked head_fault(struct action of) {
+    if (of.room < ACTION_TYPE) return fault(JUST_OUTSIDE, of.at);
+    if (be16(of.bytes) > MOST_CLASS) return fault(JUST_BAD_ACTIONS, of.at);
+    if (of.room < ACTION_LENGTH) return fault(JUST_OUTSIDE, of.at + ACTION_TYPE);
+    if (be16(of.bytes + ACTION_TYPE) > LAST_TYPE) return fault(JUST_BAD_ACTIONS, of.at + ACTION_TYPE);
+    return fault(of.room < ACTION_DATA ? JUST_OUTSIDE : JUST_BAD_ACTIONS, of.at + ACTION_LENGTH);
 }
 
-static inline bool head_good(const uint8_t *action) {
-    uint32_t type = be16(action + ACTION_TYPE), length = be32(action + ACTION_LENGTH);
-    return be16(action) <= MOST_CLASS && type <= LAST_TYPE && length % 4 == 0 && length >= LEAST_LENGTH[type];
-}
-
-/* A glyph at an offset from the action. */
-INLINE struct just_checked judge_glyph(struct place p, size_t field) {
-    if (UNLIKELY(p.room < field + 2)) return fault(JUST_OUTSIDE, p.at + field);
-    if (UNLIKELY(be16(p.table + p.at + field) >= p.glyph_count)) return fault(JUST_BAD_ACTIONS, p.at + field);
+/* A glyph among the data. */
+INLINE struct just_checked judge_glyph(struct action of, size_t field) {
+    if (UNLIKELY(of.room < field + 2)) return fault(JUST_OUTSIDE, of.at + field);
+    if (UNLIKELY(be16(of.bytes + field) >= of.glyph_count)) return fault(JUST_BAD_ACTIONS, of.at + field);
     return accepted();
 }
 
 /* The first fault of type 0's glyphs. */
-static struct just_checked components_fault(struct place p, uint32_t count) {
+static struct just_checked components_fault(struct action of, uint32_t count) {
     for (size_t field = COMPONENTS; field < COMPONENTS + 2 * count; field += 2) {
-        struct just_checked found = judge_glyph(p, field);
+        struct just_checked found = judge_glyph(of, field);
         if (found.refusal) return found;
     }
     return accepted();
 }
 
-INLINE struct just_checked judge_decomposing(struct place p) {
-    if (UNLIKELY(p.room < COMPONENT_COUNT)) return first_outside(p.length, p.at + ACTION_DATA, 4);
-    if (UNLIKELY(p.room < COMPONENTS)) return fault(JUST_OUTSIDE, p.at + COMPONENT_COUNT);
-    const uint8_t *action = p.table + p.at, *glyphs = action + COMPONENTS;
-    uint32_t count = be16(action + COMPONENT_COUNT), bad = 0;
-    if (count - 1 >= MOST_COMPONENTS || COMPONENTS + 2 * count > be32(action + ACTION_LENGTH)) {
-        return fault(JUST_BAD_ACTIONS, p.at + COMPONENT_COUNT);
+INLINE struct just_checked judge_decomposing(struct action of, uint32_t size) {
+    if (UNLIKELY(of.room < COMPONENT_COUNT)) return first_outside(of.at + of.room, of.at + ACTION_DATA, 4);
+    if (UNLIKELY(of.room < COMPONENTS)) return fault(JUST_OUTSIDE, of.at + COMPONENT_COUNT);
+    uint32_t count = be16(of.bytes + COMPONENT_COUNT), bad = 0;
+    if (count - 1 >= MOST_COMPONENTS || COMPONENTS + 2 * count > size) {
+        return fault(JUST_BAD_ACTIONS, of.at + COMPONENT_COUNT);
     }
-    if (UNLIKELY(p.room < COMPONENTS + 2 * count)) return components_fault(p, count);
-    for (uint32_t i = 0; i < count; i++) bad |= be16(glyphs + 2 * i) >= p.glyph_count;
-    return bad ? components_fault(p, count) : accepted();
+    if (UNLIKELY(of.room < COMPONENTS + 2 * count)) return components_fault(of, count);
+    for (uint32_t i = 0; i < count; i++) bad |= be16(of.bytes + COMPONENTS + 2 * i) >= of.glyph_count;
+    return UNLIKELY(bad) ? components_fault(of, count) : accepted();
 }
 
-INLINE struct just_checked judge_substituting(struct place p) {
-    if (UNLIKELY(p.room < ADDED + 2)) return fault(JUST_OUTSIDE, p.at + (p.room < ADDED ? ACTION_DATA : ADDED));
-    uint32_t added = be16(p.table + p.at + ADDED);
-    if (UNLIKELY(added >= p.glyph_count && added != DELETED)) return fault(JUST_BAD_ACTIONS, p.at + ADDED);
-    return judge_glyph(p, SUBSTITUTE);
+INLINE struct just_checked judge_substituting(struct action of) {
+    if (UNLIKELY(of.room < ADDED)) return fault(JUST_OUTSIDE, of.at + ACTION_DATA);
+    if (UNLIKELY(of.room < ADDED + 2)) return fault(JUST_OUTSIDE, of.at + ADDED);
+    uint32_t added = be16(of.bytes + ADDED);
+    if (UNLIKELY(added >= of.glyph_count && added != DELETED)) return fault(JUST_BAD_ACTIONS, of.at + ADDED);
+    return judge_glyph(of, SUBSTITUTE);
 }
 
-/* An action's data, once its class, type and length are good. */
-INLINE struct just_checked judge_data(struct place p) {
-    uint32_t type = be16(p.table + p.at + ACTION_TYPE);
+/* An action's data. */
+INLINE struct just_checked judge_data(struct action of, uint32_t type, uint32_t size) {
     switch (type) {
     case DECOMPOSES:
-        return judge_decomposing(p);
+        return judge_decomposing(of, size);
     case ADDS:
-        return judge_glyph(p, ACTION_DATA);
+        return judge_glyph(of, ACTION_DATA);
     case ADDS_OR_SUBSTITUTES:
-        return judge_substituting(p);
+        return judge_substituting(of);
     case STRETCHES:
         return accepted();
     case VARIES:
-        return p.room < LEAST_LENGTH[VARIES] ? first_outside(p.length, p.at + ACTION_DATA, 4) : accepted();
+        return of.room < LEAST_LENGTH[VARIES] ? first_outside(of.at + of.room, of.at + ACTION_DATA, 4) : accepted();
     default:
-        return p.room < REPEATED ? fault(JUST_OUTSIDE, p.at + ACTION_DATA) : judge_glyph(p, REPEATED);
+        return of.room < REPEATED ? fault(JUST_OUTSIDE, of.at + ACTION_DATA) : judge_glyph(of, REPEATED);
     }
 }
 
@@ -93,11 +84,14 @@ struct just_checked judge_list(const uint8_t *table, size_t length, uint32_t gly
     if (count > MOST_ACTIONS) return fault(JUST_BAD_ACTIONS, at);
     at += LIST_ACTIONS_AT;
     for (; count; count--) {
-        struct place p = {table, length, at, at < length ? length - at : 0, glyph_count};
-        if (UNLIKELY(p.room < ACTION_DATA || !head_good(table + at))) return head_fault(p);
-        struct just_checked found = judge_data(p);
+        if (UNLIKELY(at >= length)) return fault(JUST_OUTSIDE, at);
+        struct action of = {table + at, at, length - at, glyph_count};
+        if (UNLIKELY(of.room < ACTION_DATA)) return head_fault(of);
+        uint32_t class = be16(of.bytes), type = be16(of.bytes + ACTION_TYPE), size = be32(of.bytes + ACTION_LENGTH);
+        if (UNLIKELY(class > MOST_CLASS || type > LAST_TYPE || size % 4 || size < LEAST_LENGTH[type])) return head_fault(of);
+        struct just_checked found = judge_data(of, type, size);
         if (UNLIKELY(found.refusal)) return found;
-        at += be32(table + at + ACTION_LENGTH);
+        at += size;
     }
     return accepted();
 }
