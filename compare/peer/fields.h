@@ -14,7 +14,7 @@
 enum { HORIZONTAL_AT = 6, VERTICAL_AT = 8, HEADER = 10 };
 enum { MACHINE_AT = 0, CLUSTERS_AT = 2, ACTIONS_AT = 4, DIRECTION = 6 };
 
-/* A lookup: the values of format 0; first, count and values of format 8; the units of the others, after search fields. */
+/* A lookup: format 0's values; first, count and values of format 8; the units of the others, after search fields. */
 enum { FORMAT_0_VALUES = 2, FORMAT_8_FIRST = 2, FORMAT_8_COUNT = 4, FORMAT_8_VALUES = 6 };
 enum { UNIT_SIZE_AT = 2, UNIT_COUNT_AT = 4, UNITS_AT = 12 };
 /* A unit has the size of its format: last, first and value in SEGMENT bytes, glyph and value in SINGLE bytes. */

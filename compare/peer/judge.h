@@ -1,7 +1,8 @@
 /* Judging a table: what its parts' judges share.
  *
- * A part is first judged fast and as a whole. Where that fails it is judged again, field by field in the order of refusals, for
- * the number and the offset: the second judge alone decides, the first one only spares it where nothing is wrong. */
+ * A part is first judged fast and as a whole. Where that fails it is judged again, field by field in the order of
+ * refusals, for the number and the offset: the second judge alone decides, the first one spares it where nothing is
+ * wrong. */
 #ifndef PEER_JUDGE_H
 #define PEER_JUDGE_H
 
@@ -29,7 +30,7 @@ INLINE struct just_checked accepted(void) {
     return fault(JUST_NONE, 0);
 }
 
-/* The fault of the first field that is not wholly inside, of fields of one size that begin at an offset and of which not all are. */
+/* Of fields of one size from an offset on, not all of which are inside, the fault of the first that is not wholly. */
 static inline struct just_checked first_outside(size_t length, size_t at, size_t size) {
     size_t inside = at < length ? (length - at) / size : 0;
     return fault(JUST_OUTSIDE, at + size * inside);

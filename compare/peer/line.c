@@ -41,9 +41,14 @@ static inline void open_direction(struct line *line, uint32_t vertical) {
     line->actions = at ? be16(line->table + at + ACTIONS_AT) : 0;
 }
 
-static inline bool totals_good(const struct work *work) {
-    const struct stage *s = work->stages;
-    return s[0].total <= MOST_TOTAL && s[1].total <= MOST_TOTAL && s[2].total <= MOST_TOTAL && s[3].total <= MOST_TOTAL;
+/* Works out classes, stages and actors; gives refusals 14 and 15. */
+static inline uint32_t work_out(const struct line *line, struct work *work) {
+    if (!walk(line, work)) return JUST_ENDLESS_WALK;
+    take_parts(line, work);
+    for (int i = 0; i < STAGES; i++) {
+        if (work->stages[i].total > MOST_TOTAL) return JUST_STAGE_TOTAL;
+    }
+    return JUST_NONE;
 }
 
 /* Works out the movements and gives what is left, both with the gap's sign. */
@@ -71,26 +76,24 @@ struct just_line_answer peer_justify(const uint8_t *table, size_t length, uint32
                                      int32_t *after, size_t after_length, struct just_verdict *verdicts,
                                      size_t verdicts_length) {
     const struct just_checked checked = peer_check_table(table, length, glyph_count);
-    const size_t count = glyphs_length;
     if (checked.refusal) return refuse(checked.refusal, checked.offset);
-    if (sizes_length != count || advances_length != count || classes_length != count || before_length != count ||
-        after_length != count) {
-        return refuse(JUST_UNEQUAL_LENGTHS, 0);
-    }
+    const size_t count = glyphs_length;
+    const bool equal = sizes_length == count && advances_length == count && classes_length == count &&
+                       before_length == count && after_length == count;
+    if (!equal) return refuse(JUST_UNEQUAL_LENGTHS, 0);
     if (count > MOST_PLACES) return refuse(JUST_LONG_LINE, 0);
     if (edition != JUST_GX_RULE && edition != JUST_WITHIN_LIMITS) return refuse(JUST_UNKNOWN_EDITION, 0);
     struct line line = {.table = table, .glyphs = glyphs, .sizes = sizes, .count = count};
     line.edition = edition, line.starts = starts, line.ends = ends;
     const struct sums sums = sum(&line, advances, glyph_count);
-    const uint32_t refusal = places_refusal(sums, target);
+    uint32_t refusal = places_refusal(sums, target);
     if (refusal) return refuse(refusal, 0);
     const int32_t gap = target - (int32_t)sums.advances;
     line.shrinks = gap < 0;
     open_direction(&line, direction);
     struct work work;
-    if (!walk(&line, &work)) return refuse(JUST_ENDLESS_WALK, 0);
-    take_parts(&line, &work);
-    if (!totals_good(&work)) return refuse(JUST_STAGE_TOTAL, 0);
+    refusal = work_out(&line, &work);
+    if (refusal) return refuse(refusal, 0);
     const int32_t left = move(&line, &work, gap);
     const size_t fired = judge_verdicts(&line, &work, verdicts, verdicts_length);
     if (fired > verdicts_length) return refuse(JUST_SHORT_ROOM, 0);

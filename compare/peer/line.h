@@ -36,7 +36,7 @@ struct actor {
     uint16_t place, list;
 };
 
-/* All that is worked out before a lent buffer is touched. It is not cleared: each step fills what the next ones read. */
+/* All that is worked out before a lent buffer is touched. It is not cleared: each step fills what later ones read. */
 struct work {
     uint8_t classes[MOST_PLACES + 1]; /* the last one takes the classes that go to no glyph */
     int32_t before[MOST_PLACES], after[MOST_PLACES];

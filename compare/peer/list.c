@@ -1,6 +1,8 @@
 /* Judging an action list. */
 #include "judge.h"
 
+#include <stdbool.h>
+
 /* The least length of an action by its type: class, type, length and data, type 0's without glyphs. */
 static const uint8_t LEAST_LENGTH[LAST_TYPE + 1] = {20, 10, 16, 8, 24, 12};
 
@@ -8,7 +10,7 @@ static const uint8_t LEAST_LENGTH[LAST_TYPE + 1] = {20, 10, 16, 8, 24, 12};
 enum { COMPONENT_COUNT = 18, COMPONENTS = 20, MOST_COMPONENTS = 32 };
 enum { ADDED = 12, SUBSTITUTE = 14, REPEATED = 10 };
 
-/* An action: its first byte and that byte's offset, how many bytes of the table are from there on, and the glyph count. */
+/* An action: its first byte and that byte's offset, the bytes of the table from there on, and the glyph count. */
 struct action {
     const uint8_t *bytes;
     size_t at, room;
@@ -88,7 +90,8 @@ struct just_checked judge_list(const uint8_t *table, size_t length, uint32_t gly
         struct action of = {table + at, at, length - at, glyph_count};
         if (UNLIKELY(of.room < ACTION_DATA)) return head_fault(of);
         uint32_t class = be16(of.bytes), type = be16(of.bytes + ACTION_TYPE), size = be32(of.bytes + ACTION_LENGTH);
-        if (UNLIKELY(class > MOST_CLASS || type > LAST_TYPE || size % 4 || size < LEAST_LENGTH[type])) return head_fault(of);
+        bool bad = class > MOST_CLASS || type > LAST_TYPE || size % 4 || size < LEAST_LENGTH[type];
+        if (UNLIKELY(bad)) return head_fault(of);
         struct just_checked found = judge_data(of, type, size);
         if (UNLIKELY(found.refusal)) return found;
         at += size;

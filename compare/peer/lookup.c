@@ -1,5 +1,5 @@
-/* Judging a lookup, and what its values lead to. What the values lead to is known when a function is compiled: each judge of a
- * lookup stands twice in the program, and once here. */
+/* Judging a lookup, and what its values lead to. Of which kind that is, is known when a function is compiled: each judge
+ * of a lookup stands twice in the program, and once here. */
 #include "judge.h"
 
 #include <stdbool.h>
@@ -24,7 +24,8 @@ static inline struct just_checked find_values(const struct judged *of, size_t at
 }
 
 /* Judges what the values of an array lead to; of equal ones in a row only the first is looked at. */
-INLINE struct just_checked visit_values(struct judged *of, const enum kind kind, size_t base, size_t at, uint32_t count) {
+INLINE struct just_checked visit_values(struct judged *of, const enum kind kind, size_t base, size_t at,
+                                        uint32_t count) {
     const uint8_t *field = of->table + at;
     uint32_t previous = DELETED + 1;
     for (; count; count--, field += 2) {
@@ -95,7 +96,8 @@ INLINE struct just_checked judge_units(const struct judged *of, size_t lookup, c
 }
 
 /* Formats 2 and 6: each unit has one value. */
-INLINE struct just_checked judge_values(struct judged *of, size_t lookup, size_t base, const enum kind kind, const uint32_t size) {
+INLINE struct just_checked judge_values(struct judged *of, size_t lookup, size_t base, const enum kind kind,
+                                        const uint32_t size) {
     struct just_checked found = judge_units(of, lookup, size);
     if (UNLIKELY(found.refusal)) return found;
     const uint8_t *unit = of->table + lookup + UNITS_AT;
@@ -119,7 +121,8 @@ static inline uint32_t covered(const struct judged *of, const uint8_t *unit) {
 INLINE struct just_checked judge_arrays(struct judged *of, size_t lookup, size_t base, const enum kind kind) {
     struct just_checked found = judge_units(of, lookup, SEGMENT);
     if (UNLIKELY(found.refusal)) return found;
-    const uint8_t *units = of->table + lookup + UNITS_AT, *end = units + SEGMENT * be16(of->table + lookup + UNIT_COUNT_AT);
+    const uint8_t *start = of->table + lookup, *units = start + UNITS_AT;
+    const uint8_t *end = units + SEGMENT * be16(start + UNIT_COUNT_AT);
     for (const uint8_t *unit = units; unit < end; unit += SEGMENT) {
         uint32_t count = covered(of, unit);
         if (!count) end = unit;

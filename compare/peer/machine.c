@@ -4,7 +4,8 @@
 enum { LEAST_CLASSES = 4, MOST_CLASSES = 255 };
 
 /* The classes of glyphs below N. */
-static struct just_checked judge_classes(const uint8_t *table, size_t length, uint32_t glyph_count, size_t at, uint32_t classes) {
+static struct just_checked judge_classes(const uint8_t *table, size_t length, uint32_t glyph_count, size_t at,
+                                         uint32_t classes) {
     if (at + CLASSED > length) return first_outside(length, at, 2);
     uint32_t first = be16(table + at + CLASSED_FIRST), end = first + be16(table + at + CLASSED_COUNT);
     if (end > glyph_count) end = glyph_count;
@@ -18,37 +19,43 @@ static struct just_checked judge_classes(const uint8_t *table, size_t length, ui
     return fault(JUST_BAD_MACHINE, at + CLASSED + i);
 }
 
-/* Where a machine's parts stand: its states from `here`, as entries name rows, its entries from the table's start. */
+/* Where states and entries stand, from the table's start; the states from `here` too, as entries name rows. */
 struct machine {
-    size_t here, entries;
-    uint32_t states, classes;
+    size_t states, entries;
+    uint32_t states_from_here, classes;
 };
 
-/* Judges an entry and gives the number of its new row. */
-INLINE struct just_checked judge_entry(const uint8_t *table, size_t length, struct machine of, uint32_t number, uint32_t *row) {
-    size_t at = of.entries + ENTRY * (size_t)number;
+/* The number of the row that an entry leads to; MOST_ROWS or more where it leads before the states. */
+static inline uint32_t row_of(const uint8_t *entry, const struct machine *of, uint32_t *rest) {
+    uint32_t past = be16(entry) - of->states_from_here, row = past / of->classes;
+    *rest = past - row * of->classes;
+    return row;
+}
+
+/* The first fault of an entry. */
+static struct just_checked entry_fault(const uint8_t *table, size_t length, const struct machine *of, uint32_t number) {
+    size_t at = of->entries + ENTRY * (size_t)number;
+    uint32_t rest;
     if (at + ENTRY_FLAGS > length) return fault(JUST_OUTSIDE, at);
-    uint32_t to = be16(table + at);
-    if (to < of.states) return fault(JUST_BAD_MACHINE, at);
-    uint32_t past = to - of.states;
-    *row = past / of.classes;
-    if (*row * of.classes != past || *row >= MOST_ROWS) return fault(JUST_BAD_MACHINE, at);
+    if (row_of(table + at, of, &rest) >= MOST_ROWS || rest) return fault(JUST_BAD_MACHINE, at);
     return at + ENTRY > length ? fault(JUST_OUTSIDE, at + ENTRY_FLAGS) : accepted();
 }
 
-/* Rows stand one after another: one loop over their cells, of which there are more whenever an entry leads to a row further on. An
- * entry is judged where it is first met. */
-static struct just_checked judge_rows(const uint8_t *table, size_t length, struct machine of) {
-    size_t first = of.here + of.states, room = first < length ? length - first : 0;
+/* Rows stand one after another: one loop over their cells, of which there are more whenever an entry leads to a row
+ * further on. An entry is judged where it is first met. */
+static struct just_checked judge_rows(const uint8_t *table, size_t length, const struct machine of) {
+    const uint8_t *cells = table + of.states, *entries = table + of.entries;
+    const size_t room = of.states < length ? length - of.states : 0;
+    const size_t whole = of.entries < length ? (length - of.entries) / ENTRY : 0;
     size_t rows = LEAST_ROWS, count = LEAST_ROWS * (size_t)of.classes, inside = count < room ? count : room;
-    const uint8_t *cells = table + first;
     uint8_t met[256];
     memset(met, 0, sizeof met);
     for (size_t i = 0; i < inside; i++) {
-        uint32_t entry = cells[i], row;
+        uint32_t entry = cells[i], rest;
         if (LIKELY(met[entry])) continue;
-        struct just_checked found = judge_entry(table, length, of, entry, &row);
-        if (UNLIKELY(found.refusal)) return found;
+        if (UNLIKELY(entry >= whole)) return entry_fault(table, length, &of, entry);
+        uint32_t row = row_of(entries + ENTRY * entry, &of, &rest);
+        if (UNLIKELY(row >= MOST_ROWS || rest)) return entry_fault(table, length, &of, entry);
         met[entry] = 1;
         if (row >= rows) {
             rows = row + 1;
@@ -56,7 +63,7 @@ static struct just_checked judge_rows(const uint8_t *table, size_t length, struc
             inside = count < room ? count : room;
         }
     }
-    return inside < count ? fault(JUST_OUTSIDE, first + inside) : accepted();
+    return inside < count ? fault(JUST_OUTSIDE, of.states + inside) : accepted();
 }
 
 struct just_checked judge_machine(const uint8_t *table, size_t length, uint32_t glyph_count, size_t here) {
@@ -67,6 +74,7 @@ struct just_checked judge_machine(const uint8_t *table, size_t length, uint32_t 
     if (here + MACHINE > length) return first_outside(length, here + CLASS_TABLE, 2);
     struct just_checked found = judge_classes(table, length, glyph_count, here + be16(header + CLASS_TABLE), classes);
     if (UNLIKELY(found.refusal)) return found;
-    struct machine of = {here, here + be16(header + ENTRY_TABLE), be16(header + STATE_ARRAY), classes};
+    uint32_t states = be16(header + STATE_ARRAY);
+    struct machine of = {here + states, here + be16(header + ENTRY_TABLE), states, classes};
     return judge_rows(table, length, of);
 }

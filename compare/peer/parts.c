@@ -76,7 +76,7 @@ static inline uint32_t size_of(uint32_t limit) {
 }
 
 /* Adds the part of the glyph at a place to its stage. */
-static inline void take_part(const struct line *line, struct work *work, uint32_t place, const uint8_t *pair) {
+static inline void take_part(const struct line *line, struct work *work, size_t place, const uint8_t *pair) {
     const uint32_t size = line->sizes[place];
     const bool shrinks = line->shrinks;
     uint32_t flags = be16(pair + (shrinks ? SHRINK_FLAGS : GROW_FLAGS));
@@ -85,7 +85,7 @@ static inline void take_part(const struct line *line, struct work *work, uint32_
     if (shrinks) before = size_of(before), after = size_of(after);
     struct stage *stage = &work->stages[flags & PRIORITY];
     struct part *part = &stage->parts[stage->count++];
-    *part = (struct part){place, factor(before, size), factor(after, size)};
+    *part = (struct part){(uint32_t)place, factor(before, size), factor(after, size)};
     stage->total += (uint64_t)part->before + part->after;
     if (flags & UNLIMITED) stage->unlimited[stage->unlimited_count++] = (uint16_t)place;
 }
@@ -124,7 +124,7 @@ void take_parts(const struct line *line, struct work *work) {
     struct actor *actor = work->actors;
     struct known slots[KNOWN];
     for (uint32_t i = 0; i < KNOWN; i++) slots[i].full = 0;
-    for (uint32_t place = 0; place < line->count; place++) {
+    for (size_t place = 0; place < line->count; place++) {
         uint32_t glyph = line->glyphs[place];
         if (UNLIKELY(glyph == DELETED)) continue;
         struct known *known = &slots[glyph % KNOWN];

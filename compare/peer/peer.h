@@ -1,5 +1,5 @@
-/* The two calls of the peer: a program in C, tuned by hand for ordinary inputs, that answers as just_check_table and just_justify
- * do, whose arguments they have. Nothing is allocated, nothing is kept; a call needs less than 96 KiB of stack. */
+/* The two calls of the peer: a program in C, tuned by hand for ordinary inputs, that answers as just_check_table and
+ * just_justify do, whose arguments they have. Nothing is allocated or kept; a call needs less than 96 KiB of stack. */
 #ifndef PEER_H
 #define PEER_H
 

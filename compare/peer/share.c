@@ -7,7 +7,7 @@ struct divisor {
     double inverse;
 };
 
-/* floor(x / divisor), for x below 2^63 and a quotient below 2^31: then the product of doubles is off by less than one. */
+/* floor(x / divisor), for x below 2^63 and a quotient below 2^31: the product of doubles is off by less than one. */
 static inline uint64_t divided(uint64_t x, struct divisor by) {
     int64_t quotient = (int64_t)((double)(int64_t)x * by.inverse);
     int64_t rest = (int64_t)(x - (uint64_t)quotient * by.value);

@@ -8,7 +8,8 @@
 static struct just_checked judge_direction(struct judged *of, size_t at) {
     if (at + DIRECTION > of->length) return first_outside(of->length, at, 2);
     const uint8_t *offsets = of->table + at;
-    uint32_t machine = be16(offsets + MACHINE_AT), clusters = be16(offsets + CLUSTERS_AT), actions = be16(offsets + ACTIONS_AT);
+    uint32_t machine = be16(offsets + MACHINE_AT), clusters = be16(offsets + CLUSTERS_AT);
+    uint32_t actions = be16(offsets + ACTIONS_AT);
     struct just_checked found = accepted();
     if (machine) found = judge_machine(of->table, of->length, of->glyph_count, (size_t)machine + UNREAD);
     if (!found.refusal) found = judge_widths(of, at + DIRECTION, clusters);

@@ -28,7 +28,8 @@ static inline enum verdict judge(const uint8_t *action, int64_t growth, int64_t 
 }
 
 /* Judges all actions and gives how many fire; the first ones are stored, as far as there is room. */
-static uint32_t judge_all(const struct line *line, const struct work *work, struct just_verdict *room, uint32_t length) {
+static uint32_t judge_all(const struct line *line, const struct work *work, struct just_verdict *room,
+                          uint32_t length) {
     uint32_t fired = 0;
     for (uint32_t i = 0; i < work->actor_count; i++) {
         const uint32_t place = work->actors[i].place, class = work->classes[place];
@@ -56,7 +57,7 @@ static bool enough(const struct line *line, const struct work *work, size_t leng
     return most <= length;
 }
 
-/* Where the room may be too short, verdicts are held back until they are counted; more than can be held are judged again. */
+/* Where the room may be too short, verdicts are held back until they are counted; too many to hold are judged again. */
 size_t judge_verdicts(const struct line *line, const struct work *work, struct just_verdict *room, size_t length) {
     if (LIKELY(enough(line, work, length))) return judge_all(line, work, room, UINT32_MAX);
     struct just_verdict held[HELD];

@@ -23,8 +23,8 @@ static inline uint32_t class_of(const struct classed *table, uint32_t glyph) {
     return glyph - table->first < table->count ? table->classes[glyph - table->first] : OUT_OF_BOUNDS;
 }
 
-/* Takes the entries of one position; false where they go on for ever. A position's class is fixed, so that a machine of at most
- * MOST_ROWS rows that has stayed as often has come to a row twice. */
+/* Takes the entries of one position; false where they go on for ever. A position's class is fixed, so that a machine of
+ * at most MOST_ROWS rows that has stayed as often has come to a row twice. */
 INLINE bool step(struct walker *w, uint32_t class, size_t place) {
     for (uint32_t stays = 0; stays < MOST_ROWS; stays++) {
         uint32_t entry = entry_at(w->entries, w->row[class]);

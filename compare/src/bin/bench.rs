@@ -1,7 +1,8 @@
 //! `bench [WORDS]`: the proved library against the second program, and for the two calls that it has against the peer, a
 //! program in C, on the same input in the same run. Prints tables of times and ratios (the library's time over the second
-//! program's and over the peer's, medians of several rounds taken in turn), and the library's time for each byte of table and sheet; for hostile tables and sheets also how many times that of an ordinary one of about as
-//! many bytes it is, of several the one that costs least. With words, only cases whose name has them are run.
+//! program's and over the peer's, medians of several rounds taken in turn), and the library's time for each byte of table
+//! and sheet; for hostile tables and sheets also how many times that of an ordinary one of about as many bytes it is, of
+//! several the one that costs least. With words, only cases whose name has them are run.
 
 use compare::letters::{self, Font};
 use compare::ordinary::{self, Ordinary};
@@ -101,7 +102,10 @@ fn print_group(title: &str, cases: Vec<Case>) {
 /// A group whose last two columns, the library's time for each of something and beside something else, are these.
 fn print_by(title: &str, [each, beside]: [&str; 2], cases: Vec<Case>) {
     let words = std::env::args().skip(1).collect::<Vec<_>>().join(" ");
-    println!("\n{title}\n\n| case | library, µs | second program, µs | ratio | C, µs | library over C | library, {each} | {beside} |");
+    println!(
+        "\n{title}\n\n| case | library, µs | second program, µs | ratio | C, µs | library over C \
+        | library, {each} | {beside} |"
+    );
     println!("|---|---|---|---|---|---|---|---|");
     cases.into_iter().filter(|case| case.name.contains(&words)).for_each(print_case);
 }
