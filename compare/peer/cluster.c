@@ -52,7 +52,7 @@ static struct just_checked pair_fault(const uint8_t *table, size_t length, size_
 }
 
 /* The first fault of a cluster, field by field. */
-static struct just_checked cluster_fault(const uint8_t *table, size_t length, size_t at) {
+RARE struct just_checked cluster_fault(const uint8_t *table, size_t length, size_t at) {
     if (at + 4 > length) return fault(JUST_OUTSIDE, at);
     uint32_t count = be32(table + at);
     if (count - 1 >= MOST_PAIRS) return fault(JUST_BAD_CLUSTER, at);

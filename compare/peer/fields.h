@@ -9,6 +9,7 @@
 #define LIKELY(x) __builtin_expect(!!(x), 1)
 #define UNLIKELY(x) __builtin_expect(!!(x), 0)
 #define INLINE static inline __attribute__((always_inline))
+#define RARE static __attribute__((noinline, cold)) /* kept out of the loops that call it */
 
 /* The table's header, and a direction's, which ends where the width lookup begins. */
 enum { HORIZONTAL_AT = 6, VERTICAL_AT = 8, HEADER = 10 };

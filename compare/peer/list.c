@@ -18,7 +18,7 @@ struct action {
 };
 
 /* The first fault of class, type and length. */
-static struct just_checked head_fault(struct action of) {
+RARE struct just_checked head_fault(struct action of) {
     if (of.room < ACTION_TYPE) return fault(JUST_OUTSIDE, of.at);
     if (be16(of.bytes) > MOST_CLASS) return fault(JUST_BAD_ACTIONS, of.at);
     if (of.room < ACTION_LENGTH) return fault(JUST_OUTSIDE, of.at + ACTION_TYPE);
@@ -34,7 +34,7 @@ INLINE struct just_checked judge_glyph(struct action of, size_t field) {
 }
 
 /* The first fault of type 0's glyphs. */
-static struct just_checked components_fault(struct action of, uint32_t count) {
+RARE struct just_checked components_fault(struct action of, uint32_t count) {
     for (size_t field = COMPONENTS; field < COMPONENTS + 2 * count; field += 2) {
         struct just_checked found = judge_glyph(of, field);
         if (found.refusal) return found;

@@ -1,8 +1,10 @@
-/* Judging a lookup, and what its values lead to. Of which kind that is, is known when a function is compiled: each judge
- * of a lookup stands twice in the program, and once here. */
+/* Judging a lookup, and what its values lead to. Of which kind that is, is known when a function is compiled: judges of
+ * a lookup stand twice in the program, and once here. */
 #include "judge.h"
 
 #include <stdbool.h>
+
+enum { NO_VALUE = 0x10000 };
 
 /* Judges what a value leads to, if it has not been met. */
 INLINE struct just_checked visit(struct judged *of, const enum kind kind, size_t base, uint32_t value) {
@@ -27,7 +29,7 @@ static inline struct just_checked find_values(const struct judged *of, size_t at
 INLINE struct just_checked visit_values(struct judged *of, const enum kind kind, size_t base, size_t at,
                                         uint32_t count) {
     const uint8_t *field = of->table + at;
-    uint32_t previous = DELETED + 1;
+    uint32_t previous = NO_VALUE;
     for (; count; count--, field += 2) {
         uint32_t value = be16(field);
         if (value == previous) continue;
@@ -68,7 +70,7 @@ static struct just_checked unit_fault(const struct judged *of, size_t at, uint32
 }
 
 /* The first fault of a lookup with units, what its values lead to left out. */
-static struct just_checked units_fault(const struct judged *of, size_t lookup, uint32_t size) {
+RARE struct just_checked units_fault(const struct judged *of, size_t lookup, uint32_t size) {
     if (lookup + UNIT_COUNT_AT > of->length) return fault(JUST_OUTSIDE, lookup + UNIT_SIZE_AT);
     if (be16(of->table + lookup + UNIT_SIZE_AT) != size) return fault(JUST_BAD_LOOKUP, lookup + UNIT_SIZE_AT);
     if (lookup + UNIT_COUNT_AT + 2 > of->length) return fault(JUST_OUTSIDE, lookup + UNIT_COUNT_AT);
