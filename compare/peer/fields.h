@@ -1,4 +1,5 @@
-/* A table's fields: where each stands in its part, and the numbers in them. All are big-endian and at any address. */
+/* A table's fields, big-endian and at any address. A field's name is its offset from the start of its part; HEADER,
+ * DIRECTION, PAIR, MACHINE and ENTRY are the sizes of what they name. */
 #ifndef PEER_FIELDS_H
 #define PEER_FIELDS_H
 

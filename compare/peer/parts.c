@@ -1,7 +1,7 @@
 /* What each glyph of a line brings: its part in a stage, and its actions. */
 #include "line.h"
 
-enum { KNOWN = 128 };
+enum { SLOTS = 128, EVERY_GLYPH = 65536 };
 
 /* A lookup of an accepted table: of formats 0 and 8 `units` are the values, from glyph `first` on. */
 struct lookup {
@@ -11,7 +11,7 @@ struct lookup {
 
 static inline struct lookup open_lookup(const uint8_t *start) {
     uint32_t format = be16(start);
-    if (format == 0) return (struct lookup){start, start + FORMAT_0_VALUES, format, DELETED + 1, 0};
+    if (format == 0) return (struct lookup){start, start + FORMAT_0_VALUES, format, EVERY_GLYPH, 0};
     if (format == 8) {
         uint32_t first = be16(start + FORMAT_8_FIRST), count = be16(start + FORMAT_8_COUNT);
         return (struct lookup){start, start + FORMAT_8_VALUES, format, count, first};
@@ -122,12 +122,12 @@ void take_parts(const struct line *line, struct work *work) {
     struct lookup widths = open_lookup(line->table + line->direction + DIRECTION), actions = widths;
     if (line->actions) actions = open_lookup(line->table + line->actions);
     struct actor *actor = work->actors;
-    struct known slots[KNOWN];
-    for (uint32_t i = 0; i < KNOWN; i++) slots[i].full = 0;
+    struct known slots[SLOTS];
+    for (uint32_t i = 0; i < SLOTS; i++) slots[i].full = 0;
     for (size_t place = 0; place < line->count; place++) {
         uint32_t glyph = line->glyphs[place];
         if (UNLIKELY(glyph == DELETED)) continue;
-        struct known *known = &slots[glyph % KNOWN];
+        struct known *known = &slots[glyph % SLOTS];
         if (known->glyph != glyph || !known->full) look_up(known, line, &widths, &actions, glyph);
         if (known->list) *actor++ = (struct actor){(uint16_t)place, (uint16_t)known->list};
         if (known->cluster < 0) continue;
