@@ -59,6 +59,7 @@ static bool enough(const struct line *line, const struct work *work, size_t leng
 
 /* Where the room may be too short, verdicts are held back until they are counted; too many to hold are judged again. */
 size_t judge_verdicts(const struct line *line, const struct work *work, struct just_verdict *room, size_t length) {
+    if (!work->actor_count) return 0;
     if (LIKELY(enough(line, work, length))) return judge_all(line, work, room, UINT32_MAX);
     struct just_verdict held[HELD];
     uint32_t fired = judge_all(line, work, held, HELD);
