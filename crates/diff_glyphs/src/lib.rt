@@ -22,6 +22,9 @@ use lookup_targets::Kind;
 use lookup_targets::Source;
 use types::Direction;
 
+// The numbers of a difference.
+const NUMBERS: usize = 5;
+
 // The numbers of a glyph's differences, at most 128 of five numbers each.
 const BLOCK: usize = 640;
 
@@ -178,7 +181,7 @@ fn compare_places<'a>(
     Compared {
         first,
         second,
-        each: size / 5,
+        each: size / NUMBERS,
     }
 }
 

@@ -15,6 +15,9 @@ ghost use Rattle.diff_table.specs.Sides.{GoodSide};
 use lookup_targets::Kind;
 use types::Direction;
 
+// The numbers of a difference.
+const NUMBERS: usize = 5;
+
 // Whether two tables are the same byte for byte, and so mean the same.
 fn same_bytes<'a>(one: &'a [u8], other: &'a [u8]) -> bool
     ensures { λ r. ⌜ (r ≡ true → now (one .entry) ≡ now (other .entry)) ⌝ }
@@ -111,7 +114,7 @@ fn size_side<'a>(
     );
     let widths = count_kind(one, other, glyphs, Kind::Clusters, at, beside, direction);
     let lists = count_kind(one, other, glyphs, Kind::Lists, at, beside, direction);
-    machines + 5 * widths + 5 * lists
+    machines + NUMBERS * widths + NUMBERS * lists
 }
 
 // Stores the differences of one direction, and answers where they end.
