@@ -1,5 +1,6 @@
 -- Which difference it is, as one number: direction, aspect, and the two numbers. Two differences of one place have the same; a list whose numbers rise strictly
--- has each difference once, in the order of document 02, 6/14.
+-- has each difference once, in the order of document 02, 6/14, since of those listed the first number is below 65,536 and the second below 256 (shown in crate
+-- diff_laws). And a difference as the five numbers that are stored.
 use Prim.Native.Nat.{ℕ, suc, _+_, _*_, _≤_, _^_}
 use mathlib.Core.List.{List, [], _∷_}
 use Rattle.encoding.specs.Codes.{many}
