@@ -36,6 +36,10 @@ headed t source.Absent = Absent
 unfoldable pub lookupIn : List ℕ → Direction → Kind → Lookup
 lookupIn t d kind = headed t (sourceAt t (directionAt t d) kind)
 
+-- a lookup by its numbers
+abbrev pub lookupBy : ℕ → ℕ → ℕ → ℕ → Lookup
+lookupBy at base format units = There at base (record { format = format; units = units })
+
 -- what is kept of a lookup was read of this table
 abbrev pub Readable : List ℕ → Lookup → Type 0
 Readable t Absent = Unit {0}

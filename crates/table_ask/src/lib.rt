@@ -11,7 +11,7 @@ ghost use Rattle.cluster.specs.Pairs.{clusterAt};
 ghost use Rattle.actions.specs.Actions.{Below};
 ghost use Rattle.table.specs.Table.{tableFault};
 ghost use Rattle.table.specs.Means.{meaningOf};
-ghost use Rattle.table_ask.specs.Places.{machineIn, lookupIn, Readable, Sound, spotBy, spotFrom, spotIn, actionSpot, cut};
+ghost use Rattle.table_ask.specs.Places.{machineIn, lookupIn, lookupBy, Readable, Sound, spotBy, spotFrom, spotIn, actionSpot, cut};
 ghost use Rattle.table_ask.specs.Components.{componentsOf, stretch, placeIn};
 use actions::Spot;
 use actions::Stretch;
@@ -127,16 +127,22 @@ fn plain(spot: Spot) -> usize
     }
 }
 
-// Where a glyph's cluster or list stands, by a direction's lookup of that kind, of any format; a plain number, which costs a
-// call the least.
-fn place_by(table: &[u8], count: u32, kind: Kind, lookup: Lookup, glyph: u16) -> usize
-    requires { ⌜ Readable (now table) lookup × Sound (now table) count lookup ⌝ }
-    ensures { λ r. ⌜ spotFrom r ≡ spotBy (now (table .entry)) count kind lookup glyph ⌝ }
+// Where a glyph's cluster or list stands, by a lookup of that kind and of any format. It is told in plain numbers and tells one,
+// so that a loop that calls it keeps the lookup in registers.
+fn place_by(
+    table: &[u8],
+    count: u32,
+    kind: Kind,
+    at: usize,
+    base: usize,
+    format: usize,
+    units: usize,
+    glyph: u16,
+) -> usize
+    requires { ⌜ Readable (now table) (lookupBy at base format units) × Sound (now table) count (lookupBy at base format units) ⌝ }
+    ensures { λ r. ⌜ spotFrom r ≡ spotBy (now (table .entry)) count kind (lookupBy at base format units) glyph ⌝ }
 {
-    let Lookup::There { at, base, head } = lookup else {
-        return FAR;
-    };
-    let looked = lookup_find::find_by(table, count as usize, at, head, glyph);
+    let looked = lookup_find::find_by(table, count as usize, at, Head { format, units }, glyph);
     let found = looked.found;
     plain(lookup_targets::spot_of(kind, base, found))
 }
@@ -155,8 +161,26 @@ pub fn spot_by(table: &[u8], count: u32, kind: Kind, lookup: Lookup, glyph: u16)
         return lookup_targets::spot_of(kind, base, found);
     }
     match kind {
-        Kind::Clusters => spot_from(place_by(table, count, Kind::Clusters, lookup, glyph)),
-        Kind::Lists => spot_from(place_by(table, count, Kind::Lists, lookup, glyph)),
+        Kind::Clusters => spot_from(place_by(
+            table,
+            count,
+            Kind::Clusters,
+            at,
+            base,
+            head.format,
+            head.units,
+            glyph,
+        )),
+        Kind::Lists => spot_from(place_by(
+            table,
+            count,
+            Kind::Lists,
+            at,
+            base,
+            head.format,
+            head.units,
+            glyph,
+        )),
     }
 }
 
