@@ -425,8 +425,8 @@ fn glyphs_fault(
             return Fault::Clear;
         }
         let fault = run_fault(table, glyphs, kind, base, format, run, judged, ahead);
-        if let Fault::Bad { refusal: _, at: _ } = fault {
-            return fault;
+        if let Fault::Bad { refusal, at } = fault {
+            return Fault::Bad { refusal, at };
         }
         let passed = pass_told(table, format, glyphs, kind, at, base, run, judged);
         cursor = passed.cursor;
@@ -477,8 +477,8 @@ pub fn values_fault(
     ensures { λ r. ⌜ (r ≡ valuesFault (now (table .entry)) glyphs kind at base) × Judged (now (table .entry)) glyphs (now (judged .exit)) ⌝ }
 {
     let fault = lookup::lookup_fault(table, glyphs, at);
-    if let Fault::Bad { refusal: _, at: _ } = fault {
-        return fault;
+    if let Fault::Bad { refusal, at } = fault {
+        return Fault::Bad { refusal, at };
     }
     // Only units of format 4 can share values.
     if fields::u16_at(table, at) != 4 {

@@ -100,7 +100,8 @@ fn offsets_fault(table: &[u8], at: usize) -> Fault
     fields::then(machine_in, fields::then(widths_in, actions_in))
 }
 
-// The first fault of the direction at `at`, 0 for none. What was found without fault is noted in `judged`.
+// The first fault of the direction at `at`, 0 for none. What was found without fault is noted in `judged`. A fault is built anew
+// from its parts, as `fields::then` does it: one that is handed on whole is copied before it is known to be one.
 fn direction_fault(table: &[u8], glyphs: usize, at: usize, judged: &mut [u8]) -> Fault
     requires { ⌜ (at < 2 ^ 16) × (glyphs < 2 ^ 16) ⌝ }
     requires { ⌜ Judged (now table) glyphs (now judged) ⌝ }
@@ -109,20 +110,23 @@ fn direction_fault(table: &[u8], glyphs: usize, at: usize, judged: &mut [u8]) ->
     if at == 0 {
         return Fault::Clear;
     }
-    let offsets = offsets_fault(table, at);
-    if let Fault::Bad { refusal: _, at: _ } = offsets {
-        return offsets;
+    let fault = offsets_fault(table, at);
+    if let Fault::Bad { refusal, at } = fault {
+        return Fault::Bad { refusal, at };
     }
-    let machine = machine_part(table, glyphs, machine_place(table, at));
-    if let Fault::Bad { refusal: _, at: _ } = machine {
-        return machine;
+    let fault = machine_part(table, glyphs, machine_place(table, at));
+    if let Fault::Bad { refusal, at } = fault {
+        return Fault::Bad { refusal, at };
     }
     let clusters = source_at(table, at, Kind::Clusters);
-    let widths = source_fault(table, glyphs, Kind::Clusters, clusters, judged);
-    if let Fault::Bad { refusal: _, at: _ } = widths {
-        return widths;
+    let fault = source_fault(table, glyphs, Kind::Clusters, clusters, judged);
+    if let Fault::Bad { refusal, at } = fault {
+        return Fault::Bad { refusal, at };
     }
     let lists = source_at(table, at, Kind::Lists);
+    if let Source::Absent = lists {
+        return Fault::Clear;
+    }
     source_fault(table, glyphs, Kind::Lists, lists, judged)
 }
 
@@ -149,11 +153,14 @@ fn directions_fault(table: &[u8], glyphs: usize, judged: &mut [u8]) -> Fault
     ensures { λ r. ⌜ (r ≡ (directionFault (now (table .entry)) glyphs (directionAt (now (table .entry)) Horizontal) then directionFault (now (table .entry)) glyphs (directionAt (now (table .entry)) Vertical))) × Judged (now (table .entry)) glyphs (now (judged .exit)) ⌝ }
 {
     let first = direction_at(table, Direction::Horizontal);
-    let horizontal = direction_fault(table, glyphs, first, judged);
-    if let Fault::Bad { refusal: _, at: _ } = horizontal {
-        return horizontal;
+    let fault = direction_fault(table, glyphs, first, judged);
+    if let Fault::Bad { refusal, at } = fault {
+        return Fault::Bad { refusal, at };
     }
     let second = direction_at(table, Direction::Vertical);
+    if second == 0 {
+        return Fault::Clear;
+    }
     if second == first {
         return Fault::Clear;
     }
@@ -166,9 +173,9 @@ fn fault_by(table: &[u8], count: u32, judged: &mut [u8]) -> Fault
     requires { ⌜ Judged (now table) count (now judged) ⌝ }
     ensures { λ r. ⌜ (r ≡ tableFault (now (table .entry)) count) × Judged (now (table .entry)) count (now (judged .exit)) ⌝ }
 {
-    let header = header_fault(table, count);
-    if let Fault::Bad { refusal: _, at: _ } = header {
-        return header;
+    let fault = header_fault(table, count);
+    if let Fault::Bad { refusal, at } = fault {
+        return Fault::Bad { refusal, at };
     }
     directions_fault(table, count as usize, judged)
 }

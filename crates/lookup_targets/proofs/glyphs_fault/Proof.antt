@@ -52,8 +52,8 @@ run-fault-requires c κs =
     let w = c .before .before .before .before .next-run .ensures .1 in
     ((c .before .before .before .before .before .before .before .before .before .before .before .before .pre .0 .1 .0, (c .before .before .before .before .before .before .before .before .before .before .before .before .pre .0 .1 .1 .0, (w .more, (c .before .before .if1 .left, w .near)))), c .before .before .before .before .before .before .loop .inv .2)
 
-enum-told : tie.Need-enum-told Inv-loop μ-loop
-enum-told c = search needs
+enum-known-fault : tie.Need-enum-known-fault Inv-loop μ-loop
+enum-known-fault c = search needs
 
 same-length-3 : tie.Need-same-length-3 Inv-loop μ-loop
 same-length-3 c = search needs
@@ -63,16 +63,17 @@ same-length-4 c = search needs
 
 returns-2 : tie.Need-returns-2 Inv-loop μ-loop
 returns-2 c =
-    let a = c .before .before .before .before .before .before .before .before .before .before .before .before .before .before .before .before .before .before .before .args in (
-      sym
-          (c .before .before .before .before .before .before .before .before .before .before .before .before .before .loop .inv .0
-          ∙ run-judged (now (a .table)) (a .glyphs) (a .kind) (a .at) (a .base) (c .before .before .before .before .before .before .before .before .before .before .before .before .before .loop .glyph) _ (c .before .before .before .before .before .before .before .before .before .before .before .next-run .ensures .1) (c .before .before .before .before .before .before .before .before .before .before .before .before .before .before .before .before .before .before .before .pre .0 .1 .1 .0) (c .before .before .before .before .before .before .before .before .before .if1 .left) _ (c .before .before .before .before .before .before .run-fault .ensures .0)
-          ∙ then-stop _ (c .enum-told .given .1)),
-      c .before .before .before .before .before .before .run-fault .ensures .1 .0,
+    let a = c .before .before .before .before .before .before .before .before .before .before .before .before .before .before .before .before .before .before .before .before .args in (
+      sym (c .before .fault .given .1)
+          ∙ sym
+          (c .before .before .before .before .before .before .before .before .before .before .before .before .before .before .loop .inv .0
+          ∙ run-judged (now (a .table)) (a .glyphs) (a .kind) (a .at) (a .base) (c .before .before .before .before .before .before .before .before .before .before .before .before .before .before .loop .glyph) _ (c .before .before .before .before .before .before .before .before .before .before .before .before .next-run .ensures .1) (c .before .before .before .before .before .before .before .before .before .before .before .before .before .before .before .before .before .before .before .before .pre .0 .1 .1 .0) (c .before .before .before .before .before .before .before .before .before .before .if1 .left) _ (c .before .before .before .before .before .before .before .run-fault .ensures .0)
+          ∙ then-stop _ (c .before .fault .given .1)),
+      c .before .before .before .before .before .before .before .run-fault .ensures .1 .0,
     )
 
-enum-told-2 : tie.Need-enum-told-2 Inv-loop μ-loop
-enum-told-2 c = search needs
+enum-told : tie.Need-enum-told Inv-loop μ-loop
+enum-told c = search needs
 
 pass-told-requires : tie.Need-pass-told-requires Inv-loop μ-loop
 pass-told-requires c κs =
@@ -88,7 +89,7 @@ loop-again c =
     let w = c .before .before .before .before .before .before .before .before .before .before .before .before .before .before .next-run .ensures .1 in (
       c .before .before .before .before .before .before .before .before .before .before .before .before .before .before .before .before .loop .inv .0
           ∙ run-judged (now (a .table)) (a .glyphs) (a .kind) (a .at) (a .base) (c .before .before .before .before .before .before .before .before .before .before .before .before .before .before .before .before .loop .glyph) _ w (c .before .before .before .before .before .before .before .before .before .before .before .before .before .before .before .before .before .before .before .before .before .before .pre .0 .1 .1 .0) (c .before .before .before .before .before .before .before .before .before .before .before .before .if1 .left) _ (c .before .before .before .before .before .before .before .before .before .run-fault .ensures .0)
-          ∙ then-go _ (c .before .before .before .enum-told2 .given .1)
+          ∙ then-go _ (c .before .before .before .enum-told .given .1)
           ∙ c .before .pass-told .ensures .1 .1,
       c .before .pass-told .ensures .1 .0,
       c .before .before .before .before .before .before .before .before .before .run-fault .ensures .1,
@@ -121,11 +122,11 @@ glyphs-fault-spec =
     same-length-2
     returns
     run-fault-requires
-    enum-told
+    enum-known-fault
     same-length-3
     same-length-4
     returns-2
-    enum-told-2
+    enum-told
     pass-told-requires
     loop-less
     loop-again

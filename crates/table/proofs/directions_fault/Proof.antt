@@ -2,6 +2,7 @@
 use mathlib.Core.Path.{sym, ap, _∙_}
 use Rattle.fields.specs.Laws.{then-stop, then-go}
 use Rattle.table.specs.Table.{directionFault}
+use Rattle.table.proofs.Laws.{present-none}
 use denote.Ref.{now}
 use borrow.Author.Needs.{needs}
 use Rattle.table.proofs.directions_fault.Statement.{statement}
@@ -13,17 +14,20 @@ direction-at-requires c κs = search needs
 direction-fault-requires : tie.Need-direction-fault-requires
 direction-fault-requires c κs = search needs
 
-enum-told : tie.Need-enum-told
-enum-told c = search needs
+enum-known-fault : tie.Need-enum-known-fault
+enum-known-fault c = search needs
 
 same-length : tie.Need-same-length
 same-length c = search needs
 
 returns : tie.Need-returns
-returns c = let d = rw (c .before .before .before .before .before .before .direction-at .ensures .0) at (c .before .before .before .before .direction-fault .ensures .0) in (d ∙ sym (then-stop _ (sym d ∙ c .enum-told .given .1)), c .before .before .before .before .direction-fault .ensures .1)
+returns c =
+    let d = rw (c .before .before .before .before .before .before .before .direction-at .ensures .0) at (c .before .before .before .before .before .direction-fault .ensures .0) in
+    let bad = c .before .fault .given .1 in
+    (sym bad ∙ d ∙ sym (then-stop _ (sym d ∙ bad)), c .before .before .before .before .before .direction-fault .ensures .1)
 
-enum-told-2 : tie.Need-enum-told-2
-enum-told-2 c = search needs
+enum-told : tie.Need-enum-told
+enum-told c = search needs
 
 direction-at-requires-2 : tie.Need-direction-at-requires-2
 direction-at-requires-2 c κs = search needs
@@ -32,21 +36,32 @@ same-length-2 : tie.Need-same-length-2
 same-length-2 c = search needs
 
 returns-2 : tie.Need-returns-2
+unfolding directionFault
 returns-2 c =
     let d = rw (c .before .before .before .before .before .before .before .before .direction-at .ensures .0) at (c .before .before .before .before .before .before .direction-fault .ensures .0) in
-    let clear = sym d ∙ c .before .before .enum-told2 .given .1 in
-    (sym (then-go _ clear ∙ ap (directionFault (now (c .before .before .before .before .before .before .before .before .before .before .before .args .table)) (c .before .before .before .before .before .before .before .before .before .before .before .args .glyphs)) (sym (c .before .direction-at2 .ensures .0) ∙ c .if1 .taken ∙ c .before .before .before .before .before .before .before .before .direction-at .ensures .0) ∙ clear), c .before .before .before .before .before .before .direction-fault .ensures .1)
-
-direction-fault-requires-2 : tie.Need-direction-fault-requires-2
-direction-fault-requires-2 c κs = search needs
+    let clear = sym d ∙ c .before .before .enum-told .given .1 in
+    (sym (then-go _ clear ∙ present-none _ _ (sym (c .before .direction-at2 .ensures .0) ∙ c .if1 .taken)), c .before .before .before .before .before .before .direction-fault .ensures .1)
 
 same-length-3 : tie.Need-same-length-3
 same-length-3 c = search needs
 
 returns-3 : tie.Need-returns-3
 returns-3 c =
-    let d = rw (c .before .before .before .before .before .before .before .before .before .before .before .before .direction-at .ensures .0) at (c .before .before .before .before .before .before .before .before .before .before .direction-fault .ensures .0) in
-    (rw (c .before .before .before .before .before .direction-at2 .ensures .0) at (c .before .before .direction-fault2 .ensures .0) ∙ sym (then-go _ (sym d ∙ c .before .before .before .before .before .before .enum-told2 .given .1)), c .before .before .direction-fault2 .ensures .1)
+    let a = c .before .before .before .before .before .before .before .before .before .before .before .before .args in
+    let d = rw (c .before .before .before .before .before .before .before .before .before .direction-at .ensures .0) at (c .before .before .before .before .before .before .before .direction-fault .ensures .0) in
+    let clear = sym d ∙ c .before .before .before .enum-told .given .1 in
+    (sym (then-go _ clear ∙ ap (directionFault (now (a .table)) (a .glyphs)) (sym (c .before .before .direction-at2 .ensures .0) ∙ c .if2 .taken ∙ c .before .before .before .before .before .before .before .before .before .direction-at .ensures .0) ∙ clear), c .before .before .before .before .before .before .before .direction-fault .ensures .1)
+
+direction-fault-requires-2 : tie.Need-direction-fault-requires-2
+direction-fault-requires-2 c κs = search needs
+
+same-length-4 : tie.Need-same-length-4
+same-length-4 c = search needs
+
+returns-4 : tie.Need-returns-4
+returns-4 c =
+    let d = rw (c .before .before .before .before .before .before .before .before .before .before .before .before .before .direction-at .ensures .0) at (c .before .before .before .before .before .before .before .before .before .before .before .direction-fault .ensures .0) in
+    (rw (c .before .before .before .before .before .before .direction-at2 .ensures .0) at (c .before .before .direction-fault2 .ensures .0) ∙ sym (then-go _ (sym d ∙ c .before .before .before .before .before .before .before .enum-told .given .1)), c .before .before .direction-fault2 .ensures .1)
 
 pub directions-fault-spec : {M : Type 1} → statement M
 directions-fault-spec =
@@ -54,13 +69,15 @@ directions-fault-spec =
     (tie.spec
     direction-at-requires
     direction-fault-requires
-    enum-told
+    enum-known-fault
     same-length
     returns
-    enum-told-2
+    enum-told
     direction-at-requires-2
     same-length-2
     returns-2
-    direction-fault-requires-2
     same-length-3
-    returns-3)
+    returns-3
+    direction-fault-requires-2
+    same-length-4
+    returns-4)
