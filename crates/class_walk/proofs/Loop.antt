@@ -2,7 +2,7 @@
 use Prim.Native.Nat.{ℕ, _+_, _*_, _/_, _%_, _≤_, _<_}
 use mathlib.Core.Path.{_≡_, refl, ap, ap₂, sym, _∙_, subst}
 use mathlib.Core.Bool.{Bool, true, false, cond, not, _&&_, false≢true}
-use mathlib.Core.Option.{Option, orElse}
+use mathlib.Core.Option.{Option, none, orElse}
 use mathlib.Core.List.{List}
 use native.Mathlib.Omega.{arith}
 use lib.Dec.{leb}
@@ -11,45 +11,49 @@ use Rattle.fields.specs.Field.{u16At, u32At, Bytes}
 use Rattle.fields.specs.Laws.{u16At-fits}
 use Rattle.machine.specs.Cells.{entryAt, cellAt, classCount, entryTable}
 use Rattle.machine.specs.Rows.{rowCount}
-use borrow.Author.Tests.{leb-true, leb-false}
+use borrow.Author.Tests.{leb-true, leb-false, le-ltb}
 use Rattle.types.specs.declared.Entry.{Entry}
 use Rattle.units.specs.Flags.{setsMark, stays, markClass, currentClass}
-use Rattle.class_walk.specs.declared.Walked.{Walked}
 use Rattle.class_walk.specs.Walk.{Machine, Line, Conf, going, stopped, Fits, glyphs, columnAt, current, give, met, givenBy, onAt, begin, Ends, walked}
-use Rattle.class_walk.specs.Line.{padded, handedOut, glyphOf, rowPlace, Sound}
-use Rattle.class_walk.proofs.Theory.{current-within, give-length, At, at-first, at-stays, at-moves, at-stops, spent-never}
+use Rattle.class_walk.specs.Line.{HandedOut, rowPlace, Sound}
+use Rattle.class_walk.proofs.Theory.{give-length, At, at-first, at-stays, at-moves, at-stops, spent-never}
 use Rattle.class_walk.proofs.Laws.{ends-walked, never-walked}
-use Rattle.class_walk.proofs.Line.{padded-zeros, first-zeros, give-padded}
+use Rattle.class_walk.proofs.Line.{handed-stopped, handed-never}
 
-abbrev pub confOf : ℕ → ℕ → ℕ → List ℕ → ℕ → Conf
-confOf row place mark given count = record { row = row; place = place; mark = glyphOf mark; given = given; count = count }
+-- where the walk stands by the loop's locals; a mark is a place, and the end position is none
+abbrev pub confOf : Line → ℕ → ℕ → ℕ → List ℕ → ℕ → Conf
+confOf l row place mark given count = record { row = row; place = place; mark = current (glyphs l) mark; given = given; count = count }
 
--- what the loop holds is where the walk stands
-pub record Keeps (m : Machine) (l : Line) (row place mark spent count : ℕ) (out : List ℕ) : Type 0 where
-  pub given : List ℕ
-  pub stands : At m l 256 (confOf row place mark given count) spent
-  pub out-is : out ≡ padded given
-
--- what the code has after an entry, by its callees' equations
+-- what the code has after an entry
 pub record Entered (m : Machine) (l : Line) (row place mark : ℕ) (out : List ℕ) (e : Entry) (marked : ℕ) (out′ : List ℕ) : Type 0 where
   pub entry-is : e ≡ m .cell row (columnAt (l .columns) (l .ends) place)
-  pub mark-is : glyphOf marked ≡ cond (setsMark (e .flags)) (orElse (current (glyphs l) place) (glyphOf mark)) (glyphOf mark)
-  pub out-is : out′ ≡ give (current (glyphs l) place) (currentClass (e .flags)) (give (glyphOf mark) (markClass (e .flags)) out)
+  pub mark-is : current (glyphs l) marked ≡ cond (setsMark (e .flags)) (orElse (current (glyphs l) place) (current (glyphs l) mark)) (current (glyphs l) mark)
+  pub out-is : out′ ≡ give (current (glyphs l) place) (currentClass (e .flags)) (give (current (glyphs l) mark) (markClass (e .flags)) out)
 
-pub entered : (m : Machine) (l : Line) (row place mark : ℕ) (out : List ℕ) (column glyph marked : ℕ) (e : Entry) (flags : ℕ) (out′ : List ℕ)
+-- by its callees' equations, `n` being the line's length
+pub entered : (m : Machine) (l : Line) (row place mark : ℕ) (out : List ℕ) (n column marked : ℕ) (e : Entry) (flags : ℕ) (out′ : List ℕ)
+    → n ≡ glyphs l
+    → length out ≡ glyphs l
     → column ≡ columnAt (l .columns) (l .ends) place
     → e ≡ m .cell row column
     → flags ≡ e .flags
-    → glyphOf glyph ≡ current (glyphs l) place
-    → glyphOf marked ≡ cond (setsMark flags) (orElse (glyphOf glyph) (glyphOf mark)) (glyphOf mark)
-    → out′ ≡ give (glyphOf glyph) (currentClass flags) (give (glyphOf mark) (markClass flags) out)
+    → current n marked ≡ cond (setsMark flags) (orElse (current n place) (current n mark)) (current n mark)
+    → out′ ≡ give (current (length out) place) (currentClass flags) (give (current (length out) mark) (markClass flags) out)
     → Entered m l row place mark out e marked out′
-entered m l row place mark out column glyph marked e flags out′ ek ee ef eg em eo =
+entered m l row place mark out n column marked e flags out′ en eo ek ee ef em eg =
     record {
       entry-is = ee ∙ ap (m .cell row) ek;
-      mark-is = em ∙ ap₂ (λ (f : ℕ) (g : Option ℕ). cond (setsMark f) (orElse g (glyphOf mark)) (glyphOf mark)) ef eg;
-      out-is = eo ∙ ap₂ (λ (f : ℕ) (g : Option ℕ). give g (currentClass f) (give (glyphOf mark) (markClass f) out)) ef eg;
+      mark-is = rw (en, ef) at em;
+      out-is = eg ∙ ap₂ (λ (f k : ℕ). give (current k place) (currentClass f) (give (current k mark) (markClass f) out)) ef eo;
     }
+
+-- the room for the classes stays as long as it is
+pub entered-length : {m : Machine} {l : Line} {row place mark : ℕ} {out : List ℕ} {e : Entry} {marked : ℕ} {out′ : List ℕ}
+    → Entered m l row place mark out e marked out′ → length out′ ≡ length out
+entered-length {m} {l} {row} {place} {mark} {out} {e} {marked} {out′} t =
+    ap length (t .out-is)
+    ∙ give-length (current (glyphs l) place) (currentClass (e .flags)) (give (current (glyphs l) mark) (markClass (e .flags)) out)
+    ∙ give-length (current (glyphs l) mark) (markClass (e .flags)) out
 
 -- the two fields of an entry, in one number
 pub entry-fields : (t : List ℕ) (at : ℕ) → Bytes t → (u32At t at / 65536 ≡ u16At t at) × (u32At t at % 65536 ≡ u16At t (at + 2))
@@ -68,77 +72,55 @@ module _ (t : List ℕ) (here row column k : ℕ) (ek : k ≡ entryTable t here)
   met-base ok r e h q = e ∙ ap₂ (λ (x y : ℕ). here + u16At t (x + 4 * getD t (y + column) 0)) ek eb ∙ ok .exact row column h q
 
 module _ (m : Machine) (l : Line) (ok : Fits m l) where
-  pub keeps-first : (k row : ℕ) → k ≡ 1024 → glyphs l ≤ k → row ≡ cond (l .starts) 0 1 → Keeps m l row 0 1024 0 0 (replicate k 0)
+  -- no glyph is marked at first
+  pub keeps-first : (row n : ℕ) (out : List ℕ) → row ≡ cond (l .starts) 0 1 → n ≡ glyphs l → out ≡ replicate n 0
+      → At m l 256 (confOf l row 0 n out 0) 0
   unfolding begin
-  keeps-first k row e h er =
-      record {
-        given = replicate (glyphs l) 0;
-        stands = rw er (at-first m l ok 256);
-        out-is = padded-zeros (glyphs l) k e h;
-      }
+  keeps-first row n out er en eo =
+      let unmarked : current (glyphs l) n ≡ none = rw (le-ltb n (glyphs l) (omega arith)) in
+      rw (er, unmarked, eo, en) (at-first m l ok 256)
 
   -- S entries at one place
-  pub keeps-never : (row place mark spent count : ℕ) (out : List ℕ) (k : ℕ) → Keeps m l row place mark spent count out → m .rows ≤ 256 → 256 ≤ spent → k ≡ 1024
-      → _≡_ {A = Walked} (record { ends = false; count = 0; classes = replicate k 0 }) (handedOut (walked m l))
-  unfolding handedOut
-  keeps-never row place mark spent count out k w r h e =
-      let g : (s : Conf) × (walked m l ≡ going s) = never-walked m l (spent-never m l ok 256 _ spent (w .stands) (omega arith)) in
-      ap (λ (x : List ℕ). record { ends = false; count = 0; classes = x }) (first-zeros k e) ∙ sym (ap handedOut (g .1))
+  pub keeps-never : (s : Conf) (spent : ℕ) (out : List ℕ) → At m l 256 s spent → m .rows ≤ 256 → 256 ≤ spent
+      → HandedOut (walked m l) (record { ends = false; count = 0 }) out
+  keeps-never s spent out w r h =
+      let g : (s′ : Conf) × (walked m l ≡ going s′) = never-walked m l (spent-never m l ok 256 s spent w (omega arith)) in
+      handed-never (g .0) out (g .1)
 
   module _ (row place mark spent count : ℕ) (out : List ℕ) (e : Entry) (marked : ℕ) (out′ : List ℕ)
-      (w : Keeps m l row place mark spent count out) (few : spent < 256) (t : Entered m l row place mark out e marked out′) where
+      (w : At m l 256 (confOf l row place mark out count) spent) (few : spent < 256) (t : Entered m l row place mark out e marked out′) where
     abbrev s : Conf
-    s = confOf row place mark (w .given) count
+    s = confOf l row place mark out count
 
-    on-is : (p : ℕ) → onAt p (met m l s) l s ≡ confOf (e .row) p marked (givenBy (met m l s) l s) (count + 1)
+    out-given : givenBy (met m l s) l s ≡ out′
+    out-given = sym (rw (t .entry-is) at (t .out-is))
+
+    on-is : (p : ℕ) → onAt p (met m l s) l s ≡ confOf l (e .row) p marked out′ (count + 1)
     on-is p =
-        ap₂ (λ (r : ℕ) (g : Option ℕ). record { row = r; place = p; mark = g; given = givenBy (met m l s) l s; count = count + 1 })
-        (ap (λ (x : Entry). x .row) (sym (t .entry-is)))
+        ap₂ (λ (x : Entry) (g : Option ℕ). record { row = x .row; place = p; mark = g; given = givenBy (met m l s) l s; count = count + 1 })
+        (sym (t .entry-is))
         (sym (rw (t .entry-is) at (t .mark-is)))
-
-    out-given : out′ ≡ padded (givenBy (met m l s) l s)
-    out-given =
-        let f : ℕ = met m l s .flags in
-        let g : Option ℕ = current (glyphs l) place in
-        let b : List ℕ = give (glyphOf mark) (markClass f) (w .given) in
-        let n : length (w .given) ≡ glyphs l = w .stands .long in
-        let n′ : length b ≡ glyphs l = give-length (glyphOf mark) (markClass f) (w .given) ∙ n in
-        (rw (t .entry-is) at (t .out-is))
-        ∙ ap (λ (x : List ℕ). give g (currentClass f) (give (glyphOf mark) (markClass f) x)) (w .out-is)
-        ∙ ap (give g (currentClass f)) (give-padded (glyphOf mark) (markClass f) (w .given) (rw n (w .stands .mark-within)))
-        ∙ give-padded g (currentClass f) b (rw n′ (current-within (glyphs l) place))
+        ∙ ap (λ (o : List ℕ). confOf l (e .row) p marked o (count + 1)) out-given
 
     stay-is : (b : Bool) → stays (e .flags) ≡ b → stays (met m l s .flags) ≡ b
     stay-is b h = rw (t .entry-is) at h
 
-    pub keeps-stays : stays (e .flags) ≡ true → Keeps m l (e .row) place marked (spent + 1) (count + 1) out′
-    keeps-stays h =
-        record {
-          given = givenBy (met m l s) l s;
-          stands = subst (λ (x : Conf). At m l 256 x (spent + 1)) (on-is place) (at-stays m l ok 256 s spent (w .stands) few (stay-is true h));
-          out-is = out-given;
-        }
+    pub keeps-stays : stays (e .flags) ≡ true → At m l 256 (confOf l (e .row) place marked out′ (count + 1)) (spent + 1)
+    keeps-stays h = subst (λ (x : Conf). At m l 256 x (spent + 1)) (on-is place) (at-stays m l ok 256 s spent w few (stay-is true h))
 
-    pub keeps-moves : stays (e .flags) ≡ false → place < glyphs l → Keeps m l (e .row) (place + 1) marked 0 (count + 1) out′
-    keeps-moves h p =
-        record {
-          given = givenBy (met m l s) l s;
-          stands = subst (λ (x : Conf). At m l 256 x 0) (on-is (place + 1)) (at-moves m l ok 256 s spent (w .stands) few (stay-is false h) p);
-          out-is = out-given;
-        }
+    pub keeps-moves : stays (e .flags) ≡ false → place < glyphs l → At m l 256 (confOf l (e .row) (place + 1) marked out′ (count + 1)) 0
+    keeps-moves h p = subst (λ (x : Conf). At m l 256 x 0) (on-is (place + 1)) (at-moves m l ok 256 s spent w few (stay-is false h) p)
 
-    pub keeps-stops : stays (e .flags) ≡ false → glyphs l ≤ place
-        → _≡_ {A = Walked} (record { ends = true; count = count + 1; classes = out′ }) (handedOut (walked m l))
-    unfolding handedOut Ends
+    pub keeps-stops : stays (e .flags) ≡ false → glyphs l ≤ place → HandedOut (walked m l) (record { ends = true; count = count + 1 }) out′
+    unfolding Ends
     keeps-stops h p =
         let q : walked m l ≡ stopped (givenBy (met m l s) l s) (count + 1) =
-        ends-walked m l ok _ _ (count + 1, at-stops m l ok 256 s spent (w .stands) few (stay-is false h) p)
+        ends-walked m l ok _ _ (count + 1, at-stops m l ok 256 s spent w few (stay-is false h) p)
         in
-        ap (λ (x : List ℕ). record { ends = true; count = count + 1; classes = x }) out-given ∙ sym (ap handedOut q)
+        handed-stopped out′ (count + 1) (q ∙ ap (λ (o : List ℕ). stopped o (count + 1)) out-given)
 
-pub count-small : (m : Machine) (l : Line) (row place mark spent count : ℕ) (out : List ℕ) → Keeps m l row place mark spent count out → glyphs l ≤ 1024 → count ≤ 262400
-count-small m l row place mark spent count out w n =
-    omega (arith, w .stands .place-low, w .stands .count-low, w .stands .spent-low)
+pub count-small : (m : Machine) (l : Line) (s : Conf) (spent : ℕ) → At m l 256 s spent → glyphs l ≤ 1024 → s .count ≤ 262400
+count-small m l s spent w n = omega (arith, w .place-low, w .count-low, w .spent-low)
 
 -- an entry stops the walk exactly where it does not stay at the end position
 pub stops-true : (b : Bool) (n place : ℕ) → (not b && leb n place) ≡ true → (b ≡ false) × (n ≤ place)

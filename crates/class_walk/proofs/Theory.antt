@@ -1,9 +1,9 @@
 -- The walk, step by step: what holds where it stands, what an entry makes of it, and why S entries that stay at one place mean that it never ends.
 -- Assumes nothing.
 use Prim.Native.Nat.{ℕ, zero, suc, _+_, _-_, _*_, _≤_, _<_}
-use mathlib.Core.Path.{_≡_, refl, ap, sym, _∙_}
+use mathlib.Core.Path.{_≡_, refl, ap, ap₂, sym, _∙_}
 use mathlib.Core.Bool.{Bool, true, false, cond}
-use mathlib.Core.Option.{Option, none, some, orElse}
+use mathlib.Core.Option.{Option, none, some}
 use mathlib.Core.List.{List}
 use native.Mathlib.Omega.{arith}
 use native.Mathlib.Decide.{ℕ-discrete, decLe}
@@ -13,28 +13,9 @@ use lib.Dec.{eqb, ltb}
 use lib.ListN.{length, getD, set, length-set, length-replicate}
 use borrow.Author.Tests.{lt-ltb, le-ltb, ltb-true}
 use Rattle.types.specs.declared.Entry.{Entry}
-use Rattle.units.specs.Flags.{setsMark, stays, markClass, currentClass}
-use Rattle.class_walk.specs.Walk.{Machine, Line, Conf, going, stopped, Fits, glyphs, columnAt, current, give, met, givenBy, markBy, onAt, taken, entry, step, begin, after, Never, most}
+use Rattle.units.specs.Flags.{stays, markClass, currentClass}
+use Rattle.class_walk.specs.Walk.{Machine, Line, Conf, going, stopped, Fits, glyphs, columnAt, current, give, met, givenBy, onAt, taken, entry, step, begin, after, Never, most}
 use Rattle.class_walk.proofs.Cycle.{iter, forever}
-
--- ---- a glyph of the line, or none
-
-abbrev pub Within : ℕ → Option ℕ → Type 0
-Within n none = Unit
-Within n (some place) = place < n
-
-pub current-within : (n place : ℕ) → Within n (current n place)
-current-within n place = go (ltb place n) refl
-  where
-    go : (b : Bool) → ltb place n ≡ b → Within n (cond b (some place) none)
-    go true e = ltb-true place n e
-    go false e = tt
-
-mark-kept : (n : ℕ) (b : Bool) (c k : Option ℕ) → Within n c → Within n k → Within n (cond b (orElse c k) k)
-unfolding orElse
-mark-kept n false c k hc hk = hk
-mark-kept n true none k hc hk = hk
-mark-kept n true (some p) k hc hk = hc
 
 pub give-length : (g : Option ℕ) (v : ℕ) (cs : List ℕ) → length (give g v cs) ≡ length cs
 give-length none v cs = refl
@@ -43,6 +24,12 @@ give-length (some p) v cs = go (eqb v 0)
     go : (b : Bool) → length (cond b cs (set cs p v)) ≡ length cs
     go true = refl
     go false = length-set cs p v
+
+-- a class is given, and then another
+pub give-then : (cs cs′ out : List ℕ) (mark place v w : ℕ) → cs′ ≡ give (current (length cs) mark) v cs → out ≡ give (current (length cs′) place) w cs′
+    → out ≡ give (current (length cs) place) w (give (current (length cs) mark) v cs)
+give-then cs cs′ out mark place v w e f =
+    f ∙ ap₂ (λ (n : ℕ) (x : List ℕ). give (current n place) w x) (ap length e ∙ give-length (current (length cs) mark) v cs) e
 
 -- ---- steps
 
@@ -144,7 +131,6 @@ not-stopped m l n place row t cs k e = let p = t .1 in let z : _≡_ {A = ℕ} 0
 pub record At (m : Machine) (l : Line) (bound : ℕ) (s : Conf) (spent : ℕ) : Type 0 where
   pub row-low : s .row < m .rows
   pub place-low : s .place ≤ glyphs l
-  pub mark-within : Within (glyphs l) (s .mark)
   pub spent-low : spent ≤ bound
   pub count-low : s .count ≤ bound * s .place + spent
   pub long : length (s .given) ≡ glyphs l
@@ -178,7 +164,6 @@ module _ (m : Machine) (l : Line) (ok : Fits m l) where
       record {
         row-low = first-low (l .starts);
         place-low = omega arith;
-        mark-within = tt;
         spent-low = omega arith;
         count-low = omega arith;
         long = length-replicate (glyphs l) 0;
@@ -193,12 +178,6 @@ module _ (m : Machine) (l : Line) (ok : Fits m l) where
         ∙ give-length (s .mark) (markClass (met m l s .flags)) (s .given)
         ∙ a .long
 
-    mark-next : Within (glyphs l) (markBy (met m l s) l s)
-    mark-next =
-        mark-kept (glyphs l) (setsMark (met m l s .flags)) (current (glyphs l) (s .place)) (s .mark)
-        (current-within (glyphs l) (s .place))
-        (a .mark-within)
-
     next : after m l (s .count + 1) ≡ entry m l s
     next = rw (add-one) (after-going m l (s .count) s (a .reached))
 
@@ -207,7 +186,6 @@ module _ (m : Machine) (l : Line) (ok : Fits m l) where
         record {
           row-low = next-low (s .place) (s .row) (a .row-low);
           place-low = a .place-low;
-          mark-within = mark-next;
           spent-low = omega arith;
           count-low = omega (arith, a .count-low);
           long = given-length;
@@ -226,7 +204,6 @@ module _ (m : Machine) (l : Line) (ok : Fits m l) where
         record {
           row-low = next-low (s .place) (s .row) (a .row-low);
           place-low = omega arith;
-          mark-within = mark-next;
           spent-low = omega arith;
           count-low = count-next;
           long = given-length;

@@ -1,12 +1,11 @@
 -- The walk of a line by the machine in a table's bytes: the line's glyphs as the machine's classes (document 01, "The table", Machine: a deleted glyph is
--- class 2), and the walk as it is handed out, in 1,024 bytes with zeros past the line.
-use Prim.Native.Nat.{ℕ, _+_, _-_, _*_, _<_, _≤_, _^_}
+-- class 2), and the walk as it is handed out.
+use Prim.Native.Nat.{ℕ, _+_, _*_, _<_, _≤_, _^_}
 use mathlib.Core.Path.{_≡_}
 use mathlib.Core.Bool.{Bool, true, false, cond}
-use mathlib.Core.Option.{Option, none, some}
-use mathlib.Core.List.{List, [], _++_, map}
-use lib.Dec.{eqb, ltb}
-use lib.ListN.{length, getD, replicate}
+use mathlib.Core.List.{List, map}
+use lib.Dec.{eqb}
+use lib.ListN.{length, getD}
 use Rattle.fields.specs.Field.{u16At}
 use Rattle.machine.specs.Cells.{cellAt, classAt, classCount, numberAt, stateArray}
 use Rattle.machine.specs.Rows.{entryPlace, rowCount}
@@ -31,18 +30,15 @@ lineColumn t here glyph = cond (eqb glyph 0xFFFF) 2 (classAt t here glyph)
 abbrev pub lineColumns : List ℕ → ℕ → List ℕ → List ℕ
 lineColumns t here line = map (lineColumn t here) line
 
--- zeros after it, up to 1,024 numbers
-unfoldable pub padded : List ℕ → List ℕ
-padded xs = xs ++ replicate (1024 - length xs) 0
-
--- a walk as it is handed out: nothing but zeros where it has not stopped
+-- a walk as it is handed out
 unfoldable pub handedOut : Walk → Walked
-handedOut (stopped cs k) = record { ends = true; count = k; classes = padded cs }
-handedOut (going s) = record { ends = false; count = 0; classes = padded [] }
+handedOut (stopped cs k) = record { ends = true; count = k }
+handedOut (going s) = record { ends = false; count = 0 }
 
--- the code names a glyph of a line by its place; 1,024, which is no place of a line's glyph, is no glyph
-abbrev pub glyphOf : ℕ → Option ℕ
-glyphOf place = cond (ltb place 1024) (some place) none
+-- a walk as it is handed out beside the room that was lent for the classes; of one that never ends, what is left in the room is not said
+pub record HandedOut (w : Walk) (r : Walked) (room : List ℕ) : Type 0 where
+  pub says : r ≡ handedOut w
+  pub classes : (cs : List ℕ) (k : ℕ) → w ≡ stopped cs k → room ≡ cs
 
 -- the machine at `here` is an accepted one: its rows lead below its row count, and an entry says where its new row stands
 pub record Sound (t : List ℕ) (here : ℕ) : Type 0 where

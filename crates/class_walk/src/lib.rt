@@ -2,22 +2,20 @@
 ghost use mathlib.Core.Path.{_≡_};
 ghost use mathlib.Core.Bool.{cond, not, _&&_};
 ghost use mathlib.Core.Option.{orElse};
-ghost use Prim.Native.Nat.{ℕ, _+_, _*_, _≤_, _<_, _^_};
+ghost use Prim.Native.Nat.{ℕ, _+_, _*_, _<_, _^_};
 ghost use lib.Dec.{leb};
-ghost use lib.ListN.{length, getD};
+ghost use lib.ListN.{length, getD, replicate};
 ghost use Rattle.fields.specs.Field.{u16At};
 ghost use Rattle.machine.specs.Classes.{Near, ClassesAt};
 ghost use Rattle.units.specs.Flags.{setsMark, stays, markClass, currentClass};
 ghost use Rattle.class_walk.specs.Walk.{give, columnAt, current, walked};
-ghost use Rattle.class_walk.specs.Line.{machineAt, lineOf, lineColumn, lineColumns, padded, handedOut, glyphOf, rowPlace, Sound, Columns};
+ghost use Rattle.class_walk.specs.Line.{machineAt, lineOf, lineColumn, lineColumns, HandedOut, rowPlace, Sound, Columns};
 use machine::ClassTable;
 
-// A walk that ended, with its count of entries and a class for each glyph of the line; zeros follow.
-// Of a walk that never ends the count is 0 and so is every class.
+// A walk that ended, with its count of entries; of one that never ends the count is 0.
 pub struct Walked {
     pub ends: bool,
     pub count: u32,
-    pub classes: [u8; 1024],
 }
 
 // An entry as the table has it: where its new row stands, and its flags.
@@ -29,9 +27,6 @@ struct Met {
 // A machine has at most so many rows.
 const ROWS: usize = 256;
 
-// A glyph is named by its place in the line; this is no glyph's place.
-const NONE: usize = 1024;
-
 // The machine's class of a glyph: 2 for a deleted one.
 fn line_column(table: &[u8], classes: ClassTable, glyph: u16) -> u8
     requires { ⌜ Near classes ⌝ }
@@ -41,21 +36,6 @@ fn line_column(table: &[u8], classes: ClassTable, glyph: u16) -> u8
         return 2;
     }
     machine::class_by(table, classes, glyph)
-}
-
-// The machine's classes of a line's glyphs; zeros past the line.
-pub fn line_columns(table: &[u8], here: usize, glyphs: &[u16]) -> [u8; 1024]
-    requires { ⌜ (here < 2 ^ 32) × (length (now glyphs) ≤ 1024) ⌝ }
-    ensures { λ r. ⌜ r ≡ padded (lineColumns (now (table .entry)) here (now (glyphs .entry))) ⌝ }
-{
-    let classes = machine::class_table(table, here);
-    let mut columns = [0u8; 1024];
-    let mut i: usize = 0;
-    while i < glyphs.len() {
-        columns[i] = line_column(table, classes, glyphs[i]);
-        i += 1;
-    }
-    columns
 }
 
 // Where the row stands in which a line's walk begins: the first row where the line starts the text, else the second.
@@ -83,53 +63,46 @@ fn entry_by(table: &[u8], here: usize, entries: usize, at: usize) -> Met
     }
 }
 
-// The class at a place, the end position after the last glyph among them.
-fn column_at(columns: &[u8], place: usize, ends: bool) -> usize
-    ensures { λ r. ⌜ r ≡ columnAt (now (columns .entry)) ends place ⌝ }
+// The machine's class at a place, the end position after the last glyph among them.
+fn column_at(table: &[u8], classes: ClassTable, glyphs: &[u16], place: usize, ends: bool) -> usize
+    requires { ⌜ Near classes ⌝ }
+    ensures { λ r. ⌜ ((here : ℕ) → ClassesAt (now (table .entry)) here classes → r ≡ columnAt (lineColumns (now (table .entry)) here (now (glyphs .entry))) ends place) ⌝ }
 {
-    if place < columns.len() {
-        return columns[place] as usize;
+    if place < glyphs.len() {
+        return line_column(table, classes, glyphs[place]) as usize;
     }
     if ends { 0 } else { 3 }
 }
 
-// The current glyph of a line of so many: none at the end position.
-fn glyph_at(place: usize, glyphs: usize) -> usize
-    requires { ⌜ glyphs ≤ 1024 ⌝ }
-    ensures { λ r. ⌜ glyphOf r ≡ current glyphs place ⌝ }
-{
-    if place < glyphs { place } else { NONE }
-}
-
-// The marked glyph after an entry with these flags.
-fn mark_after(flags: u16, glyph: usize, mark: usize) -> usize
-    ensures { λ r. ⌜ glyphOf r ≡ cond (setsMark flags) (orElse (glyphOf glyph) (glyphOf mark)) (glyphOf mark) ⌝ }
+// The place of the marked glyph after an entry with these flags, in a line of so many glyphs.
+fn mark_after(flags: u16, place: usize, mark: usize, glyphs: usize) -> usize
+    ensures { λ r. ⌜ current glyphs r ≡ cond (setsMark flags) (orElse (current glyphs place) (current glyphs mark)) (current glyphs mark) ⌝ }
 {
     if units::sets_mark(flags) {
-        if glyph < NONE {
-            return glyph;
+        if place < glyphs {
+            return place;
         }
     }
     mark
 }
 
-// Gives a class to a glyph, unless the class is 0 or there is no glyph.
-fn give_class(classes: &mut [u8; 1024], glyph: usize, class: u8)
-    ensures { λ r. ⌜ now (classes .exit) ≡ give (glyphOf glyph) class (now (classes .entry)) ⌝ }
+// Gives a class to the glyph at a place, unless the class is 0 or there is no glyph.
+fn give_class(classes: &mut [u8], place: usize, class: u8)
+    ensures { λ r. ⌜ now (classes .exit) ≡ give (current (length (now (classes .entry))) place) class (now (classes .entry)) ⌝ }
 {
-    if glyph < NONE {
+    if place < classes.len() {
         if class != 0 {
-            classes[glyph] = class;
+            classes[place] = class;
         }
     }
 }
 
 // Gives the mark class to the marked glyph, then the current class to the current glyph.
-fn give_classes(classes: &mut [u8; 1024], mark: usize, glyph: usize, flags: u16)
-    ensures { λ r. ⌜ now (classes .exit) ≡ give (glyphOf glyph) (currentClass flags) (give (glyphOf mark) (markClass flags) (now (classes .entry))) ⌝ }
+fn give_classes(classes: &mut [u8], mark: usize, place: usize, flags: u16)
+    ensures { λ r. ⌜ now (classes .exit) ≡ give (current (length (now (classes .entry))) place) (currentClass flags) (give (current (length (now (classes .entry))) mark) (markClass flags) (now (classes .entry))) ⌝ }
 {
     give_class(classes, mark, units::mark_class(flags));
-    give_class(classes, glyph, units::current_class(flags));
+    give_class(classes, place, units::current_class(flags));
 }
 
 // Whether an entry with these flags stops the walk of a line of so many glyphs.
@@ -142,33 +115,39 @@ fn stops(flags: u16, place: usize, glyphs: usize) -> bool
     glyphs <= place
 }
 
-// The walk of a line by the machine, over the machine's classes of the line's glyphs. A row is known by where it
-// stands. Once 256 entries have stayed at one place, a row was met there twice, since there are no more rows, so the
-// walk never leaves the place.
-pub fn walk_line(table: &[u8], here: usize, columns: &[u8], starts: bool, ends: bool) -> Walked
-    requires { ⌜ Sound (now table) here × Columns (now table) here (now columns) ⌝ }
-    ensures { λ r. ⌜ r ≡ handedOut (walked (machineAt (now (table .entry)) here) (lineOf (now (columns .entry)) starts ends)) ⌝ }
+// The walk of a line by the machine, which stores the glyphs' classes as it gives them. A row is known by where it
+// stands, a marked glyph by its place; the end position is no glyph's place, so a mark there is none. Once 256 entries
+// have stayed at one place, a row was met there twice, since there are no more rows, so the walk never leaves the place.
+pub fn walk_line(
+    table: &[u8],
+    here: usize,
+    glyphs: &[u16],
+    starts: bool,
+    ends: bool,
+    classes: &mut [u8],
+) -> Walked
+    requires { ⌜ Sound (now table) here × Columns (now table) here (lineColumns (now table) here (now glyphs)) ⌝ }
+    requires { ⌜ now classes ≡ replicate (length (now glyphs)) 0 ⌝ }
+    ensures { λ r. ⌜ HandedOut (walked (machineAt (now (table .entry)) here) (lineOf (lineColumns (now (table .entry)) here (now (glyphs .entry))) starts ends)) r (now (classes .exit)) ⌝ }
 {
-    let mut classes = [0u8; 1024];
+    let columns = machine::class_table(table, here);
     let entries = machine::entry_table(table, here);
     let mut base = first_base(table, here, starts);
     let mut place: usize = 0;
-    let mut column = column_at(columns, 0, ends);
-    let mut mark: usize = NONE;
+    let mut column = column_at(table, columns, glyphs, 0, ends);
+    let mut mark = glyphs.len();
     let mut spent: usize = 0;
     let mut count: u32 = 0;
     while spent < ROWS {
         let met = entry_by(table, here, entries, base + column);
         let flags = met.flags;
-        let glyph = glyph_at(place, columns.len());
-        let marked = mark_after(flags, glyph, mark);
-        give_classes(&mut classes, mark, glyph, flags);
+        let marked = mark_after(flags, place, mark, glyphs.len());
+        give_classes(classes, mark, place, flags);
         let taken = count + 1;
-        if stops(flags, place, columns.len()) {
+        if stops(flags, place, glyphs.len()) {
             return Walked {
                 ends: true,
                 count: taken,
-                classes,
             };
         }
         base = met.base;
@@ -178,13 +157,12 @@ pub fn walk_line(table: &[u8], here: usize, columns: &[u8], starts: bool, ends: 
             spent += 1;
         } else {
             place += 1;
-            column = column_at(columns, place, ends);
+            column = column_at(table, columns, glyphs, place, ends);
             spent = 0;
         }
     }
     Walked {
         ends: false,
         count: 0,
-        classes: [0u8; 1024],
     }
 }

@@ -1,12 +1,13 @@
 -- From the stretches of a line's call to the whole: what bars it, and what is settled.
 use Prim.Native.Nat.{ℕ, zero, suc, _≤_, _<_}
-use mathlib.Core.Path.{_≡_, refl, sym, ap, ap₂, _∙_}
+use mathlib.Core.Path.{_≡_, refl, sym, ap, ap₂, _∙_, subst}
 use mathlib.Core.Bool.{Bool, true, false, cond}
-use mathlib.Core.List.{List, [], _∷_}
+use mathlib.Core.List.{List, [], _∷_, _++_, map}
 use native.Mathlib.Omega.{arith}
 use lib.Dec.{leb}
 use lib.IntN.{ℤ}
-use lib.ListN.{length, take, replicate}
+use lib.ListN.{length, take, drop, replicate, length-append, length-drop, length-map, length-replicate}
+use lib.Seq.{take-append-le, take-append-seam}
 use borrow.Author.Tests.{le-leb, lt-leb, leb-true}
 use Rattle.fields.specs.declared.Refusal.{Refusal}
 use Rattle.fields.specs.declared.Refusal.the-variants.{UnequalLengths, LongLine, PointSize, ShortRoom}
@@ -19,35 +20,77 @@ use Rattle.meaning.specs.Meaning.{Side}
 use Rattle.meaning.specs.Ask.{sideOf}
 use Rattle.table.specs.Table.{tableFault}
 use Rattle.table.specs.Means.{meaningOf}
-use Rattle.line_rule.specs.Line.{Line, walkOf, classesOf, entriesOf, beforeOf, afterOf, remainderOf, verdictsFrom, verdictsOf}
+use Rattle.share.specs.Share.{total}
+use Rattle.share.specs.Line.{signedOf}
+use Rattle.share.proofs.Lists.{getD-le-total}
+use Rattle.line_rule.specs.Line.{Line, shrinks, walkOf, classesOf, entriesOf, beforeOf, afterOf, remainderOf, verdictsFrom, verdictsOf}
 use Rattle.line_moves.specs.Parts.{SmallSizes}
+use Rattle.line_verdicts.specs.Bits.{told}
+use Rattle.line_verdicts.specs.Moves.{Small, HasMoves}
+use Rattle.line_verdicts.proofs.Told.{told-begins}
 use Rattle.line_call.specs.declared.LineAnswer.the-variants.{Justified, Refused}
 use Rattle.line_call.specs.declared.Settled.{Settled}
+use Rattle.line_call.specs.declared.Tally.{Tally}
 use Rattle.line_call.specs.declared.Worked.{Worked}
 use Rattle.line_call.specs.declared.Worked.the-variants as worked
 use Rattle.line_call.specs.Justified.{justifies, roomTest, workedFault, lineFault, settled, justified}
-use Rattle.line_call.specs.Settle.{lentBy, settlementIs, settlementIn}
-use Rattle.line_call.specs.Steps.{inputFault, workFault, workedBy, WorkedOut, Finished, SettledIn}
+use Rattle.line_call.specs.Settle.{lentBy, settlementIs, settlementIn, Rooms, Tells}
+use Rattle.line_call.specs.Steps.{inputFault, workFault, workedBy, MovesOf, WorkedOut, Finished, SettledIn}
 use Rattle.line_call.proofs.Tests.{lengths-hold, sizes-small}
+
+-- ---- the verdicts that two rooms tell
+
+pub tells-none : (vs : List Verdict) (xs ys : List ℕ) → Tells 0 vs xs ys
+tells-none vs xs ys = record { most = omega arith; begins = refl }
+
+-- all of them; of none nothing is told
+tells-all : (n : ℕ) (vs : List Verdict) (xs ys : List ℕ) → n ≡ length vs → (0 < n → told xs ys ≡ vs) → Tells n vs xs ys
+tells-all zero vs xs ys e h = tells-none vs xs ys
+tells-all (suc n) vs xs ys e h =
+    let q = h (omega arith) in
+    record { most = omega (arith, ap (λ (l : List Verdict). length l) q); begins = ap (take (suc n)) q }
+
+-- rooms of which these are the first parts tell them too
+pub tells-longer : {k : ℕ} {vs : List Verdict} (n : ℕ) (xs ys first second : List ℕ) → length second ≡ length first → length ys ≡ length xs
+    → Tells k vs xs ys → Tells k vs (xs ++ drop n first) (ys ++ drop n second)
+tells-longer {k} {vs} n xs ys first second even e w =
+    record {
+      most = omega (arith, w .most, ap (λ (l : List Verdict). length l) whole, length-append (told xs ys) (cut .0));
+      begins = ap (take k) whole ∙ take-append-le k (told xs ys) (cut .0) (w .most) ∙ w .begins;
+    }
+  where
+    long : length (ys ++ drop n second) ≡ length (xs ++ drop n first)
+    long = omega (arith, length-append xs (drop n first), length-append ys (drop n second), length-drop n first, length-drop n second)
+
+    cut : (rest : List Verdict) × (told (xs ++ drop n first) (ys ++ drop n second) ≡ told (take (length xs) (xs ++ drop n first)) (take (length xs) (ys ++ drop n second)) ++ rest)
+    cut = told-begins (length xs) (xs ++ drop n first) (ys ++ drop n second) long
+
+    whole : told (xs ++ drop n first) (ys ++ drop n second) ≡ told xs ys ++ cut .0
+    whole =
+        cut .1
+        ∙ ap₂ (λ (fs ss : List ℕ). told fs ss ++ cut .0) (take-append-seam xs (drop n first))
+        (ap (λ (m : ℕ). take m (ys ++ drop n second)) (sym e) ∙ take-append-seam ys (drop n second))
 
 -- ---- 16
 
-module _ {room verdicts : ℕ} (remainder : ℤ) (entries : ℕ) (held cs : List ℕ) (moved bs moves fs : List ℤ) where
-  pub finished-short : room < verdicts
-      → Finished room verdicts remainder entries held cs cs moved bs bs moves fs fs (record { answer = Refused ShortRoom 0; stored = 0 })
-  finished-short h =
-      let e : leb verdicts room ≡ false = lt-leb verdicts room h in
-      record { says = sym (rw e); classes = sym (rw e); before = sym (rw e); after = sym (rw e) }
+module _ {room : ℕ} {vs : List Verdict} (tally : Tally) (held cs : List ℕ) (moved bs moves fs : List ℤ) where
+  pub finished-short : {xs ys : List ℕ} → room < length vs
+      → Finished room vs tally held cs cs moved bs bs moves fs fs xs ys (record { answer = Refused ShortRoom 0; stored = 0 })
+  finished-short {xs} {ys} h =
+      let e : leb (length vs) room ≡ false = lt-leb (length vs) room h in
+      record { says = sym (rw e); classes = sym (rw e); before = sym (rw e); after = sym (rw e); tells = tells-none vs xs ys }
 
-  pub finished-done : {z : ℤ} {v : ℕ} {cs′ : List ℕ} {bs′ fs′ : List ℤ} → verdicts ≤ room → z ≡ remainder → v ≡ verdicts → cs′ ≡ held → bs′ ≡ moved → fs′ ≡ moves
-      → Finished room verdicts remainder entries held cs cs′ moved bs bs′ moves fs fs′ (record { answer = Justified z entries v; stored = v })
-  finished-done {z} {v} {cs′} {bs′} {fs′} h ez ev ec eb ef =
-      let e : leb verdicts room ≡ true = le-leb verdicts room h in
+  pub finished-done : {z : ℤ} {v : ℕ} {cs′ : List ℕ} {bs′ fs′ : List ℤ} {xs ys : List ℕ} → v ≤ room → z ≡ tally .remainder
+      → (v ≡ length vs) × (0 < v → told xs ys ≡ vs) → cs′ ≡ held → bs′ ≡ moved → fs′ ≡ moves
+      → Finished room vs tally held cs cs′ moved bs bs′ moves fs fs′ xs ys (record { answer = Justified z (tally .entries) v; stored = v })
+  finished-done {z} {v} {cs′} {bs′} {fs′} {xs} {ys} h ez (ev, et) ec eb ef =
+      let e : leb (length vs) room ≡ true = le-leb (length vs) room (omega arith) in
       record {
-        says = ap₂ (λ (x : ℤ) (y : ℕ). record { answer = Justified x entries y; stored = y }) ez ev ∙ sym (rw e);
+        says = ap₂ (λ (x : ℤ) (y : ℕ). record { answer = Justified x (tally .entries) y; stored = y }) ez ev ∙ sym (rw e);
         classes = ec ∙ sym (rw e);
         before = eb ∙ sym (rw e);
         after = ef ∙ sym (rw e);
+        tells = tells-all v vs xs ys ev et;
       }
 
 -- ---- 12 to 16
@@ -65,23 +108,26 @@ module _ (s : Side) (n : ℕ) (l : Line) (room : ℕ) (cs : List ℕ) (bs fs : L
   worked-bad Clear r at e = let z : _≡_ {A = ℕ} 0 1 = cc in absurd (omega arith)
   worked-bad (Bad q p) r at e = let g : q ≡ r = cc in let k : p ≡ at = cc in ap₂ Bad g k
 
-  pub settled-bad : {w : Worked} (r : Refusal) (at : ℕ) → w ≡ worked.Bad r at → w ≡ workedBy (workFault s n l) s l
-      → SettledIn s n l room cs bs fs (record { answer = Refused r at; stored = 0 }) cs bs fs
+  pub settled-bad : {w : Worked} (r : Refusal) (at : ℕ) {xs ys : List ℕ} → w ≡ worked.Bad r at → w ≡ workedBy (workFault s n l) s l
+      → SettledIn s n l room cs bs fs (record { answer = Refused r at; stored = 0 }) cs bs fs xs ys
   unfolding last
-  settled-bad {w} r at q e verdicts =
+  settled-bad {w} r at {xs} {ys} q e =
       let f = worked-bad (workFault s n l) r at (sym q ∙ e) in
-      outcome-bad r at (then-stop last f ∙ f) verdicts
+      record { settles = outcome-bad r at (then-stop last f ∙ f); tells = tells-none (verdictsOf s l) xs ys }
 
-  record WorkedClear (z : ℤ) (k : ℕ) : Type 0 where
+  record WorkedClear (tally : Tally) : Type 0 where
     clear : workFault s n l ≡ Clear
-    left : z ≡ remainderOf s l
-    count : k ≡ entriesOf (walkOf (s .machine) l)
+    signs : tally .shrink ≡ shrinks l
+    left : tally .remainder ≡ remainderOf s l
+    count : tally .entries ≡ entriesOf (walkOf (s .machine) l)
 
-  worked-clear : (z : ℤ) (k : ℕ) → worked.Done z k ≡ workedBy (workFault s n l) s l → WorkedClear z k
-  worked-clear z k e = go (workFault s n l) refl e
+  worked-clear : (tally : Tally) → worked.Done tally ≡ workedBy (workFault s n l) s l → WorkedClear tally
+  worked-clear tally e = go (workFault s n l) refl e
     where
-      go : (f : Fault) → workFault s n l ≡ f → worked.Done z k ≡ workedBy f s l → WorkedClear z k
-      go Clear q e = record { clear = q; left = cc; count = cc }
+      go : (f : Fault) → workFault s n l ≡ f → worked.Done tally ≡ workedBy f s l → WorkedClear tally
+      go Clear q e =
+          let h : tally ≡ record { shrink = shrinks l; remainder = remainderOf s l; entries = entriesOf (walkOf (s .machine) l) } = cc in
+          record { clear = q; signs = ap (λ (x : Tally). x .shrink) h; left = ap (λ (x : Tally). x .remainder) h; count = ap (λ (x : Tally). x .entries) h }
       go (Bad r at) q e = let z : _≡_ {A = ℕ} 0 1 = cc in absurd (omega arith)
 
   -- nothing bars it: with room for the verdicts, and without
@@ -92,38 +138,74 @@ module _ (s : Side) (n : ℕ) (l : Line) (room : ℕ) (cs : List ℕ) (bs fs : L
       (λ i. record { answer = justifies (ez i) (ek i) (ev i); stored = ev i; classes = ex i; before = ey i; after = ew i })
       ∙ ap (λ (f : Fault). settlementIn (settled f s l (lentBy cs bs fs verdicts))) (sym e)
 
-  module _ {w : Worked} {held : List ℕ} {moved moves : List ℤ} (o : WorkedOut s n l w held moved moves) (z : ℤ) (k : ℕ) (q : w ≡ worked.Done z k) where
-    done : WorkedClear z k
-    done = worked-clear z k (sym q ∙ o .says)
+  module _ {w : Worked} {held befores afters : List ℕ} (o : WorkedOut s n l w held befores afters) (tally : Tally) (q : w ≡ worked.Done tally) where
+    abbrev moved : List ℤ
+    moved = map (signedOf (tally .shrink)) befores
+
+    abbrev moves : List ℤ
+    moves = map (signedOf (tally .shrink)) afters
+
+    done : WorkedClear tally
+    done = worked-clear tally (sym q ∙ o .says)
+
+    pub sizes-done : MovesOf s l befores afters
+    sizes-done = o .moves (done .clear)
+
+    before-is : moved ≡ beforeOf s l
+    before-is = ap (λ (b : Bool). map (signedOf b) befores) (done .signs) ∙ sizes-done .before
+
+    after-is : moves ≡ afterOf s l
+    after-is = ap (λ (b : Bool). map (signedOf b) afters) (done .signs) ∙ sizes-done .after
 
     verdicts-are : verdictsFrom s 0 (l .sizes) (l .glyphs) held moved moves ≡ verdictsOf s l
     unfolding verdictsOf
     verdicts-are =
         ap (λ (xs : List ℕ). verdictsFrom s 0 (l .sizes) (l .glyphs) xs moved moves) (o .classes (done .clear))
-        ∙ ap₂ (λ (xs ys : List ℤ). verdictsFrom s 0 (l .sizes) (l .glyphs) (classesOf (walkOf (s .machine) l)) xs ys) (o .before (done .clear)) (o .after (done .clear))
+        ∙ ap₂ (λ (xs ys : List ℤ). verdictsFrom s 0 (l .sizes) (l .glyphs) (classesOf (walkOf (s .machine) l)) xs ys) before-is after-is
 
-    pub settled-done : {z′ : ℤ} {answer : Settled} {cs′ : List ℕ} {bs′ fs′ : List ℤ} → z′ ≡ z
-        → Finished room (length (verdictsFrom s 0 (l .sizes) (l .glyphs) held moved moves)) z′ k held cs cs′ moved bs bs′ moves fs fs′ answer
-        → SettledIn s n l room cs bs fs answer cs′ bs′ fs′
+    settled-vs : {answer : Settled} {cs′ : List ℕ} {bs′ fs′ : List ℤ} {xs ys : List ℕ}
+        → Finished room (verdictsOf s l) tally held cs cs′ moved bs bs′ moves fs fs′ xs ys answer
+        → SettledIn s n l room cs bs fs answer cs′ bs′ fs′ xs ys
     unfolding last
-    settled-done {z′} {answer} {cs′} {bs′} {fs′} ez f verdicts = go (leb count room) refl (f .says) (f .classes) (f .before) (f .after)
+    settled-vs {answer} {cs′} {bs′} {fs′} {xs} {ys} f =
+        record { settles = λ verdicts. go verdicts (leb (length (verdictsOf s l)) room) refl (f .says) (f .classes) (f .before) (f .after); tells = f .tells }
       where
-        count : ℕ
-        count = length (verdictsFrom s 0 (l .sizes) (l .glyphs) held moved moves)
+        fault : (workFault s n l then last) ≡ rule (leb (length (verdictsOf s l)) room) ShortRoom 0
+        fault = then-go last (done .clear)
 
-        counted : count ≡ length (verdictsOf s l)
-        counted = ap (λ (x : List Verdict). length x) verdicts-are
-
-        fault : (workFault s n l then last) ≡ rule (leb count room) ShortRoom 0
-        fault = then-go last (done .clear) ∙ ap (λ (x : ℕ). rule (leb x room) ShortRoom 0) (sym counted)
-
-        go : (t : Bool) → leb count room ≡ t → answer ≡ cond t (record { answer = Justified z′ k count; stored = count }) (record { answer = Refused ShortRoom 0; stored = 0 })
+        go : (verdicts : List Verdict) (t : Bool) → leb (length (verdictsOf s l)) room ≡ t
+            → answer ≡ cond t (record { answer = Justified (tally .remainder) (tally .entries) (length (verdictsOf s l)); stored = length (verdictsOf s l) }) (record { answer = Refused ShortRoom 0; stored = 0 })
             → cs′ ≡ cond t held cs → bs′ ≡ cond t moved bs → fs′ ≡ cond t moves fs
             → settlementIs answer cs′ bs′ fs′ ≡ settlementIn (settled (workFault s n l then last) s l (lentBy cs bs fs verdicts))
-        go true t a x y w =
+        go verdicts true t a x y w =
             (λ i. settlementIs (a i) (x i) (y i) (w i))
-            ∙ outcome-clear (fault ∙ rule-clear ShortRoom 0 t) (ez ∙ done .left) (done .count) counted (o .classes (done .clear)) (o .before (done .clear)) (o .after (done .clear)) verdicts
-        go false t a x y w = (λ i. settlementIs (a i) (x i) (y i) (w i)) ∙ outcome-bad ShortRoom 0 (fault ∙ rule-fails ShortRoom 0 t) verdicts
+            ∙ outcome-clear (fault ∙ rule-clear ShortRoom 0 t) (done .left) (done .count) refl (o .classes (done .clear)) before-is after-is verdicts
+        go verdicts false t a x y w = (λ i. settlementIs (a i) (x i) (y i) (w i)) ∙ outcome-bad ShortRoom 0 (fault ∙ rule-fails ShortRoom 0 t) verdicts
+
+    pub settled-done : {answer : Settled} {cs′ : List ℕ} {bs′ fs′ : List ℤ} {xs ys : List ℕ}
+        → Finished room (verdictsFrom s 0 (l .sizes) (l .glyphs) held moved moves) tally held cs cs′ moved bs bs′ moves fs fs′ xs ys answer
+        → SettledIn s n l room cs bs fs answer cs′ bs′ fs′ xs ys
+    settled-done {answer} {cs′} {bs′} {fs′} {xs} {ys} f =
+        settled-vs (subst (λ (vs : List Verdict). Finished room vs tally held cs cs′ moved bs bs′ moves fs fs′ xs ys answer) verdicts-are f)
+
+-- ---- what the verdicts are asked of
+
+small-each : (xs : List ℕ) → total xs ≤ 1073741823 → Small xs
+small-each xs h place = omega (arith, getD-le-total xs place)
+
+pub has-moves : {t : List ℕ} {n : ℕ} {shrink : Bool} {s : Side} {l : Line} (sizes classes befores afters glyphs : List ℕ) → tableFault t n ≡ Clear → length glyphs ≤ 1024
+    → length sizes ≡ length glyphs → length classes ≡ length glyphs → length befores ≡ length glyphs → length afters ≡ length glyphs → MovesOf s l befores afters
+    → HasMoves t n shrink sizes classes befores afters glyphs × (total befores < 2147483648) × (total afters < 2147483648)
+has-moves {t} {n} {shrink} {s} {l} sizes classes befores afters glyphs ok few ez ec eb ef m = (
+  record {
+    accepted = ok;
+    fits = record { few = few; sizes = ez; classes = ec; before = length-map befores (signedOf shrink) ∙ eb; after = length-map afters (signedOf shrink) ∙ ef };
+    small-before = small-each befores (m .low-before);
+    small-after = small-each afters (m .low-after);
+  },
+  omega (arith, m .low-before),
+  omega (arith, m .low-after),
+)
 
 -- ---- the whole
 
@@ -176,17 +258,24 @@ module _ (t : List ℕ) (n : ℕ) (l : Line) (cs : List ℕ) (bs fs : List ℤ) 
         small = sizes-small (l .sizes) (rule-holds _ PointSize 0 (then-second _ _ (then-second _ _ (then-second _ _ b))));
       }
 
-  pub whole-clear : (answer : Settled) {f : Fault} {room : ℕ} {cs′ : List ℕ} {bs′ fs′ : List ℤ} → f ≡ input → f ≡ Clear
-      → SettledIn (sideOf (l .direction) (meaningOf t n)) n l room cs bs fs answer cs′ bs′ fs′ → (verdicts : List Verdict) → length verdicts ≡ room
+  pub whole-clear : (answer : Settled) {f : Fault} {room : ℕ} {cs′ : List ℕ} {bs′ fs′ : List ℤ} {xs ys : List ℕ} → f ≡ input → f ≡ Clear
+      → SettledIn (sideOf (l .direction) (meaningOf t n)) n l room cs bs fs answer cs′ bs′ fs′ xs ys → (verdicts : List Verdict) → length verdicts ≡ room
       → settlementIs answer cs′ bs′ fs′ ≡ settlementIn (justified t n l (lentBy cs bs fs verdicts))
   unfolding justified s
-  whole-clear answer {f} {room} {cs′} {bs′} {fs′} e q w verdicts h =
-      w verdicts
+  whole-clear answer {f} {room} {cs′} {bs′} {fs′} {xs} {ys} e q w verdicts h =
+      w .settles verdicts
       ∙ ap (λ (x : ℕ). settlementIn (settled (workFault s n l then roomTest s l x) s l (lentBy cs bs fs verdicts))) (sym h)
       ∙ ap (λ (g : Fault). settlementIn (settled g s l (lentBy cs bs fs verdicts))) (sym (split verdicts ∙ then-go _ (sym e ∙ q)))
 
--- a local array, lent in part
+-- what the first of two rooms has enough of, the second has too
+pub second-enough : {n : ℕ} {first second : List ℕ} → Rooms n first second → n ≤ 1024 → n ≤ length second
+second-enough {n} {first} {second} w h = omega (arith, w .enough h, w .even)
+
+-- a slice or a local array, lent in part
+pub part-length : {A : Type 0} (xs : List A) (n : ℕ) → n ≤ length xs → n ≡ length (take n xs)
+part-length xs zero h = refl
+part-length [] (suc n) h = absurd (omega arith)
+part-length (x ∷ xs) (suc n) h = ap suc (part-length xs n (omega arith))
+
 pub prefix-length : {A : Type 0} (x : A) (m n : ℕ) → n ≤ m → n ≡ length (take n (replicate m x))
-prefix-length x m zero h = refl
-prefix-length x zero (suc n) h = absurd (omega arith)
-prefix-length x (suc m) (suc n) h = ap suc (prefix-length x m n (omega arith))
+prefix-length x m n h = part-length (replicate m x) n (omega (arith, length-replicate m x))

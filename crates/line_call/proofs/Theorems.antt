@@ -12,7 +12,6 @@ use lib.IntN.{ℤ, pos, negsuc, natAbs, _+ℤ_}
 use lib.Signed.{ltZ}
 use lib.ListN.{length, getD, length-map}
 use borrow.Author.Tests.{leb-true, eq-eqb, ne-eqb, le-ltb}
-use Rattle.fields.specs.declared.Refusal.{Refusal}
 use Rattle.fields.specs.declared.Refusal.the-variants.{UnequalLengths, LongLine, UnknownGlyph, EndlessWalk, ShortRoom}
 use Rattle.fields.specs.declared.Fault.{Fault}
 use Rattle.fields.specs.declared.Fault.the-variants.{Clear, Bad}

@@ -4,7 +4,8 @@ use mathlib.Core.Path.{_≡_, refl, sym, ap, ap₂, _∙_, subst}
 use mathlib.Core.Bool.{Bool, true, false, cond, _&&_}
 use mathlib.Core.List.{List, map}
 use native.Mathlib.Omega.{arith}
-use lib.IntN.{ℤ, natAbs, _-ℤ_}
+use lib.IntN.{ℤ, pos, natAbs, _-ℤ_}
+use lib.Signed.{ltZ}
 use mir.Syntax.{w32, w64}
 use mir.Val.{SFits, toZ, ofZ}
 use mir.ValLaws.{toZ-ofZ}
@@ -15,7 +16,9 @@ use Rattle.fields.specs.declared.Fault.the-variants.{Clear, Bad}
 use Rattle.fields.specs.Faults.{_then_, rule}
 use Rattle.units.specs.declared.Units.{Units}
 use Rattle.meaning.specs.Meaning.{Side}
+use Rattle.share.specs.Share.{total}
 use Rattle.share.specs.Line.{Glyph, lineFits, lineLeft, beforeMoves, afterMoves, signedOf, sumℤ}
+use Rattle.share.proofs.Lines.{line-small}
 use Rattle.line_rule.specs.Line.{Line, goesBack, gapOf, shrinks, gapSize, walkOf, hasStopped, classesOf, entriesOf, partsFor, beforeOf, afterOf, remainderOf}
 use Rattle.line_moves.specs.declared.Shared.{Shared}
 use Rattle.line_moves.specs.declared.Shared.the-variants.{Left, Over}
@@ -74,31 +77,30 @@ module _ (l : Line) {t : ℤ} (r : t ≡ l .target) where
 -- ---- what bars it
 
 module _ (s : Side) (n : ℕ) (l : Line) where
-  barred : (r : Refusal) {w : Worked} {cs : List ℕ} {bs fs : List ℤ} → w ≡ worked.Bad r 0 → workFault s n l ≡ Bad r 0 → WorkedOut s n l w cs bs fs
+  barred : (r : Refusal) {w : Worked} {cs bs fs : List ℕ} → w ≡ worked.Bad r 0 → workFault s n l ≡ Bad r 0 → WorkedOut s n l w cs bs fs
   barred r {w} {cs} {bs} {fs} b e =
       record {
         says = b ∙ ap (λ (f : Fault). workedBy f s l) (sym e);
         classes = λ c. let z : _≡_ {A = ℕ} 0 1 = cc in absurd (omega arith);
-        before = λ c. let z : _≡_ {A = ℕ} 0 1 = cc in absurd (omega arith);
-        after = λ c. let z : _≡_ {A = ℕ} 0 1 = cc in absurd (omega arith);
+        moves = λ c. let z : _≡_ {A = ℕ} 0 1 = cc in absurd (omega arith);
       }
 
-  pub bad-advances : {w : Worked} {cs : List ℕ} {bs fs : List ℤ} → w ≡ worked.Bad Advances 0 → goodAdvances l ≡ false → WorkedOut s n l w cs bs fs
+  pub bad-advances : {w : Worked} {cs bs fs : List ℕ} → w ≡ worked.Bad Advances 0 → goodAdvances l ≡ false → WorkedOut s n l w cs bs fs
   unfolding workFault _then_ rule
   bad-advances b a = barred Advances b (rw a)
 
   module _ (a : goodAdvances l ≡ true) where
-    pub bad-glyph : {w : Worked} {cs : List ℕ} {bs fs : List ℤ} → w ≡ worked.Bad UnknownGlyph 0 → allKnown n (l .glyphs) ≡ false → WorkedOut s n l w cs bs fs
+    pub bad-glyph : {w : Worked} {cs bs fs : List ℕ} → w ≡ worked.Bad UnknownGlyph 0 → allKnown n (l .glyphs) ≡ false → WorkedOut s n l w cs bs fs
     unfolding workFault _then_ rule
     bad-glyph b k = barred UnknownGlyph b (rw (a, k))
 
     module _ (k : allKnown n (l .glyphs) ≡ true) where
-      pub bad-walk : {o : Worked} {cs : List ℕ} {bs fs : List ℤ} → o ≡ worked.Bad EndlessWalk 0 → hasStopped (walkOf (s .machine) l) ≡ false → WorkedOut s n l o cs bs fs
+      pub bad-walk : {o : Worked} {cs bs fs : List ℕ} → o ≡ worked.Bad EndlessWalk 0 → hasStopped (walkOf (s .machine) l) ≡ false → WorkedOut s n l o cs bs fs
       unfolding workFault _then_ rule
       bad-walk b w = barred EndlessWalk b (rw (a, k, w))
 
       module _ (w : hasStopped (walkOf (s .machine) l) ≡ true) where
-        bad-total : {o : Worked} {cs : List ℕ} {bs fs : List ℤ} → o ≡ worked.Bad StageTotal 0 → lineFits (partsFor s l) ≡ false → WorkedOut s n l o cs bs fs
+        bad-total : {o : Worked} {cs bs fs : List ℕ} → o ≡ worked.Bad StageTotal 0 → lineFits (partsFor s l) ≡ false → WorkedOut s n l o cs bs fs
         unfolding workFault _then_ rule
         bad-total b f = barred StageTotal b (rw (a, k, w, f))
 
@@ -108,18 +110,18 @@ module _ (s : Side) (n : ℕ) (l : Line) where
 
 -- ---- a gap that was shared
 
-record Done (b back : Bool) (g : ℕ) (ps : List Glyph) (z : ℤ) (bs fs : List ℤ) : Type 0 where
+record Done (b back : Bool) (g : ℕ) (ps : List Glyph) (z : ℤ) (bs fs : List ℕ) : Type 0 where
   fits : lineFits ps ≡ true
   left : z ≡ signedOf b (lineLeft back ps g)
-  before : bs ≡ map (signedOf b) (beforeMoves back ps g)
-  after : fs ≡ map (signedOf b) (afterMoves back ps g)
+  before : bs ≡ beforeMoves back ps g
+  after : fs ≡ afterMoves back ps g
 
-module _ {b back : Bool} {g : ℕ} {ps : List Glyph} {bs fs bs′ fs′ : List ℤ} {sh : Shared} (w : SharedOut b back g ps bs fs sh bs′ fs′) where
+module _ {b back : Bool} {g : ℕ} {ps : List Glyph} {bs fs bs′ fs′ : List ℕ} {sh : Shared} (w : SharedOut b back g ps bs fs sh bs′ fs′) where
   shared-done : (u : Units) → sh ≡ Left u → Done b back g ps (u .0) bs′ fs′
   shared-done u e = go (lineFits ps) refl (sym e ∙ w .answer) (w .before) (w .after)
     where
-      go : (t : Bool) → lineFits ps ≡ t → Left u ≡ cond t (Left (inUnits (signedOf b (lineLeft back ps g)))) Over → bs′ ≡ cond t (map (signedOf b) (beforeMoves back ps g)) bs
-          → fs′ ≡ cond t (map (signedOf b) (afterMoves back ps g)) fs → Done b back g ps (u .0) bs′ fs′
+      go : (t : Bool) → lineFits ps ≡ t → Left u ≡ cond t (Left (inUnits (signedOf b (lineLeft back ps g)))) Over → bs′ ≡ cond t (beforeMoves back ps g) bs
+          → fs′ ≡ cond t (afterMoves back ps g) fs → Done b back g ps (u .0) bs′ fs′
       go true q x y v =
           let z : u ≡ inUnits (signedOf b (lineLeft back ps g)) = cc in
           record { fits = q; left = ap (λ (w : Units). w .0) z; before = y; after = v }
@@ -138,7 +140,7 @@ signed-small true zero h = record { sfits = omega arith }
 signed-small true (suc x) h = record { sfits = omega arith }
 
 module _ (s : Side) (n : ℕ) (l : Line) {g : ℤ} (d : Gapped l g) (k : allKnown n (l .glyphs) ≡ true) (w : hasStopped (walkOf (s .machine) l) ≡ true)
-    {held : List ℕ} (eh : held ≡ classesOf (walkOf (s .machine) l)) {bs fs bs′ fs′ : List ℤ} {sh : Shared}
+    {held : List ℕ} (eh : held ≡ classesOf (walkOf (s .machine) l)) {bs fs bs′ fs′ : List ℕ} {sh : Shared}
     (o : SharedGap g (l .edition) s (l .sizes) (l .glyphs) held bs fs sh bs′ fs′) where
   -- the gap and the classes are the line's
   out : SharedOut (shrinks l) (goesBack (l .edition)) (gapSize l) (partsFor s l) bs fs sh bs′ fs′
@@ -146,7 +148,7 @@ module _ (s : Side) (n : ℕ) (l : Line) {g : ℤ} (d : Gapped l g) (k : allKnow
       subst (λ (cs : List ℕ). SharedGap (gapOf l) (l .edition) s (l .sizes) (l .glyphs) cs bs fs sh bs′ fs′) eh
       (subst (λ (z : ℤ). SharedGap z (l .edition) s (l .sizes) (l .glyphs) held bs fs sh bs′ fs′) (sym (d .gap)) o)
 
-  pub work-over : {v : Worked} {cs : List ℕ} {xs ys : List ℤ} → v ≡ worked.Bad StageTotal 0 → sh ≡ Over → WorkedOut s n l v cs xs ys
+  pub work-over : {v : Worked} {cs xs ys : List ℕ} → v ≡ worked.Bad StageTotal 0 → sh ≡ Over → WorkedOut s n l v cs xs ys
   work-over {v} {cs} {xs} {ys} b e = bad-total s n l (d .good) k w b (shared-over out e)
 
   module _ (u : Units) (e : sh ≡ Left u) where
@@ -166,14 +168,22 @@ module _ (s : Side) (n : ℕ) (l : Line) {g : ℤ} (d : Gapped l g) (k : allKnow
     pub narrowed : toZ w32 (ofZ w32 (toZ w64 (ofZ w64 (u .0)))) ≡ u .0
     narrowed = ap (λ (z : ℤ). toZ w32 (ofZ w32 z)) held-wide ∙ toZ-ofZ w32 (u .0) left-fits
 
-    pub work-done : {v : ℤ} {m : ℕ} → v ≡ u .0 → m ≡ entriesOf (walkOf (s .machine) l) → WorkedOut s n l (worked.Done v m) held bs′ fs′
+    pub work-done : {c : Bool} {v : ℤ} {m : ℕ} → c ≡ ltZ g (pos 0) → v ≡ u .0 → m ≡ entriesOf (walkOf (s .machine) l)
+        → WorkedOut s n l (worked.Done (record { shrink = c; remainder = v; entries = m })) held bs′ fs′
     unfolding remainderOf beforeOf afterOf
-    work-done {v} {m} ev em =
+    work-done {c} {v} {m} ec ev em =
         let r = shared-done out u e in
-        let c : workFault s n l ≡ Clear = clear s n l (d .good) k w (r .fits) in
+        let h : gapSize l ≤ 1073741823 = gap-small l (d .good) in
+        let low = line-small (goesBack (l .edition)) (partsFor s l) (gapSize l) in
+        let clean : workFault s n l ≡ Clear = clear s n l (d .good) k w (r .fits) in
         record {
-          says = ap₂ worked.Done (ev ∙ r .left) em ∙ ap (λ (f : Fault). workedBy f s l) (sym c);
+          says = (λ i. worked.Done (record { shrink = (ec ∙ ap (λ (z : ℤ). ltZ z (pos 0)) (sym (d .gap))) i; remainder = (ev ∙ r .left) i; entries = em i })) ∙ ap (λ (f : Fault). workedBy f s l) (sym clean);
           classes = λ q. eh;
-          before = λ q. r .before;
-          after = λ q. r .after;
+          moves = λ q.
+              record {
+                before = ap (map (signedOf (shrinks l))) (r .before);
+                after = ap (map (signedOf (shrinks l))) (r .after);
+                low-before = omega (arith, low .0, ap total (r .before));
+                low-after = omega (arith, low .1, ap total (r .after));
+              };
         }

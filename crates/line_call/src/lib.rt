@@ -1,23 +1,26 @@
 // One call for a line (document 01, demand 2): its classes, movements, remainder and verdicts, or the refusal.
-// Here: all of it but the storing of the verdicts, whose number `settle` answers beside the call's answer. Nothing
-// lent is written before every refusal is judged.
+// Here: all of it but the storing of the verdicts, whose number `settle` answers beside the call's answer, and whose
+// bits it leaves in two lent rooms. No lent class or movement is written before every refusal is judged.
 ghost use mathlib.Core.Path.{_≡_};
 ghost use mathlib.Core.Bool.{_||_};
-ghost use mathlib.Core.List.{List, [], _∷_};
-ghost use Prim.Native.Nat.{_≤_};
+ghost use mathlib.Core.List.{List, [], _∷_, map};
+ghost use Prim.Native.Nat.{_≤_, _<_};
 ghost use lib.Dec.{eqb, ltb};
 ghost use lib.ListN.{length};
 ghost use Rattle.fields.specs.declared.Fault.the-variants.{Clear};
 ghost use Rattle.types.specs.declared.Verdict.{Verdict};
 ghost use Rattle.meaning.specs.Ask.{sideOf};
+ghost use Rattle.share.specs.Share.{total};
+ghost use Rattle.share.specs.Line.{signedOf};
 ghost use Rattle.table.specs.Table.{tableFault};
 ghost use Rattle.table.specs.Means.{meaningOf};
-ghost use Rattle.line_rule.specs.Line.{verdictsFrom};
+ghost use Rattle.line_rule.specs.Line.{verdictsFrom, verdictsOf};
 ghost use Rattle.line_moves.specs.Parts.{SmallSizes};
+ghost use Rattle.line_verdicts.specs.Moves.{HasMoves};
 ghost use Rattle.line_call.specs.declared.Worked.the-variants.{Bad};
 ghost use Rattle.line_call.specs.Justified.{allLong, goodSize, goodSizes, allKnown, justified};
-ghost use Rattle.line_call.specs.Settle.{lineBy, lentBy, settlementIs, settlementIn};
-ghost use Rattle.line_call.specs.Steps.{measuredLine, sumIn, gapIn, inputFault, WorkedOut, Finished, SettledIn, LineRoom};
+ghost use Rattle.line_call.specs.Settle.{lineBy, lentBy, settlementIs, settlementIn, Rooms, Tells};
+ghost use Rattle.line_call.specs.Steps.{measuredLine, sumIn, gapIn, inputFault, WorkedOut, Finished, SettledIn, LineRoom, WorkRoom};
 use fields::Fault;
 use fields::Refusal;
 use line_moves::Shared;
@@ -56,9 +59,24 @@ enum Gap {
     Unfit,
 }
 
-// What the classes and the movements of a line leave to say: the remainder and the entries taken; or the refusal, with its offset.
+// What a line's call says beside its slices: the font's count of glyphs, the line's shape, and the room for verdicts.
+struct Call {
+    count: u32,
+    shape: LineShape,
+    room: usize,
+}
+
+// What the classes and the movements of a line leave to say: whether the line shrinks, the remainder in units, and the count of
+// entries that the class walk took.
+struct Tally {
+    shrink: bool,
+    remainder: i32,
+    entries: u32,
+}
+
+// A line that is worked out; or the refusal that bars it, with its offset.
 enum Worked {
-    Done { remainder: i32, entries: u32 },
+    Done(Tally),
     Bad { refusal: Refusal, at: usize },
 }
 
@@ -225,17 +243,6 @@ fn copy_classes(from: &[u8], to: &mut [u8])
     }
 }
 
-fn copy_moves(from: &[i32], to: &mut [i32])
-    requires { ⌜ length (now from) ≡ length (now to) ⌝ }
-    ensures { λ r. ⌜ now (to .exit) ≡ now (from .entry) ⌝ }
-{
-    let mut i = 0;
-    while i < from.len() {
-        to[i] = from[i];
-        i += 1;
-    }
-}
-
 // A line that one of its own refusals bars: the offset of each is 0.
 fn barred(refusal: Refusal) -> Worked
     ensures { λ r. ⌜ r ≡ Bad refusal 0 ⌝ }
@@ -243,7 +250,8 @@ fn barred(refusal: Refusal) -> Worked
     Worked::Bad { refusal, at: 0 }
 }
 
-// Refusals 12 to 15; where nothing bars the line, `held` gets its classes, `befores` and `afters` its movements.
+// Refusals 12 to 15; where nothing bars the line, `held` gets its classes, `befores` and `afters` its movements. `first`
+// and `second` are room for the factors of its sides.
 fn work_out(
     table: &[u8],
     count: u32,
@@ -252,13 +260,13 @@ fn work_out(
     glyphs: &[u16],
     advances: &[i32],
     held: &mut [u8],
-    befores: &mut [i32],
-    afters: &mut [i32],
+    befores: &mut [u64],
+    afters: &mut [u64],
+    first: &mut [u64],
+    second: &mut [u64],
 ) -> Worked
-    requires { ⌜
-        (tableFault (now table) count ≡ Clear) × (length (now glyphs) ≤ 1024) × (length (now sizes) ≡ length (now glyphs))
-        × LineRoom (length (now glyphs)) (now held) (now befores) (now afters) × SmallSizes (now sizes)
-        ⌝ }
+    requires { ⌜ (tableFault (now table) count ≡ Clear) × (length (now glyphs) ≤ 1024) × (length (now sizes) ≡ length (now glyphs)) × SmallSizes (now sizes) ⌝ }
+    requires { ⌜ WorkRoom (length (now glyphs)) (now held) (now befores) (now afters) (now first) (now second) ⌝ }
     ensures { λ r. ⌜
         WorkedOut (sideOf (shape .direction) (meaningOf (now (table .entry)) count)) count
         (lineBy shape (now (sizes .entry)) (now (glyphs .entry)) (now (advances .entry)))
@@ -269,11 +277,8 @@ fn work_out(
         return barred(Refusal::Advances);
     };
     if all_known(count, glyphs) {
-        let walked = line_moves::line_walk(table, count, shape, glyphs);
+        let walked = line_moves::line_walk(table, count, shape, glyphs, held);
         if walked.ends {
-            let classes = walked.classes;
-            let n = glyphs.len();
-            copy_classes(&classes[..n], held);
             let shared = line_moves::share_glyphs(
                 table,
                 count,
@@ -282,6 +287,8 @@ fn work_out(
                 sizes,
                 glyphs,
                 held,
+                first,
+                second,
                 befores,
                 afters,
             );
@@ -289,60 +296,69 @@ fn work_out(
                 return barred(Refusal::StageTotal);
             };
             let remainder = left.0 as i32;
-            return Worked::Done {
+            return Worked::Done(Tally {
+                shrink: line_moves::shrinks(gap),
                 remainder,
                 entries: walked.count,
-            };
+            });
         }
         return barred(Refusal::EndlessWalk);
     }
     barred(Refusal::UnknownGlyph)
 }
 
-// Refusal 16; where there is room for the verdicts, classes and movements are copied out.
+// Refusal 16; where there is room for the verdicts, classes are copied out, and movements with their sign. `first` and `second`
+// keep the verdicts' bits.
 fn finish<'a, 'b>(
     table: &'a [u8],
-    count: u32,
-    shape: LineShape,
+    call: Call,
     sizes: &'a [u32],
     glyphs: &'a [u16],
-    remainder: i32,
-    entries: u32,
-    room: usize,
+    tally: Tally,
     held: &'a [u8],
-    befores: &'a [i32],
-    afters: &'a [i32],
+    befores: &'a [u64],
+    afters: &'a [u64],
     classes: &'b mut [u8],
     before: &'b mut [i32],
     after: &'b mut [i32],
+    first: &'b mut [u64],
+    second: &'b mut [u64],
 ) -> Settled
-    requires { ⌜ (tableFault (now table) count ≡ Clear) × (length (now glyphs) ≤ 1024) × (length (now sizes) ≡ length (now glyphs)) ⌝ }
     requires { ⌜
-        LineRoom (length (now glyphs)) (now held) (now befores) (now afters)
-        × LineRoom (length (now glyphs)) (now classes) (now before) (now after)
+        HasMoves (now table) (call .count) (tally .shrink) (now sizes) (now held) (now befores) (now afters) (now glyphs)
+        × (total (now befores) < 2147483648) × (total (now afters) < 2147483648)
+        ⌝ }
+    requires { ⌜
+        LineRoom (length (now glyphs)) (now classes) (now before) (now after)
+        × (length (now first) ≡ length (now glyphs)) × (length (now second) ≡ length (now glyphs))
         ⌝ }
     ensures { λ r. ⌜
-        Finished room
-        (length (verdictsFrom (sideOf (shape .direction) (meaningOf (now (table .entry)) count)) 0
-        (now (sizes .entry)) (now (glyphs .entry)) (now (held .entry)) (now (befores .entry)) (now (afters .entry))))
-        remainder entries
+        Finished (call .room)
+        (verdictsFrom (sideOf (call .shape .direction) (meaningOf (now (table .entry)) (call .count))) 0
+        (now (sizes .entry)) (now (glyphs .entry)) (now (held .entry))
+        (map (signedOf (tally .shrink)) (now (befores .entry))) (map (signedOf (tally .shrink)) (now (afters .entry))))
+        tally
         (now (held .entry)) (now (classes .entry)) (now (classes .exit))
-        (now (befores .entry)) (now (before .entry)) (now (before .exit))
-        (now (afters .entry)) (now (after .entry)) (now (after .exit))
-        r
+        (map (signedOf (tally .shrink)) (now (befores .entry))) (now (before .entry)) (now (before .exit))
+        (map (signedOf (tally .shrink)) (now (afters .entry))) (now (after .entry)) (now (after .exit))
+        (now (first .exit)) (now (second .exit)) r
         ⌝ }
 {
-    let stored = line_verdicts::count_verdicts(
+    let shape = call.shape;
+    let stored = line_verdicts::keep_verdicts(
         table,
-        count,
+        call.count,
         shape,
+        tally.shrink,
         sizes,
         glyphs,
         held,
         befores,
         afters,
+        first,
+        second,
     );
-    if room < stored {
+    if call.room < stored {
         return Settled {
             answer: LineAnswer::Refused {
                 refusal: Refusal::ShortRoom,
@@ -352,50 +368,51 @@ fn finish<'a, 'b>(
         };
     }
     copy_classes(held, classes);
-    copy_moves(befores, before);
-    copy_moves(afters, after);
+    share::copy_signed(tally.shrink, befores, before);
+    share::copy_signed(tally.shrink, afters, after);
     let verdicts = stored as u32;
     Settled {
         answer: LineAnswer::Justified {
-            remainder,
-            entries,
+            remainder: tally.remainder,
+            entries: tally.entries,
             verdicts,
         },
         stored,
     }
 }
 
-// Refusals 12 to 16, over room for the classes and movements.
+// Refusals 12 to 16, over room for the classes and the movements, and for two numbers of each glyph.
 fn settle_in<'a, 'b>(
     table: &'a [u8],
-    count: u32,
-    shape: LineShape,
+    call: Call,
     sizes: &'a [u32],
     glyphs: &'a [u16],
     advances: &'a [i32],
-    room: usize,
     held: &'a mut [u8],
-    befores: &'a mut [i32],
-    afters: &'a mut [i32],
+    befores: &'a mut [u64],
+    afters: &'a mut [u64],
     classes: &'b mut [u8],
     before: &'b mut [i32],
     after: &'b mut [i32],
+    first: &'b mut [u64],
+    second: &'b mut [u64],
 ) -> Settled
-    requires { ⌜ (tableFault (now table) count ≡ Clear) × (length (now glyphs) ≤ 1024) × (length (now sizes) ≡ length (now glyphs)) ⌝ }
+    requires { ⌜ (tableFault (now table) (call .count) ≡ Clear) × (length (now glyphs) ≤ 1024) × (length (now sizes) ≡ length (now glyphs)) × SmallSizes (now sizes) ⌝ }
     requires { ⌜
-        LineRoom (length (now glyphs)) (now held) (now befores) (now afters)
-        × LineRoom (length (now glyphs)) (now classes) (now before) (now after) × SmallSizes (now sizes)
+        WorkRoom (length (now glyphs)) (now held) (now befores) (now afters) (now first) (now second)
+        × LineRoom (length (now glyphs)) (now classes) (now before) (now after)
         ⌝ }
     ensures { λ r. ⌜
-        SettledIn (sideOf (shape .direction) (meaningOf (now (table .entry)) count)) count
-        (lineBy shape (now (sizes .entry)) (now (glyphs .entry)) (now (advances .entry))) room
+        SettledIn (sideOf (call .shape .direction) (meaningOf (now (table .entry)) (call .count))) (call .count)
+        (lineBy (call .shape) (now (sizes .entry)) (now (glyphs .entry)) (now (advances .entry))) (call .room)
         (now (classes .entry)) (now (before .entry)) (now (after .entry))
-        r (now (classes .exit)) (now (before .exit)) (now (after .exit))
+        r (now (classes .exit)) (now (before .exit)) (now (after .exit)) (now (first .exit)) (now (second .exit))
         ⌝ }
 {
+    let shape = call.shape;
     let worked = work_out(
         table,
-        count,
+        call.count,
         shape,
         sizes,
         glyphs,
@@ -403,95 +420,100 @@ fn settle_in<'a, 'b>(
         held,
         befores,
         afters,
+        first,
+        second,
     );
     match worked {
         Worked::Bad { refusal, at } => Settled {
             answer: LineAnswer::Refused { refusal, at },
             stored: 0,
         },
-        Worked::Done { remainder, entries } => finish(
+        Worked::Done(tally) => finish(
             table,
-            count,
-            shape,
+            call,
             sizes,
             glyphs,
-            remainder,
-            entries,
-            room,
+            tally,
             held,
             befores,
             afters,
             classes,
             before,
             after,
+            first,
+            second,
         ),
     }
 }
 
-// The same, with that room. Most lines are short, and less room is sooner cleared.
+// The same, with room of its own for the classes and movements. Most lines are short, and less room is sooner cleared.
 fn settle_clear<'a, 'b>(
     table: &'a [u8],
-    count: u32,
-    shape: LineShape,
+    call: Call,
     sizes: &'a [u32],
     glyphs: &'a [u16],
     advances: &'a [i32],
-    room: usize,
     classes: &'b mut [u8],
     before: &'b mut [i32],
     after: &'b mut [i32],
+    first: &'b mut [u64],
+    second: &'b mut [u64],
 ) -> Settled
-    requires { ⌜ (tableFault (now table) count ≡ Clear) × (length (now glyphs) ≤ 1024) × (length (now sizes) ≡ length (now glyphs)) ⌝ }
-    requires { ⌜ LineRoom (length (now glyphs)) (now classes) (now before) (now after) × SmallSizes (now sizes) ⌝ }
+    requires { ⌜ (tableFault (now table) (call .count) ≡ Clear) × (length (now glyphs) ≤ 1024) × (length (now sizes) ≡ length (now glyphs)) × SmallSizes (now sizes) ⌝ }
+    requires { ⌜
+        LineRoom (length (now glyphs)) (now classes) (now before) (now after)
+        × (length (now first) ≡ length (now glyphs)) × (length (now second) ≡ length (now glyphs))
+        ⌝ }
     ensures { λ r. ⌜
-        SettledIn (sideOf (shape .direction) (meaningOf (now (table .entry)) count)) count
-        (lineBy shape (now (sizes .entry)) (now (glyphs .entry)) (now (advances .entry))) room
+        SettledIn (sideOf (call .shape .direction) (meaningOf (now (table .entry)) (call .count))) (call .count)
+        (lineBy (call .shape) (now (sizes .entry)) (now (glyphs .entry)) (now (advances .entry))) (call .room)
         (now (classes .entry)) (now (before .entry)) (now (after .entry))
-        r (now (classes .exit)) (now (before .exit)) (now (after .exit))
+        r (now (classes .exit)) (now (before .exit)) (now (after .exit)) (now (first .exit)) (now (second .exit))
         ⌝ }
 {
     let n = glyphs.len();
     if n <= 128 {
         let mut held = [0u8; 128];
-        let mut befores = [0i32; 128];
-        let mut afters = [0i32; 128];
+        let mut befores = [0u64; 128];
+        let mut afters = [0u64; 128];
         return settle_in(
             table,
-            count,
-            shape,
+            call,
             sizes,
             glyphs,
             advances,
-            room,
             &mut held[..n],
             &mut befores[..n],
             &mut afters[..n],
             classes,
             before,
             after,
+            first,
+            second,
         );
     }
     let mut held = [0u8; 1024];
-    let mut befores = [0i32; 1024];
-    let mut afters = [0i32; 1024];
+    let mut befores = [0u64; 1024];
+    let mut afters = [0u64; 1024];
     settle_in(
         table,
-        count,
-        shape,
+        call,
         sizes,
         glyphs,
         advances,
-        room,
         &mut held[..n],
         &mut befores[..n],
         &mut afters[..n],
         classes,
         before,
         after,
+        first,
+        second,
     )
 }
 
-// All of a line's call but the storing of its verdicts, for which there is `room`.
+// All of a line's call but the storing of its verdicts, for which there is `room`: their bits are left in `first` and
+// `second`.
 pub fn settle<'a, 'b>(
     table: &'a [u8],
     count: u32,
@@ -503,13 +525,20 @@ pub fn settle<'a, 'b>(
     classes: &'b mut [u8],
     before: &'b mut [i32],
     after: &'b mut [i32],
+    first: &'b mut [u64],
+    second: &'b mut [u64],
 ) -> Settled
+    requires { ⌜ Rooms (length (now glyphs)) (now first) (now second) ⌝ }
     ensures { λ r. ⌜
         ((verdicts : List Verdict) → length verdicts ≡ room →
         settlementIs r (now (classes .exit)) (now (before .exit)) (now (after .exit))
         ≡ settlementIn (justified (now (table .entry)) count
         (lineBy shape (now (sizes .entry)) (now (glyphs .entry)) (now (advances .entry)))
         (lentBy (now (classes .entry)) (now (before .entry)) (now (after .entry)) verdicts)))
+        × Tells (r .stored)
+        (verdictsOf (sideOf (shape .direction) (meaningOf (now (table .entry)) count))
+        (lineBy shape (now (sizes .entry)) (now (glyphs .entry)) (now (advances .entry))))
+        (now (first .exit)) (now (second .exit))
         ⌝ }
 {
     let fault = input_fault(
@@ -529,16 +558,18 @@ pub fn settle<'a, 'b>(
             stored: 0,
         };
     }
+    let n = glyphs.len();
+    let call = Call { count, shape, room };
     settle_clear(
         table,
-        count,
-        shape,
+        call,
         sizes,
         glyphs,
         advances,
-        room,
         classes,
         before,
         after,
+        &mut first[..n],
+        &mut second[..n],
     )
 }

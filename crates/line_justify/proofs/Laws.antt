@@ -1,21 +1,15 @@
--- A list that takes a line's verdicts one after the other.
+-- A list that takes the verdicts that are told one after the other.
 use Prim.Native.Nat.{ℕ, zero, suc, _≤_, _<_}
 use mathlib.Core.Path.{_≡_, refl, sym, ap, _∙_}
-use mathlib.Core.Bool.{Bool, true, false, cond}
-use mathlib.Core.List.{List, [], _∷_, _++_}
+use mathlib.Core.List.{List, [], _∷_}
 use native.Mathlib.Omega.{arith}
 use lib.ListN.{length, set, drop, length-drop}
-use Rattle.types.specs.declared.Direction.{Direction}
 use Rattle.types.specs.declared.Verdict.{Verdict}
-use lib.IntN.{ℤ}
-use Rattle.meaning.specs.Meaning.{Side}
-use Rattle.meaning.specs.Ask.{sideOf}
-use Rattle.table.specs.Means.{meaningOf}
 use Rattle.line_verdicts.specs.declared.Cursor.{Cursor}
 use Rattle.line_verdicts.specs.declared.Step.{Step}
-use Rattle.line_verdicts.specs.Cursor.{Moved, moved, leftAt, startCursor, Serves, InLine, HasMoves}
-use Rattle.line_verdicts.proofs.Laws.{all-left, none-left, start-serves, table-short}
-use Rattle.line_justify.specs.Stored.{lineVerdicts, filledWith}
+use Rattle.line_verdicts.specs.Bits.{told, leftAt, startCursor, Serves}
+use Rattle.line_verdicts.proofs.Told.{start-left, start-serves}
+use Rattle.line_justify.specs.Stored.{filledWith}
 
 -- none yet
 pub stored-none : (vs ys : List Verdict) → filledWith vs 0 ys ≡ ys
@@ -50,34 +44,24 @@ drop-next (x ∷ vs) zero v rest e = cc
 drop-next (x ∷ vs) (suc i) v rest e = drop-next vs i v rest e
 
 -- a cursor where i of the verdicts are taken
-pub record Taken (t : List ℕ) (s : Side) (l : Moved) (glyphs : List ℕ) (vs : List Verdict) (i : ℕ) (c : Cursor) : Type 0 where
-  pub left : leftAt t s l glyphs c ≡ drop i vs
-  pub serves : Serves t (length glyphs) c
+pub record Taken (fired substituted : List ℕ) (i : ℕ) (c : Cursor) : Type 0 where
+  pub left : leftAt fired substituted c ≡ drop i (told fired substituted)
+  pub serves : Serves fired c
 
-module _ (t : List ℕ) (s : Side) (l : Moved) (glyphs : List ℕ) (vs : List Verdict) (i : ℕ) (c : Cursor) (r : Step) (h : i < length vs)
-    (k : Taken t s l glyphs vs i c) (e : InLine t s l glyphs (length glyphs) c r) where
-  -- the step finds the next of them
-  pub taken-verdict : drop i vs ≡ r .verdict ∷ leftAt t s l glyphs (r .next)
-  taken-verdict = go (r .found) refl
-    where
-      go : (b : Bool) → r .found ≡ b → drop i vs ≡ r .verdict ∷ leftAt t s l glyphs (r .next)
-      go true f = sym (k .left) ∙ e .splits ∙ ap (λ (b : Bool). cond b (r .verdict ∷ []) [] ++ leftAt t s l glyphs (r .next)) f
-      go false f =
-          let w : drop i vs ≡ [] =
-          sym (k .left) ∙ e .splits ∙ ap (λ (b : Bool). cond b (r .verdict ∷ []) [] ++ leftAt t s l glyphs (r .next)) f
-          ∙ ap (λ (x : Step). leftAt t s l glyphs (x .next)) (e .spent f) ∙ none-left t s l glyphs
-          in absurd (omega (arith, length-drop i vs, ap (λ (x : List Verdict). length x) w))
+module _ (fs ss : List ℕ) where
+  -- none is taken
+  pub taken-none : Taken fs ss 0 startCursor
+  taken-none = record { left = start-left fs ss; serves = start-serves fs ss }
 
-  pub taken-next : Taken t s l glyphs vs (suc i) (r .next)
-  taken-next = record { left = sym (drop-next vs i (r .verdict) (leftAt t s l glyphs (r .next)) taken-verdict); serves = e .serves }
+  module _ (i : ℕ) (c : Cursor) (k : Taken fs ss i c) where
+    -- where there are more, one is left
+    pub one-left : i < length (told fs ss) → 0 < length (leftAt fs ss c)
+    one-left h = omega (arith, h, length-drop i (told fs ss), ap (λ (vs : List Verdict). length vs) (k .left))
 
--- none of a line's verdicts is taken
-pub taken-none : (t : List ℕ) (count : ℕ) (d : Direction) (sizes glyphs classes : List ℕ) (before after : List ℤ)
-    → HasMoves t count (moved sizes classes before after) glyphs
-    → Taken t (sideOf d (meaningOf t count)) (moved sizes classes before after) glyphs (lineVerdicts t count d sizes glyphs classes before after) 0 startCursor
-unfolding lineVerdicts
-taken-none t count d sizes glyphs classes before after ready =
-    record {
-      left = sym (all-left t (sideOf d (meaningOf t count)) (moved sizes classes before after) glyphs);
-      serves = start-serves t (sideOf d (meaningOf t count)) (moved sizes classes before after) glyphs (table-short t count d (ready .accepted));
-    }
+    module _ (r : Step) (e : leftAt fs ss c ≡ r .verdict ∷ leftAt fs ss (r .next)) where
+      -- the step takes the next of them
+      pub taken-verdict : drop i (told fs ss) ≡ r .verdict ∷ leftAt fs ss (r .next)
+      taken-verdict = sym (k .left) ∙ e
+
+      pub taken-next : Serves fs (r .next) → Taken fs ss (suc i) (r .next)
+      taken-next h = record { left = sym (drop-next (told fs ss) i (r .verdict) (leftAt fs ss (r .next)) taken-verdict); serves = h }

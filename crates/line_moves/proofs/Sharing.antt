@@ -7,7 +7,7 @@ use native.Mathlib.Omega.{arith}
 use lib.IntN.{ℤ, pos, negsuc, natAbs, _-ℤ_}
 use lib.Dec.{T}
 use lib.Signed.{ltZ, nonNeg}
-use mir.Syntax.{w32, w64}
+use mir.Syntax.{w64}
 use mir.Val.{Fits, SFits, toZ, ofZ}
 use mir.ValLaws.{toZ-ofZ}
 use lib.ListN.{length, length-map}
@@ -69,9 +69,9 @@ module _ {ps : List Glyph} {ks us bs cs : List ℕ} (w : Laid ps ks us bs cs) wh
 pub left-small : (back : Bool) (ps : List Glyph) (gap : ℕ) → lineLeft back ps gap ≤ gap
 left-small back ps gap = omega (arith, line-sum back ps gap)
 
-module _ (shrink back : Bool) (gap : ℕ) (ps qs : List Glyph) (same : qs ≡ ps) (bs fs : List ℤ) where
-  pub shared-left : {z : ℤ} {bs′ fs′ : List ℤ} → lineFits ps ≡ true → z ≡ signedOf shrink (lineLeft back qs gap) → bs′ ≡ map (signedOf shrink) (beforeMoves back qs gap)
-      → fs′ ≡ map (signedOf shrink) (afterMoves back qs gap) → SharedOut shrink back gap ps bs fs (Left (inUnits z)) bs′ fs′
+module _ (shrink back : Bool) (gap : ℕ) (ps qs : List Glyph) (same : qs ≡ ps) (bs fs : List ℕ) where
+  pub shared-left : {z : ℤ} {bs′ fs′ : List ℕ} → lineFits ps ≡ true → z ≡ signedOf shrink (lineLeft back qs gap) → bs′ ≡ beforeMoves back qs gap → fs′ ≡ afterMoves back qs gap
+      → SharedOut shrink back gap ps bs fs (Left (inUnits z)) bs′ fs′
   shared-left {z} {bs′} {fs′} fits e b f =
       record {
         answer =
@@ -79,26 +79,26 @@ module _ (shrink back : Bool) (gap : ℕ) (ps qs : List Glyph) (same : qs ≡ ps
             ∙ ap (λ (t : Bool). cond t (Left (inUnits (signedOf shrink (lineLeft back ps gap)))) Over) (sym fits);
         before =
             b
-            ∙ ap (λ (x : List Glyph). map (signedOf shrink) (beforeMoves back x gap)) same
-            ∙ ap (λ (t : Bool). cond t (map (signedOf shrink) (beforeMoves back ps gap)) bs) (sym fits);
+            ∙ ap (λ (x : List Glyph). beforeMoves back x gap) same
+            ∙ ap (λ (t : Bool). cond t (beforeMoves back ps gap) bs) (sym fits);
         after =
             f
-            ∙ ap (λ (x : List Glyph). map (signedOf shrink) (afterMoves back x gap)) same
-            ∙ ap (λ (t : Bool). cond t (map (signedOf shrink) (afterMoves back ps gap)) fs) (sym fits);
+            ∙ ap (λ (x : List Glyph). afterMoves back x gap) same
+            ∙ ap (λ (t : Bool). cond t (afterMoves back ps gap) fs) (sym fits);
       }
 
-pub shared-over : (shrink back : Bool) (gap : ℕ) (ps : List Glyph) (bs fs : List ℤ) → lineFits ps ≡ false → SharedOut shrink back gap ps bs fs Over bs fs
+pub shared-over : (shrink back : Bool) (gap : ℕ) (ps : List Glyph) (bs fs : List ℕ) → lineFits ps ≡ false → SharedOut shrink back gap ps bs fs Over bs fs
 shared-over shrink back gap ps bs fs e =
     record {
       answer = ap (λ (t : Bool). cond t (Left (inUnits (signedOf shrink (lineLeft back ps gap)))) Over) (sym e);
-      before = ap (λ (t : Bool). cond t (map (signedOf shrink) (beforeMoves back ps gap)) bs) (sym e);
-      after = ap (λ (t : Bool). cond t (map (signedOf shrink) (afterMoves back ps gap)) fs) (sym e);
+      before = ap (λ (t : Bool). cond t (beforeMoves back ps gap) bs) (sym e);
+      after = ap (λ (t : Bool). cond t (afterMoves back ps gap) fs) (sym e);
     }
 
 -- ---- the gap's sign
 
 -- by the gap's sign, the edition and the gap's size, as the code found them
-pub by-sign : (gap : ℤ) (edition : ℕ) {b back : Bool} {n : ℕ} (s : Side) (sizes glyphs classes : List ℕ) {bs fs bs′ fs′ : List ℤ} {sh : Shared} → b ≡ ltZ gap (pos 0)
+pub by-sign : (gap : ℤ) (edition : ℕ) {b back : Bool} {n : ℕ} (s : Side) (sizes glyphs classes : List ℕ) {bs fs bs′ fs′ : List ℕ} {sh : Shared} → b ≡ ltZ gap (pos 0)
     → back ≡ goesBack edition → n ≡ natAbs gap
     → SharedOut b back n (partsOf s b sizes glyphs classes) bs fs sh bs′ fs′ → SharedGap gap edition s sizes glyphs classes bs fs sh bs′ fs′
 by-sign gap edition {b} {back} {n} s sizes glyphs classes {bs} {fs} {bs′} {fs′} {sh} eb ek en w =
@@ -138,14 +138,3 @@ module _ (z : ℤ) (h : natAbs z ≤ 1073741823) (fits : SFits w64 z) where
 
     pub turned-size : natAbs (toZ w64 (ofZ w64 (pos 0 -ℤ toZ w64 (ofZ w64 z)))) ≡ natAbs z
     turned-size = ap natAbs turned
-
--- a remainder of 32 bits, as 64 hold it
-module _ (z : ℤ) (f : SFits w32 z) where
-  wide : SFits w64 z
-  wide = record { sfits = omega (arith, f .sfits) }
-
-  pub wide-fits : SFits w64 (toZ w32 (ofZ w32 z))
-  wide-fits = subst (SFits w64) (sym (toZ-ofZ w32 z f)) wide
-
-  pub widened : toZ w64 (ofZ w64 (toZ w32 (ofZ w32 z))) ≡ z
-  widened = ap (λ (y : ℤ). toZ w64 (ofZ w64 y)) (toZ-ofZ w32 z f) ∙ toZ-ofZ w64 z wide

@@ -7,12 +7,10 @@ use mathlib.Core.Option.{Option, none, some}
 use mathlib.Core.List.{List, [], _∷_, map}
 use native.Mathlib.Omega.{arith}
 use native.Mathlib.Decide.{ℕ-discrete}
-use lib.Dec.{eqb, ltb}
-use lib.ListN.{length, getD, take, replicate, length-map, length-replicate}
+use lib.Dec.{ltb}
+use lib.ListN.{length, getD, replicate, length-map, length-replicate}
 use borrow.Author.Tests.{eq-eqb, ne-eqb, ltb-true}
 use Rattle.fields.specs.declared.Fault.the-variants.{Clear}
-use Rattle.fields.specs.Faults.{_then_}
-use Rattle.fields.specs.Laws.{then-first, then-second}
 use Rattle.types.specs.declared.Direction.{Direction}
 use Rattle.types.specs.declared.Entry.{Entry}
 use Rattle.units.specs.Flags.{stays}
@@ -24,8 +22,6 @@ use Rattle.machine.specs.Cells.{classCount, classAt, cellAt}
 use Rattle.machine.specs.Rows.{rowCount}
 use Rattle.machine.specs.Machine.{machineFault}
 use Rattle.machine.proofs.Laws.{rowCount-least, rows-two, rows-most, classes-least, classes-most, class-below, cell-exact}
-use Rattle.lookup_targets.specs.declared.Kind.the-variants.{Clusters}
-use Rattle.lookup_targets.specs.Values.{valuesFault}
 use Rattle.table.specs.Table.{directionAt, machinePart, tableFault}
 use Rattle.table.proofs.Laws.{present-some, direction-clear}
 use Rattle.table.proofs.Laws as table
@@ -35,10 +31,10 @@ use Rattle.table_ask.specs.Places.{machineIn}
 use Rattle.table_ask.proofs.Rows.{cell-by, index-below}
 use Rattle.table_ask.proofs.Asked.{side-is, machine-is}
 use Rattle.class_walk.specs.Walk.{Machine, Line, Conf, Walk, going, stopped, Fits, glyphs, columnAt, met, onAt, givenBy, taken, step, begin, after, most, walked, noWalk}
-use Rattle.class_walk.specs.Line.{machineAt, lineOf, lineColumn, lineColumns, padded, handedOut, Sound, Columns}
+use Rattle.class_walk.specs.Line.{machineAt, lineOf, lineColumn, lineColumns, HandedOut, Sound, Columns}
 use Rattle.class_walk.specs.declared.Walked.{Walked}
 use Rattle.class_walk.proofs.Laws.{walked-ends, ends-length}
-use Rattle.class_walk.proofs.Line.{fits-of, columns-of, padded-take, padded-length, handed-ended, handed-going}
+use Rattle.class_walk.proofs.Line.{fits-of, columns-of, handed-same, handed-ended, handed-going}
 use Rattle.line_rule.specs.Line.{walkMachine, columnOf, walkOf, hasStopped, classesOf, entriesOf}
 use Rattle.line_rule.specs.Line as lines
 use Rattle.line_moves.specs.Parts.{Known, bareLine}
@@ -169,7 +165,7 @@ module _ (t : List ℕ) (n : ℕ) (d : Direction) where
     machine-clear ok z =
         sym (present-some o _ z) ∙ ap (machinePart t n) e ∙ table.machine-clear t (directionAt t d) n (direction-clear t n ok d)
 
-    -- no machine: every class 0, no entry taken; over the size k, since `replicate 1024 0` is written out wherever it stands
+    -- no machine: every class 0, no entry taken
     pub no-walk : o ≡ 0 → (gs : List ℕ) (starts ends : Bool)
         → walkOf (sideOf d (meaningOf t n) .machine) (bareLine gs starts ends) ≡ noWalk (lineOf gs starts ends)
     unfolding walkOf
@@ -188,10 +184,6 @@ unfolding walkOf
 walk-bare none l = refl
 walk-bare (some m) l = refl
 
--- the line's part of the 1,024 columns
-pub columns-padded : (t : List ℕ) (here : ℕ) (gs : List ℕ) {ks : List ℕ} → ks ≡ padded (lineColumns t here gs) → take (length gs) ks ≡ lineColumns t here gs
-columns-padded t here gs {ks} e = ap (take (length gs)) e ∙ padded-take (lineColumns t here gs) (length gs) (length-map gs (lineColumn t here))
-
 -- ---- a walk of any machine, as it was handed out
 
 -- a class for each glyph
@@ -202,36 +194,27 @@ walk-length (some m) l cs k e =
     ends-length (walkMachine m) (lineOf (map (columnOf m) (l .glyphs)) (l .starts) (l .ends)) cs k (walked-ends (walkMachine m) (lineOf (map (columnOf m) (l .glyphs)) (l .starts) (l .ends)) cs k e)
     ∙ length-map (l .glyphs) (columnOf m)
 
--- what the answer of `line_walk` says of a walk that ended
-pub record Ended (m : Option meaning.Machine) (l : lines.Line) (w : Walked) : Type 0 where
+-- what the answer of `line_walk`, and the room that was lent it, say of a walk that ended
+pub record Ended (m : Option meaning.Machine) (l : lines.Line) (r : Walked) (room : List ℕ) : Type 0 where
   pub stops : hasStopped (walkOf m l) ≡ true
-  pub classes : take (length (l .glyphs)) (w .classes) ≡ classesOf (walkOf m l)
-  pub count : w .count ≡ entriesOf (walkOf m l)
+  pub classes : room ≡ classesOf (walkOf m l)
+  pub count : r .count ≡ entriesOf (walkOf m l)
   pub each : length (classesOf (walkOf m l)) ≡ length (l .glyphs)
-  pub room : length (l .glyphs) ≤ 1024 → length (w .classes) ≡ 1024
 
-module _ (m : Option meaning.Machine) (l : lines.Line) (w : Walked) (e : w ≡ handedOut (walkOf m (bareLine (l .glyphs) (l .starts) (l .ends)))) where
-  out : w ≡ handedOut (walkOf m l)
-  out = e ∙ ap handedOut (sym (walk-bare m l))
+module _ (m : Option meaning.Machine) (l : lines.Line) (r : Walked) (room : List ℕ) (h : HandedOut (walkOf m (bareLine (l .glyphs) (l .starts) (l .ends))) r room) where
+  out : HandedOut (walkOf m l) r room
+  out = handed-same (sym (walk-bare m l)) h
 
-  pub walk-ended : w .ends ≡ true → Ended m l w
-  walk-ended q = go (handed-ended (walkOf m l) (sym (ap (λ (x : Walked). x .ends) out) ∙ q))
-    where
-      go : ((cs : List ℕ) × (k : ℕ) × (walkOf m l ≡ stopped cs k) × (handedOut (walkOf m l) .count ≡ k) × (handedOut (walkOf m l) .classes ≡ padded cs)) → Ended m l w
-      go (cs, k, f, c, p) =
-          let n : length cs ≡ length (l .glyphs) = walk-length m l cs k f in
-          let s : classesOf (walkOf m l) ≡ cs = ap classesOf f in
-          record {
-            stops = ap hasStopped f;
-            classes =
-                ap (λ (x : Walked). take (length (l .glyphs)) (x .classes)) out
-                ∙ ap (take (length (l .glyphs))) p
-                ∙ padded-take cs (length (l .glyphs)) n
-                ∙ sym s;
-            count = ap (λ (x : Walked). x .count) out ∙ c ∙ sym (ap entriesOf f);
-            each = ap length s ∙ n;
-            room = λ h. ap (λ (x : Walked). length (x .classes)) out ∙ ap length p ∙ padded-length cs (omega arith);
-          }
+  pub walk-ended : r .ends ≡ true → Ended m l r room
+  walk-ended q =
+      let f : walkOf m l ≡ stopped room (r .count) = handed-ended (walkOf m l) r room out q in
+      let s : classesOf (walkOf m l) ≡ room = ap classesOf f in
+      record {
+        stops = ap hasStopped f;
+        classes = sym s;
+        count = sym (ap entriesOf f);
+        each = ap length s ∙ walk-length m l room (r .count) f;
+      }
 
-  pub walk-endless : w .ends ≡ false → hasStopped (walkOf m l) ≡ false
-  walk-endless q = let f = handed-going (walkOf m l) (sym (ap (λ (x : Walked). x .ends) out) ∙ q) in ap hasStopped (f .1)
+  pub walk-endless : r .ends ≡ false → hasStopped (walkOf m l) ≡ false
+  walk-endless q = let f = handed-going (walkOf m l) r room out q in ap hasStopped (f .1)

@@ -68,16 +68,16 @@ pub record Laid (gs : List Glyph) (ks us bs cs : List ℕ) : Type 0 where
 abbrev pub inUnits : ℤ → Units
 inUnits z = record { 0 = z }
 
--- a gap, given as its size, shared over the sides of glyphs with these parts, by an edition that goes back or not: the remainder and the movements, all with the gap's sign; where a stage's total is above
--- the most that it may be, the movements stay as they were
+-- a gap, given as its size, shared over the sides of glyphs with these parts, by an edition that goes back or not: the remainder with the gap's sign, the movements as their
+-- sizes; where a stage's total is above the most that it may be, the movements stay as they were
 abbrev pub sharedOf : Bool → Bool → ℕ → List Glyph → Shared
 sharedOf shrink back gap gs = cond (lineFits gs) (Left (inUnits (signedOf shrink (lineLeft back gs gap)))) Over
 
-pub record SharedOut (shrink back : Bool) (gap : ℕ) (gs : List Glyph) (bs fs : List ℤ) (shared : Shared) (bs′ fs′ : List ℤ) : Type 0 where
+pub record SharedOut (shrink back : Bool) (gap : ℕ) (gs : List Glyph) (bs fs : List ℕ) (shared : Shared) (bs′ fs′ : List ℕ) : Type 0 where
   pub answer : shared ≡ sharedOf shrink back gap gs
-  pub before : bs′ ≡ cond (lineFits gs) (map (signedOf shrink) (beforeMoves back gs gap)) bs
-  pub after : fs′ ≡ cond (lineFits gs) (map (signedOf shrink) (afterMoves back gs gap)) fs
+  pub before : bs′ ≡ cond (lineFits gs) (beforeMoves back gs gap) bs
+  pub after : fs′ ≡ cond (lineFits gs) (afterMoves back gs gap) fs
 
 -- a gap with its sign, shared by an edition over the sides of glyphs of these sizes and classes
-abbrev pub SharedGap : ℤ → ℕ → Side → List ℕ → List ℕ → List ℕ → List ℤ → List ℤ → Shared → List ℤ → List ℤ → Type 0
+abbrev pub SharedGap : ℤ → ℕ → Side → List ℕ → List ℕ → List ℕ → List ℕ → List ℕ → Shared → List ℕ → List ℕ → Type 0
 SharedGap gap edition s sizes glyphs classes = SharedOut (ltZ gap (pos 0)) (goesBack edition) (natAbs gap) (partsOf s (ltZ gap (pos 0)) sizes glyphs classes)

@@ -5,7 +5,7 @@ ghost use mathlib.Core.Bool.{cond};
 ghost use Prim.Native.Nat.{_≤_};
 ghost use lib.IntN.{pos, natAbs};
 ghost use lib.Signed.{ltZ};
-ghost use lib.ListN.{length};
+ghost use lib.ListN.{length, replicate};
 ghost use Rattle.fields.specs.declared.Fault.the-variants.{Clear};
 ghost use Rattle.units.specs.Flags.{isUnlimited};
 ghost use Rattle.meaning.specs.Ask.{sideOf};
@@ -14,7 +14,7 @@ ghost use Rattle.lookup_targets.specs.declared.Kind.the-variants.{Clusters};
 ghost use Rattle.table.specs.Table.{tableFault};
 ghost use Rattle.table.specs.Means.{meaningOf};
 ghost use Rattle.table_ask.specs.Places.{lookupIn, Readable};
-ghost use Rattle.class_walk.specs.Line.{handedOut};
+ghost use Rattle.class_walk.specs.Line.{HandedOut};
 ghost use Rattle.line_rule.specs.Line.{walkOf, recordFor, unitsOf, stageOf, partBy, partOf, partsOf};
 ghost use Rattle.line_moves.specs.Parts.{Known, bareLine, SmallSizes, Small, IsSize, PartOf, Laid, PartsRoom, SharedGap};
 use actions::Spot;
@@ -46,11 +46,18 @@ pub enum Shared {
 // The priority of a glyph that has no record, and takes no part: no stage.
 const APART: u8 = 255;
 
-// The walk of a line by the machine of a direction; with no machine, every class 0 and no entry taken.
-pub fn line_walk(table: &[u8], count: u32, shape: LineShape, glyphs: &[u16]) -> Walked
+// The walk of a line by the machine of a direction, which stores the glyphs' classes over zeros; with no machine, every
+// class 0 and no entry taken.
+pub fn line_walk(
+    table: &[u8],
+    count: u32,
+    shape: LineShape,
+    glyphs: &[u16],
+    classes: &mut [u8],
+) -> Walked
     requires { ⌜ (tableFault (now table) count ≡ Clear) × (length (now glyphs) ≤ 1024) ⌝ }
-    requires { ⌜ Known count (now glyphs) ⌝ }
-    ensures { λ r. ⌜ r ≡ handedOut (walkOf (sideOf (shape .direction) (meaningOf (now (table .entry)) count) .machine) (bareLine (now (glyphs .entry)) (shape .starts) (shape .ends))) ⌝ }
+    requires { ⌜ Known count (now glyphs) × (now classes ≡ replicate (length (now glyphs)) 0) ⌝ }
+    ensures { λ r. ⌜ HandedOut (walkOf (sideOf (shape .direction) (meaningOf (now (table .entry)) count) .machine) (bareLine (now (glyphs .entry)) (shape .starts) (shape .ends))) r (now (classes .exit)) ⌝ }
 {
     let direction = shape.direction;
     let offset = table_ask::machine_in(table, direction);
@@ -58,13 +65,10 @@ pub fn line_walk(table: &[u8], count: u32, shape: LineShape, glyphs: &[u16]) -> 
         return Walked {
             ends: true,
             count: 0,
-            classes: [0u8; 1024],
         };
     }
     let here = offset + 8;
-    let columns = class_walk::line_columns(table, here, glyphs);
-    let n = glyphs.len();
-    class_walk::walk_line(table, here, &columns[..n], shape.starts, shape.ends)
+    class_walk::walk_line(table, here, glyphs, shape.starts, shape.ends, classes)
 }
 
 // The factor of a limit, which is a size.
@@ -141,7 +145,7 @@ fn plain(factor: Units) -> u64
 }
 
 // Whether a line with this gap shrinks.
-fn shrinks(gap: Units) -> bool
+pub fn shrinks(gap: Units) -> bool
     ensures { λ r. ⌜ r ≡ ltZ (gap .0) (pos 0) ⌝ }
 {
     gap.0 < 0
@@ -210,8 +214,8 @@ fn lay_parts(
     }
 }
 
-// A gap shared over the sides of a line's glyphs, unless refusal 15 bars it; the first four lent slices are room for
-// the parts.
+// A gap shared over the sides of a line's glyphs, unless refusal 15 bars it, with room for their parts: the sizes of
+// their movements go into `before` and `after`, which are all 0.
 fn share_parts(
     table: &[u8],
     count: u32,
@@ -224,12 +228,12 @@ fn share_parts(
     extras: &mut [u8],
     first: &mut [u64],
     second: &mut [u64],
-    before: &mut [i32],
-    after: &mut [i32],
+    before: &mut [u64],
+    after: &mut [u64],
 ) -> Shared
     requires { ⌜ (tableFault (now table) count ≡ Clear) × (length (now classes) ≡ length (now glyphs)) × (length (now sizes) ≡ length (now glyphs)) ⌝ }
     requires { ⌜ PartsRoom (length (now glyphs)) (now priorities) (now extras) (now first) (now second) ⌝ }
-    requires { ⌜ (length (now before) ≡ length (now glyphs)) × (length (now after) ≡ length (now glyphs)) × (length (now glyphs) ≤ 1024) × (natAbs (gap .0) ≤ 1073741823) × SmallSizes (now sizes) ⌝ }
+    requires { ⌜ (now before ≡ replicate (length (now glyphs)) 0) × (now after ≡ replicate (length (now glyphs)) 0) × (length (now glyphs) ≤ 1024) × (natAbs (gap .0) ≤ 1073741823) × SmallSizes (now sizes) ⌝ }
     ensures { λ r. ⌜ SharedGap (gap .0) (shape .edition) (sideOf (shape .direction) (meaningOf (now (table .entry)) count)) (now (sizes .entry)) (now (glyphs .entry)) (now (classes .entry)) (now (before .entry)) (now (after .entry)) r (now (before .exit)) (now (after .exit)) ⌝ }
 {
     let shrink = shrinks(gap);
@@ -249,7 +253,6 @@ fn share_parts(
     let totals = share::line_totals(priorities, first, second);
     if share::totals_fit(totals) {
         let left = share::share_line(
-            shrink,
             line_rule::goes_back(shape.edition),
             size_of(gap),
             totals,
@@ -266,8 +269,8 @@ fn share_parts(
     Shared::Over
 }
 
-// A gap shared over the sides of a line's glyphs, unless refusal 15 bars it: the signed movements of each glyph go into
-// `before` and `after`. Most lines are short, and less room is sooner cleared.
+// A gap shared over the sides of a line's glyphs, unless refusal 15 bars it: the sizes of each glyph's movements go into
+// `before` and `after`, which are all 0. `first` and `second` are room for the factors of the sides.
 pub fn share_glyphs(
     table: &[u8],
     count: u32,
@@ -276,39 +279,19 @@ pub fn share_glyphs(
     sizes: &[u32],
     glyphs: &[u16],
     classes: &[u8],
-    before: &mut [i32],
-    after: &mut [i32],
+    first: &mut [u64],
+    second: &mut [u64],
+    before: &mut [u64],
+    after: &mut [u64],
 ) -> Shared
     requires { ⌜ (tableFault (now table) count ≡ Clear) × (length (now classes) ≡ length (now glyphs)) × (length (now sizes) ≡ length (now glyphs)) ⌝ }
-    requires { ⌜ (length (now before) ≡ length (now glyphs)) × (length (now after) ≡ length (now glyphs)) × (length (now glyphs) ≤ 1024) × (natAbs (gap .0) ≤ 1073741823) × SmallSizes (now sizes) ⌝ }
+    requires { ⌜ (length (now first) ≡ length (now glyphs)) × (length (now second) ≡ length (now glyphs)) ⌝ }
+    requires { ⌜ (now before ≡ replicate (length (now glyphs)) 0) × (now after ≡ replicate (length (now glyphs)) 0) × (length (now glyphs) ≤ 1024) × (natAbs (gap .0) ≤ 1073741823) × SmallSizes (now sizes) ⌝ }
     ensures { λ r. ⌜ SharedGap (gap .0) (shape .edition) (sideOf (shape .direction) (meaningOf (now (table .entry)) count)) (now (sizes .entry)) (now (glyphs .entry)) (now (classes .entry)) (now (before .entry)) (now (after .entry)) r (now (before .exit)) (now (after .exit)) ⌝ }
 {
     let n = glyphs.len();
-    if n <= 128 {
-        let mut priorities = [0u8; 128];
-        let mut extras = [0u8; 128];
-        let mut first = [0u64; 128];
-        let mut second = [0u64; 128];
-        return share_parts(
-            table,
-            count,
-            shape,
-            gap,
-            sizes,
-            glyphs,
-            classes,
-            &mut priorities[..n],
-            &mut extras[..n],
-            &mut first[..n],
-            &mut second[..n],
-            before,
-            after,
-        );
-    }
     let mut priorities = [0u8; 1024];
     let mut extras = [0u8; 1024];
-    let mut first = [0u64; 1024];
-    let mut second = [0u64; 1024];
     share_parts(
         table,
         count,
@@ -319,8 +302,8 @@ pub fn share_glyphs(
         classes,
         &mut priorities[..n],
         &mut extras[..n],
-        &mut first[..n],
-        &mut second[..n],
+        first,
+        second,
         before,
         after,
     )

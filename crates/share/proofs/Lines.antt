@@ -9,12 +9,12 @@ use native.Mathlib.Nat.{zero-add, le-of-suc-le-suc}
 use native.Mathlib.Numerals.{add-one}
 use lib.Dec.{leb, eqb}
 use lib.IntN.{ℤ, pos, negℤ, _+ℤ_, negℤ-+ℤ}
-use lib.ListN.{length, drop, take, getD, replicate}
+use lib.ListN.{length, drop, take, getD, replicate, length-replicate}
 use borrow.Author.Tests.{leb-true, eqb-true, eq-eqb}
 use Rattle.share.specs.Share.{total, still, plus, ofStage, stages, noPart, movements, remainder, most, within, among, empty}
 use Rattle.share.specs.Line.{Glyph, apart, sideStages, sideFactors, sideExtras, evens, odds, lineMoves, beforeMoves, afterMoves, lineLeft, lineFits, signedOf, glyphsOf, Parts, Lent, nothingMoves, noneUnlimited, EachLimited, fullMoves, fullTotal, sumℤ}
-use Rattle.share.specs.Inner.{weave, factorsAt, lineOf, Moved, stageCount}
-use Rattle.share.proofs.Lists.{length-still}
+use Rattle.share.specs.Inner.{weave, factorsAt, lineOf, Moved, Holds, Sides, stageCount}
+use Rattle.share.proofs.Lists.{length-still, getD-le-total}
 use Rattle.share.proofs.Theory.{sum-is-gap, length-movesBy, no-part-still, both, remainder-is, limits-remainder, limits-reached}
 use Rattle.share.proofs.Halves.{total-halves, length-halves, getD-evens, getD-odds, length-weave}
 use Rattle.share.proofs.Stages.{at-stage}
@@ -56,7 +56,7 @@ module _ (back : Bool) {n : ℕ} {ks us bs cs : List ℕ} (p : Lent n ks us bs c
       ∙ ap (λ (l : List ℕ). remainder back (weave ks ks) l (sideExtras (glyphsOf ks us bs cs)) gap) (s .factors)
       ∙ ap (λ (l : List ℕ). remainder back (weave ks ks) (weave bs cs) l gap) (s .extras))
 
-  pub line-moves : lineOf (movements back) ks us bs cs gap ≡ lineMoves back (glyphsOf ks us bs cs) gap
+  line-moves : lineOf (movements back) ks us bs cs gap ≡ lineMoves back (glyphsOf ks us bs cs) gap
   unfolding lineMoves
   line-moves = sym (ap (λ (l : List ℕ). movements back l (sideFactors (glyphsOf ks us bs cs)) (sideExtras (glyphsOf ks us bs cs)) gap) (s .stages)
       ∙ ap (λ (l : List ℕ). movements back (weave ks ks) l (sideExtras (glyphsOf ks us bs cs)) gap) (s .factors)
@@ -91,12 +91,12 @@ module _ (ks bs cs : List ℕ) where
 -- ---- from nothing
 
 -- what is added to n zeros
-pub plus-zeros : (n : ℕ) (xs : List ℕ) → n ≤ length xs → plus (replicate n 0) xs ≡ xs
+plus-zeros : (n : ℕ) (xs : List ℕ) → n ≤ length xs → plus (replicate n 0) xs ≡ xs
 plus-zeros zero xs h = refl
 plus-zeros (suc n) [] h = absurd (omega arith)
 plus-zeros (suc n) (x ∷ xs) h = rw (zero-add x, plus-zeros n xs (le-of-suc-le-suc h))
 
-pub total-zeros : (n : ℕ) → total (replicate n 0) ≡ 0
+total-zeros : (n : ℕ) → total (replicate n 0) ≡ 0
 total-zeros zero = refl
 total-zeros (suc n) = omega (arith, total-zeros n)
 
@@ -112,26 +112,31 @@ zeros-take zero (suc n) h = absurd (omega arith)
 zeros-take (suc m) (suc n) h = ap (λ (l : List ℕ). 0 ∷ l) (zeros-take m n (omega arith))
 
 module _ (back : Bool) {n : ℕ} {ks us bs cs : List ℕ} (p : Lent n ks us bs cs) (gap : ℕ) where
-  pub length-line : length (lineOf (movements back) ks us bs cs gap) ≡ n + n
+  length-line : length (lineOf (movements back) ks us bs cs gap) ≡ n + n
   length-line =
       length-movesBy stages back (n + n) (weave ks ks) (weave bs cs) (weave (still us) us) gap
       (length-weave n ks ks (p .stages) (p .stages)) (length-weave n bs cs (p .first) (p .second)) (length-weave n (still us) us (length-still us ∙ p .extras) (p .extras))
 
+  -- movements that are added to zeros are the line's
   pub from-zeros : {xs ys xs' ys' : List ℕ} → xs ≡ replicate n 0 → ys ≡ replicate n 0 → Moved (lineOf (movements back) ks us bs cs gap) xs ys xs' ys'
-      → (xs' ≡ evens (lineOf (movements back) ks us bs cs gap)) × (ys' ≡ odds (lineOf (movements back) ks us bs cs gap))
+      → (xs' ≡ beforeMoves back (glyphsOf ks us bs cs) gap) × (ys' ≡ afterMoves back (glyphsOf ks us bs cs) gap)
   from-zeros {xs} {ys} {xs'} {ys'} e f m =
       let w = lineOf (movements back) ks us bs cs gap in
       let l = length-halves n w length-line in (
-        m .before ∙ ap (λ (l : List ℕ). plus l (evens w)) e ∙ plus-zeros n (evens w) (omega arith),
-        m .after ∙ ap (λ (l : List ℕ). plus l (odds w)) f ∙ plus-zeros n (odds w) (omega arith),
+        m .before ∙ ap (λ (l : List ℕ). plus l (evens w)) e ∙ plus-zeros n (evens w) (omega arith) ∙ ap evens (line-moves back p gap),
+        m .after ∙ ap (λ (l : List ℕ). plus l (odds w)) f ∙ plus-zeros n (odds w) (omega arith) ∙ ap odds (line-moves back p gap),
       )
 
--- no more than the gap on either side
-pub sides-small : (back : Bool) (ks us bs cs : List ℕ) (gap : ℕ) → (total (evens (lineOf (movements back) ks us bs cs gap)) ≤ gap) × (total (odds (lineOf (movements back) ks us bs cs gap)) ≤ gap)
-sides-small back ks us bs cs gap =
-    let h = total-halves (lineOf (movements back) ks us bs cs gap) in
-    let s = sum-is-gap back (weave ks ks) (weave bs cs) (weave (still us) us) gap in
-    (omega arith, omega arith)
+-- zeros are the movements of n glyphs, and have room for any gap of a line
+module _ (n : ℕ) {xs ys : List ℕ} (e : xs ≡ replicate n 0) (f : ys ≡ replicate n 0) where
+  pub zeros-sides : Sides n xs ys
+  zeros-sides = record { before = ap length e ∙ length-replicate n 0; after = ap length f ∙ length-replicate n 0 }
+
+  pub zeros-hold : {gap : ℕ} → gap ≤ 1073741823 → Holds gap xs ys
+  zeros-hold h =
+      let x = ap total e ∙ total-zeros n in
+      let y = ap total f ∙ total-zeros n in
+      record { small = h; before = omega arith; after = omega arith }
 
 -- ---- the theorems on a line
 
@@ -150,6 +155,15 @@ line-lengths back gs gap =
 pub line-sum : (back : Bool) (gs : List Glyph) (gap : ℕ) → total (beforeMoves back gs gap) + total (afterMoves back gs gap) + lineLeft back gs gap ≡ gap
 unfolding lineMoves lineLeft
 line-sum back gs gap = omega (arith, total-halves (lineMoves back gs gap), sum-is-gap back (sideStages gs) (sideFactors gs) (sideExtras gs) gap)
+
+-- NO MOVEMENT IS ABOVE THE GAP, nor are all before sides together, nor all after sides
+pub line-small : (back : Bool) (gs : List Glyph) (gap : ℕ) → (total (beforeMoves back gs gap) ≤ gap) × (total (afterMoves back gs gap) ≤ gap)
+line-small back gs gap = let s = line-sum back gs gap in (omega arith, omega arith)
+
+pub move-small : (back : Bool) (gs : List Glyph) (gap i : ℕ) → (getD (beforeMoves back gs gap) i 0 ≤ gap) × (getD (afterMoves back gs gap) i 0 ≤ gap)
+move-small back gs gap i =
+    let s = line-small back gs gap in
+    (omega (arith, getD-le-total (beforeMoves back gs gap) i), omega (arith, getD-le-total (afterMoves back gs gap) i))
 
 -- NOTHING MOVES: of a gap of 0 every glyph's movements are 0, and nothing is left
 all-zero : (xs : List ℕ) → total xs ≡ 0 → xs ≡ replicate (length xs) 0

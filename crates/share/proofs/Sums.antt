@@ -111,5 +111,8 @@ module _ {ts : Totals} {ks bs cs : List ℕ} (w : TotalsOf ts ks bs cs) where
   pub totals-line : {us : List ℕ} → Lent (length ks) ks us bs cs → totalsWithin ts stages ≡ lineFits (glyphsOf ks us bs cs)
   totals-line {us} l = totals-within ∙ sym (fits-is (lent-parts l) us (l .extras))
 
-  pub fit : within (weave ks ks) (weave bs cs) stages ≡ true → Fit ts ks bs cs
-  fit e = record { totals = w; low = λ s h. omega (arith, w .at s h, fit-low ks bs cs e s h) }
+  -- and where it is passed, no total is above the most that it may be
+  pub fit : {us : List ℕ} → Lent (length ks) ks us bs cs → lineFits (glyphsOf ks us bs cs) ≡ true → Fit ts ks bs cs
+  fit {us} l e =
+      let f = sym (fits-is (lent-parts l) us (l .extras)) ∙ e in
+      record { totals = w; low = λ s h. omega (arith, w .at s h, fit-low ks bs cs f s h) }

@@ -7,9 +7,9 @@ ghost use lib.ListN.{length, replicate};
 ghost use lib.Dec.{ltb};
 ghost use mathlib.Core.Bool.{true, cond};
 ghost use mathlib.Core.List.{map};
-ghost use Rattle.share.specs.Share.{total, most, plus, shares, stages, stageMoves, stageLeft, stagesMoves, stagesLeft, backMoves, backLeft, movements, remainder};
+ghost use Rattle.share.specs.Share.{total, most, plus, shares, stages, stageMoves, stageLeft, stagesMoves, stagesLeft, backMoves, backLeft};
 ghost use Rattle.share.specs.Carry.{widest, Carriable, CarriedOn};
-ghost use Rattle.share.specs.Line.{evens, odds, glyphsOf, lineLeft, lineFits, beforeMoves, afterMoves, signedOf, Parts, Lent};
+ghost use Rattle.share.specs.Line.{odds, glyphsOf, lineLeft, lineFits, beforeMoves, afterMoves, signedOf, Parts, Lent};
 ghost use Rattle.share.specs.Inner.{weave, factorsAt, extrasAt, lineOf, Runs, CanCarry, Stepped, Moved, Holds, Sides, stageCount, totalAt, totalsWithin, TotalsOf, Fit};
 
 // The most that a stage's total may be.
@@ -358,8 +358,10 @@ fn go_back(
     left
 }
 
-// The whole rule on sizes, in an edition that goes back or not: adds the movements; answers the remainder.
-fn share_sizes(
+// A line's gap, given as its size, shared over the sides of its glyphs: the size of each movement into `before` and `after`,
+// which are all 0; answers the size of the remainder. Edition 1 of the rule goes back, by step 3; edition 2 does not. The totals
+// are the line's, see `line_totals`, and none is above the most that it may be: see `totals_fit`.
+pub fn share_line(
     back: bool,
     gap: u64,
     totals: Totals,
@@ -370,10 +372,11 @@ fn share_sizes(
     before: &mut [u64],
     after: &mut [u64],
 ) -> u64
-    requires { ⌜ Lent (length (now priorities)) (now priorities) (now extras) (now first) (now second) × Sides (length (now priorities)) (now before) (now after) ⌝ }
-    requires { ⌜ Holds gap (now before) (now after) × Fit totals (now priorities) (now first) (now second) ⌝ }
-    ensures { λ r. ⌜ r ≡ lineOf (remainder back) (now (priorities .entry)) (now (extras .entry)) (now (first .entry)) (now (second .entry)) gap ⌝ }
-    ensures { λ r. ⌜ Moved (lineOf (movements back) (now (priorities .entry)) (now (extras .entry)) (now (first .entry)) (now (second .entry)) gap) (now (before .entry)) (now (after .entry)) (now (before .exit)) (now (after .exit)) ⌝ }
+    requires { ⌜ Lent (length (now priorities)) (now priorities) (now extras) (now first) (now second) ⌝ }
+    requires { ⌜ (now before ≡ replicate (length (now priorities)) 0) × (now after ≡ replicate (length (now priorities)) 0) ⌝ }
+    requires { ⌜ (gap ≤ 1073741823) × TotalsOf totals (now priorities) (now first) (now second) × (lineFits (glyphsOf (now priorities) (now extras) (now first) (now second)) ≡ true) ⌝ }
+    ensures { λ r. ⌜ r ≡ lineLeft back (glyphsOf (now (priorities .entry)) (now (extras .entry)) (now (first .entry)) (now (second .entry))) gap ⌝ }
+    ensures { λ r. ⌜ (now (before .exit) ≡ beforeMoves back (glyphsOf (now (priorities .entry)) (now (extras .entry)) (now (first .entry)) (now (second .entry))) gap) × (now (after .exit) ≡ afterMoves back (glyphsOf (now (priorities .entry)) (now (extras .entry)) (now (first .entry)) (now (second .entry))) gap) ⌝ }
 {
     let left = share_stages(
         gap,
@@ -401,7 +404,7 @@ pub fn signed(shrink: bool, size: u64) -> i32
 }
 
 // Sizes with the gap's sign.
-fn copy_signed(shrink: bool, from: &[u64], to: &mut [i32])
+pub fn copy_signed(shrink: bool, from: &[u64], to: &mut [i32])
     requires { ⌜ (length (now from) ≡ length (now to)) × (total (now from) < 2147483648) ⌝ }
     ensures { λ r. ⌜ now (to .exit) ≡ map (signedOf shrink) (now (from .entry)) ⌝ }
 {
@@ -410,102 +413,4 @@ fn copy_signed(shrink: bool, from: &[u64], to: &mut [i32])
         to[i] = signed(shrink, from[i]);
         i += 1;
     }
-}
-
-// The whole rule with its sign; `befores` and `afters` are room, all 0.
-fn share_in(
-    shrink: bool,
-    back: bool,
-    gap: u64,
-    totals: Totals,
-    priorities: &[u8],
-    extras: &[u8],
-    first: &[u64],
-    second: &[u64],
-    befores: &mut [u64],
-    afters: &mut [u64],
-    before: &mut [i32],
-    after: &mut [i32],
-) -> u64
-    requires { ⌜ Lent (length (now priorities)) (now priorities) (now extras) (now first) (now second) × (gap ≤ 1073741823) × Fit totals (now priorities) (now first) (now second) ⌝ }
-    requires { ⌜ (now befores ≡ replicate (length (now priorities)) 0) × (now afters ≡ replicate (length (now priorities)) 0) ⌝ }
-    requires { ⌜ (length (now before) ≡ length (now priorities)) × (length (now after) ≡ length (now priorities)) ⌝ }
-    ensures { λ r. ⌜ r ≡ lineOf (remainder back) (now (priorities .entry)) (now (extras .entry)) (now (first .entry)) (now (second .entry)) gap ⌝ }
-    ensures { λ r. ⌜ now (before .exit) ≡ map (signedOf shrink) (evens (lineOf (movements back) (now (priorities .entry)) (now (extras .entry)) (now (first .entry)) (now (second .entry)) gap)) ⌝ }
-    ensures { λ r. ⌜ now (after .exit) ≡ map (signedOf shrink) (odds (lineOf (movements back) (now (priorities .entry)) (now (extras .entry)) (now (first .entry)) (now (second .entry)) gap)) ⌝ }
-{
-    let left = share_sizes(
-        back,
-        gap,
-        totals,
-        priorities,
-        extras,
-        first,
-        second,
-        befores,
-        afters,
-    );
-    copy_signed(shrink, befores, before);
-    copy_signed(shrink, afters, after);
-    left
-}
-
-// A line's gap, given as its size, shared over the sides of its glyphs: the signed movements of each glyph into `before` and
-// `after`; answers the size of the remainder. Edition 1 of the rule goes back, by step 3; edition 2 does not. The totals are
-// the line's, see `line_totals`, and none is above the most that it may be: see `totals_fit`.
-pub fn share_line(
-    shrink: bool,
-    back: bool,
-    gap: u64,
-    totals: Totals,
-    priorities: &[u8],
-    extras: &[u8],
-    first: &[u64],
-    second: &[u64],
-    before: &mut [i32],
-    after: &mut [i32],
-) -> u64
-    requires { ⌜ Lent (length (now priorities)) (now priorities) (now extras) (now first) (now second) ⌝ }
-    requires { ⌜ (length (now before) ≡ length (now priorities)) × (length (now after) ≡ length (now priorities)) ⌝ }
-    requires { ⌜ (gap ≤ 1073741823) × TotalsOf totals (now priorities) (now first) (now second) × (lineFits (glyphsOf (now priorities) (now extras) (now first) (now second)) ≡ true) ⌝ }
-    ensures { λ r. ⌜ r ≡ lineLeft back (glyphsOf (now (priorities .entry)) (now (extras .entry)) (now (first .entry)) (now (second .entry))) gap ⌝ }
-    ensures { λ r. ⌜ now (before .exit) ≡ map (signedOf shrink) (beforeMoves back (glyphsOf (now (priorities .entry)) (now (extras .entry)) (now (first .entry)) (now (second .entry))) gap) ⌝ }
-    ensures { λ r. ⌜ now (after .exit) ≡ map (signedOf shrink) (afterMoves back (glyphsOf (now (priorities .entry)) (now (extras .entry)) (now (first .entry)) (now (second .entry))) gap) ⌝ }
-{
-    let n = priorities.len();
-    // Most lines are short, and less room is sooner cleared.
-    if n <= 128 {
-        let mut befores = [0u64; 128];
-        let mut afters = [0u64; 128];
-        return share_in(
-            shrink,
-            back,
-            gap,
-            totals,
-            priorities,
-            extras,
-            first,
-            second,
-            &mut befores[..n],
-            &mut afters[..n],
-            before,
-            after,
-        );
-    }
-    let mut befores = [0u64; 1024];
-    let mut afters = [0u64; 1024];
-    share_in(
-        shrink,
-        back,
-        gap,
-        totals,
-        priorities,
-        extras,
-        first,
-        second,
-        &mut befores[..n],
-        &mut afters[..n],
-        before,
-        after,
-    )
 }

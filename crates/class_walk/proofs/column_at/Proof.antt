@@ -1,25 +1,47 @@
 -- `class_walk::column_at` meets its contract. Assumes nothing.
-use native.Mathlib.Omega.{arith}
-use borrow.Author.Tests.{lt-ltb, le-ltb}
+use mathlib.Core.Bool.{Bool, cond}
+use mathlib.Core.Path.{_∙_, sym, ap}
 use borrow.Author.Needs.{needs}
+use Rattle.class_walk.proofs.Line.{column-there, column-end}
 use Rattle.class_walk.proofs.column_at.Statement.{statement}
 use Rattle.class_walk.proofs.column_at.Tie as tie
 
-shared-slice-read-result : tie.Need-shared-slice-read-result
-shared-slice-read-result c = search needs
+mul-line-column : tie.Need-mul-line-column
+mul-line-column c = search needs
+
+shared-slice-read-line-column : tie.Need-shared-slice-read-line-column
+shared-slice-read-line-column c = search needs
+
+line-column-requires : tie.Need-line-column-requires
+line-column-requires c κs = search needs
 
 cast-result : tie.Need-cast-result
-cast-result c = omega (arith, c .shared-slice-known .given (c .before .before .args .place))
+cast-result c = search needs
 
 returns : tie.Need-returns
-returns c = simp (lt-ltb _ _ (c .before .if1 .taken))
+returns c =
+    let a = c .before .before .before .before .before .args in
+    λ here w.
+    c .line-column .ensures here w ∙ sym (column-there (a .table .now) here (a .glyphs .now) (a .ends) (a .place) (c .before .before .if1 .taken))
 
 returns-2 : tie.Need-returns-2
-returns-2 c = simp (le-ltb _ _ (c .before .if1 .left), c .if2 .taken)
+returns-2 c =
+    let a = c .before .before .before .before .args in
+    λ here w. sym (column-end (a .table .now) here (a .glyphs .now) (a .ends) (a .place) (c .before .if1 .left) ∙ ap (λ (b : Bool). cond b 0 3) (c .if2 .taken))
 
 returns-3 : tie.Need-returns-3
-returns-3 c = simp (le-ltb _ _ (c .before .if1 .left), c .if2 .left)
+returns-3 c =
+    let a = c .before .before .before .before .args in
+    λ here w. sym (column-end (a .table .now) here (a .glyphs .now) (a .ends) (a .place) (c .before .if1 .left) ∙ ap (λ (b : Bool). cond b 0 3) (c .if2 .left))
 
 pub column-at-spec : {M : Type 1} → statement M
 column-at-spec =
-    tie.close (tie.spec shared-slice-read-result cast-result returns returns-2 returns-3)
+    tie.close
+    (tie.spec
+    mul-line-column
+    shared-slice-read-line-column
+    line-column-requires
+    cast-result
+    returns
+    returns-2
+    returns-3)

@@ -4,8 +4,11 @@ use borrow.Author.Needs.{needs}
 use Rattle.class_walk.proofs.give_class.Statement.{statement}
 use Rattle.class_walk.proofs.give_class.Tie as tie
 
-element-write-classes : tie.Need-element-write-classes
-element-write-classes c = search needs
+slice-write-classes : tie.Need-slice-write-classes
+slice-write-classes c = search needs
+
+same-length : tie.Need-same-length
+same-length c = search needs
 
 returns : tie.Need-returns
 returns c = simp (lt-ltb _ _ (c .before .if1 .taken), ne-eqb _ _ (c .if2 .taken))
@@ -17,4 +20,4 @@ returns-3 : tie.Need-returns-3
 returns-3 c = simp (le-ltb _ _ (c .if1 .left))
 
 pub give-class-spec : {M : Type 1} → statement M
-give-class-spec = tie.close (tie.spec element-write-classes returns returns-2 returns-3)
+give-class-spec = tie.close (tie.spec slice-write-classes same-length returns returns-2 returns-3)

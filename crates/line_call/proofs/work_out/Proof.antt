@@ -1,5 +1,4 @@
 -- `line_call::work_out` meets its contract.
-use native.Mathlib.Omega.{arith}
 use lib.ListN.{length}
 use mathlib.Core.Path.{sym, ap, _∙_}
 use Rattle.table.specs.Means.{meaningOf}
@@ -27,7 +26,7 @@ barred-requires c κs = search needs
 
 returns : tie.Need-returns
 returns c =
-    let a = c .before .before .before .before .before .before .before .before .before .args in
+    let a = c .before .before .before .before .before .before .before .before .before .before .before .before .before .args in
     let s = sideOf (a .shape .direction) (meaningOf (a .table .now) (a .count)) in
     let l = lineBy (a .shape) (a .sizes .now) (a .glyphs .now) (a .advances .now) in
     bad-advances s (a .count) l (c .barred .ensures) (gap-none l (as-read (a .shape .target) (c .before .before .before .before .struct-told .given .1 .1 .1 .0 .1)) (sym (c .before .before .before .gap-of .ensures) ∙ c .before .enum-told .given .1))
@@ -37,43 +36,19 @@ all-known-requires c κs = search needs
 
 line-walk-requires : tie.Need-line-walk-requires
 line-walk-requires c κs =
-    let a = c .before .before .before .before .before .before .before .before .before .before .before .args in
-    let p = c .before .before .before .before .before .before .before .before .before .before .before .pre in
-    ((p .0, p .1), known-each (a .count) (a .glyphs .now) (sym (c .before .all-known .ensures) ∙ c .if1 .taken))
-
-array-share-prefix-classes : tie.Need-array-share-prefix-classes
-array-share-prefix-classes c =
-    let a = c .before .before .before .before .before .before .before .before .before .before .before .before .before .before .args in
-    let s = sideOf (a .shape .direction) (meaningOf (a .table .now) (a .count)) in
-    let l = lineBy (a .shape) (a .sizes .now) (a .glyphs .now) (a .advances .now) in
-    let w = walk-ended (s .machine) l (c .before .before .line-walk .result) (c .before .before .line-walk .ensures) (c .before .if2 .taken) in
-    omega (arith, w .room (c .before .before .before .before .before .before .before .before .before .before .before .before .before .before .pre .1), c .before .before .before .before .before .before .before .before .before .before .before .before .before .before .pre .1)
-
-slice-aggregate-copy-classes : tie.Need-slice-aggregate-copy-classes
-slice-aggregate-copy-classes c =
-    let a = c .before .before .before .before .before .before .before .before .before .before .before .before .before .before .before .args in
-    let s = sideOf (a .shape .direction) (meaningOf (a .table .now) (a .count)) in
-    let l = lineBy (a .shape) (a .sizes .now) (a .glyphs .now) (a .advances .now) in
-    let w = walk-ended (s .machine) l (c .before .before .before .line-walk .result) (c .before .before .before .line-walk .ensures) (c .before .before .if2 .taken) in
-    sym (ap length (w .classes) ∙ w .each)
-
-copy-classes-requires : tie.Need-copy-classes-requires
-copy-classes-requires c κs =
     let a = c .before .before .before .before .before .before .before .before .before .before .before .before .before .before .before .before .args in
-    let s = sideOf (a .shape .direction) (meaningOf (a .table .now) (a .count)) in
-    let l = lineBy (a .shape) (a .sizes .now) (a .glyphs .now) (a .advances .now) in
-    let w = walk-ended (s .machine) l (c .before .before .before .before .line-walk .result) (c .before .before .before .before .line-walk .ensures) (c .before .before .before .if2 .taken) in
-    ap length (w .classes) ∙ w .each ∙ sym (c .before .before .before .before .before .before .before .before .before .before .before .before .before .before .before .before .pre .3 .classes)
+    let p = c .before .before .before .before .before .before .before .before .before .before .before .before .before .before .before .before .pre in
+    ((p .0 .0, p .0 .1), (known-each (a .count) (a .glyphs .now) (sym (c .before .before .all-known .ensures) ∙ c .before .if1 .taken), p .1 .classes))
 
 share-glyphs-requires : tie.Need-share-glyphs-requires
 share-glyphs-requires c κs =
-    let a = c .before .before .before .before .before .before .before .before .before .before .before .before .before .before .before .before .before .before .before .before .before .before .args in
+    let a = c .before .before .before .before .before .before .before .before .before .before .before .before .before .before .before .before .before .before .before .before .before .before .before .before .before .args in
     let s = sideOf (a .shape .direction) (meaningOf (a .table .now) (a .count)) in
     let l = lineBy (a .shape) (a .sizes .now) (a .glyphs .now) (a .advances .now) in
-    let p = c .before .before .before .before .before .before .before .before .before .before .before .before .before .before .before .before .before .before .before .before .before .before .pre in
-    let w = walk-ended (s .machine) l (c .before .before .before .before .before .before .before .before .before .before .line-walk .result) (c .before .before .before .before .before .before .before .before .before .before .line-walk .ensures) (c .before .before .before .before .before .before .before .before .before .if2 .taken) in
-    let g = gap-found l (as-read (a .shape .target) (c .before .before .before .before .before .before .before .before .before .before .before .before .before .before .before .before .before .struct-told .given .1 .1 .1 .0 .1)) (c .before .before .before .before .before .before .before .before .before .before .before .before .before .before .gap .given .0 .0) (sym (c .before .before .before .before .before .before .before .before .before .before .before .before .before .before .before .before .gap-of .ensures) ∙ c .before .before .before .before .before .before .before .before .before .before .before .before .before .before .gap .given .1) in
-    ((p .0, ap length (c .before .before .before .before .before .copy-classes .ensures ∙ w .classes) ∙ w .each, p .2), (p .3 .before, p .3 .after, p .1, g .small, p .4))
+    let p = c .before .before .before .before .before .before .before .before .before .before .before .before .before .before .before .before .before .before .before .before .before .before .before .before .before .pre in
+    let w = walk-ended (s .machine) l (c .before .before .before .before .before .before .before .before .line-walk .result) _ (c .before .before .before .before .before .before .before .before .line-walk .ensures) (c .before .before .before .before .before .if2 .taken) in
+    let g = gap-found l (as-read (a .shape .target) (c .before .before .before .before .before .before .before .before .before .before .before .before .before .before .before .before .struct-told .given .1 .1 .1 .0 .1)) (c .before .before .before .before .before .before .before .before .before .before .before .before .before .gap .given .0 .0) (sym (c .before .before .before .before .before .before .before .before .before .before .before .before .before .before .before .gap-of .ensures) ∙ c .before .before .before .before .before .before .before .before .before .before .before .before .before .gap .given .1) in
+    ((p .0 .0, ap length (w .classes) ∙ w .each, p .0 .2), ((p .1 .first, p .1 .second), (p .1 .before, p .1 .after, p .0 .1, g .small, p .0 .3)))
 
 enum-known-shared : tie.Need-enum-known-shared
 enum-known-shared c = search needs
@@ -93,66 +68,84 @@ same-length-2 c = search needs
 same-length-3 : tie.Need-same-length-3
 same-length-3 c = search needs
 
-returns-2 : tie.Need-returns-2
-returns-2 c =
-    let a = c .before .before .before .before .before .before .before .before .before .before .before .before .before .before .before .before .before .before .before .before .before .before .before .before .before .before .before .before .args in
-    let s = sideOf (a .shape .direction) (meaningOf (a .table .now) (a .count)) in
-    let l = lineBy (a .shape) (a .sizes .now) (a .glyphs .now) (a .advances .now) in
-    let w = walk-ended (s .machine) l (c .before .before .before .before .before .before .before .before .before .before .before .before .before .before .before .before .line-walk .result) (c .before .before .before .before .before .before .before .before .before .before .before .before .before .before .before .before .line-walk .ensures) (c .before .before .before .before .before .before .before .before .before .before .before .before .before .before .before .if2 .taken) in
-    let g = gap-found l (as-read (a .shape .target) (c .before .before .before .before .before .before .before .before .before .before .before .before .before .before .before .before .before .before .before .before .before .before .before .struct-told .given .1 .1 .1 .0 .1)) (c .before .before .before .before .before .before .before .before .before .before .before .before .before .before .before .before .before .before .before .before .gap .given .0 .0) (sym (c .before .before .before .before .before .before .before .before .before .before .before .before .before .before .before .before .before .before .before .before .before .before .gap-of .ensures) ∙ c .before .before .before .before .before .before .before .before .before .before .before .before .before .before .before .before .before .before .before .before .gap .given .1) in
-    let k = sym (c .before .before .before .before .before .before .before .before .before .before .before .before .before .before .before .before .before .before .all-known .ensures) ∙ c .before .before .before .before .before .before .before .before .before .before .before .before .before .before .before .before .before .if1 .taken in
-    work-over s (a .count) l g k (w .stops) (c .before .before .before .before .before .before .before .before .before .before .before .copy-classes .ensures ∙ w .classes) (c .before .before .before .before .before .share-glyphs .ensures) (c .barred2 .ensures) (c .before .enum-told2 .given .1)
-
-cast-remainder : tie.Need-cast-remainder
-cast-remainder c =
-    let a = c .before .before .before .before .before .before .before .before .before .before .before .before .before .before .before .before .before .before .before .before .before .before .before .before .before .before .before .before .before .before .args in
-    let s = sideOf (a .shape .direction) (meaningOf (a .table .now) (a .count)) in
-    let l = lineBy (a .shape) (a .sizes .now) (a .glyphs .now) (a .advances .now) in
-    let w = walk-ended (s .machine) l (c .before .before .before .before .before .before .before .before .before .before .before .before .before .before .before .before .before .before .line-walk .result) (c .before .before .before .before .before .before .before .before .before .before .before .before .before .before .before .before .before .before .line-walk .ensures) (c .before .before .before .before .before .before .before .before .before .before .before .before .before .before .before .before .before .if2 .taken) in
-    let g = gap-found l (as-read (a .shape .target) (c .before .before .before .before .before .before .before .before .before .before .before .before .before .before .before .before .before .before .before .before .before .before .before .before .before .struct-told .given .1 .1 .1 .0 .1)) (c .before .before .before .before .before .before .before .before .before .before .before .before .before .before .before .before .before .before .before .before .before .before .gap .given .0 .0) (sym (c .before .before .before .before .before .before .before .before .before .before .before .before .before .before .before .before .before .before .before .before .before .before .before .before .gap-of .ensures) ∙ c .before .before .before .before .before .before .before .before .before .before .before .before .before .before .before .before .before .before .before .before .before .before .gap .given .1) in
-    let k = sym (c .before .before .before .before .before .before .before .before .before .before .before .before .before .before .before .before .before .before .before .before .all-known .ensures) ∙ c .before .before .before .before .before .before .before .before .before .before .before .before .before .before .before .before .before .before .before .if1 .taken in
-    narrow-fits s (a .count) l g k (w .stops) (c .before .before .before .before .before .before .before .before .before .before .before .before .before .copy-classes .ensures ∙ w .classes) (c .before .before .before .before .before .before .before .share-glyphs .ensures) (c .before .before .before .shared .given .0 .0) (c .before .before .before .shared .given .1)
-
 same-length-4 : tie.Need-same-length-4
 same-length-4 c = search needs
 
 same-length-5 : tie.Need-same-length-5
 same-length-5 c = search needs
 
+returns-2 : tie.Need-returns-2
+returns-2 c =
+    let a = c .before .before .before .before .before .before .before .before .before .before .before .before .before .before .before .before .before .before .before .before .before .before .before .before .before .before .before .before .before .before .before .before .before .before .before .before .before .args in
+    let s = sideOf (a .shape .direction) (meaningOf (a .table .now) (a .count)) in
+    let l = lineBy (a .shape) (a .sizes .now) (a .glyphs .now) (a .advances .now) in
+    let w = walk-ended (s .machine) l (c .before .before .before .before .before .before .before .before .before .before .before .before .before .before .before .before .before .before .before .before .line-walk .result) _ (c .before .before .before .before .before .before .before .before .before .before .before .before .before .before .before .before .before .before .before .before .line-walk .ensures) (c .before .before .before .before .before .before .before .before .before .before .before .before .before .before .before .before .before .if2 .taken) in
+    let g = gap-found l (as-read (a .shape .target) (c .before .before .before .before .before .before .before .before .before .before .before .before .before .before .before .before .before .before .before .before .before .before .before .before .before .before .before .before .struct-told .given .1 .1 .1 .0 .1)) (c .before .before .before .before .before .before .before .before .before .before .before .before .before .before .before .before .before .before .before .before .before .before .before .before .before .gap .given .0 .0) (sym (c .before .before .before .before .before .before .before .before .before .before .before .before .before .before .before .before .before .before .before .before .before .before .before .before .before .before .before .gap-of .ensures) ∙ c .before .before .before .before .before .before .before .before .before .before .before .before .before .before .before .before .before .before .before .before .before .before .before .before .before .gap .given .1) in
+    let k = sym (c .before .before .before .before .before .before .before .before .before .before .before .before .before .before .before .before .before .before .before .before .before .before .before .all-known .ensures) ∙ c .before .before .before .before .before .before .before .before .before .before .before .before .before .before .before .before .before .before .before .before .before .before .if1 .taken in
+    work-over s (a .count) l g k (w .stops) (w .classes) (c .before .before .before .before .before .before .before .before .before .before .before .share-glyphs .ensures) (c .barred2 .ensures) (c .before .enum-told2 .given .1)
+
+cast-remainder : tie.Need-cast-remainder
+cast-remainder c =
+    let a = c .before .before .before .before .before .before .before .before .before .before .before .before .before .before .before .before .before .before .before .before .before .before .before .before .before .before .before .before .before .before .before .before .before .before .before .before .before .before .before .args in
+    let s = sideOf (a .shape .direction) (meaningOf (a .table .now) (a .count)) in
+    let l = lineBy (a .shape) (a .sizes .now) (a .glyphs .now) (a .advances .now) in
+    let w = walk-ended (s .machine) l (c .before .before .before .before .before .before .before .before .before .before .before .before .before .before .before .before .before .before .before .before .before .before .line-walk .result) _ (c .before .before .before .before .before .before .before .before .before .before .before .before .before .before .before .before .before .before .before .before .before .before .line-walk .ensures) (c .before .before .before .before .before .before .before .before .before .before .before .before .before .before .before .before .before .before .before .if2 .taken) in
+    let g = gap-found l (as-read (a .shape .target) (c .before .before .before .before .before .before .before .before .before .before .before .before .before .before .before .before .before .before .before .before .before .before .before .before .before .before .before .before .before .before .struct-told .given .1 .1 .1 .0 .1)) (c .before .before .before .before .before .before .before .before .before .before .before .before .before .before .before .before .before .before .before .before .before .before .before .before .before .before .before .gap .given .0 .0) (sym (c .before .before .before .before .before .before .before .before .before .before .before .before .before .before .before .before .before .before .before .before .before .before .before .before .before .before .before .before .before .gap-of .ensures) ∙ c .before .before .before .before .before .before .before .before .before .before .before .before .before .before .before .before .before .before .before .before .before .before .before .before .before .before .before .gap .given .1) in
+    let k = sym (c .before .before .before .before .before .before .before .before .before .before .before .before .before .before .before .before .before .before .before .before .before .before .before .before .before .all-known .ensures) ∙ c .before .before .before .before .before .before .before .before .before .before .before .before .before .before .before .before .before .before .before .before .before .before .before .before .if1 .taken in
+    narrow-fits s (a .count) l g k (w .stops) (w .classes) (c .before .before .before .before .before .before .before .before .before .before .before .before .before .share-glyphs .ensures) (c .before .before .before .shared .given .0 .0) (c .before .before .before .shared .given .1)
+
+shrinks-requires : tie.Need-shrinks-requires
+shrinks-requires c κs = search needs
+
 same-length-6 : tie.Need-same-length-6
 same-length-6 c = search needs
 
+same-length-7 : tie.Need-same-length-7
+same-length-7 c = search needs
+
+same-length-8 : tie.Need-same-length-8
+same-length-8 c = search needs
+
+same-length-9 : tie.Need-same-length-9
+same-length-9 c = search needs
+
+same-length-10 : tie.Need-same-length-10
+same-length-10 c = search needs
+
 returns-3 : tie.Need-returns-3
 returns-3 c =
-    let a = c .before .before .before .before .before .before .before .before .before .before .before .before .before .before .before .before .before .before .before .before .before .before .before .before .before .before .before .before .before .before .args in
+    let a = c .before .before .before .before .before .before .before .before .before .before .before .before .before .before .before .before .before .before .before .before .before .before .before .before .before .before .before .before .before .before .before .before .before .before .before .before .before .before .before .before .args in
     let s = sideOf (a .shape .direction) (meaningOf (a .table .now) (a .count)) in
     let l = lineBy (a .shape) (a .sizes .now) (a .glyphs .now) (a .advances .now) in
-    let w = walk-ended (s .machine) l (c .before .before .before .before .before .before .before .before .before .before .before .before .before .before .before .before .before .before .line-walk .result) (c .before .before .before .before .before .before .before .before .before .before .before .before .before .before .before .before .before .before .line-walk .ensures) (c .before .before .before .before .before .before .before .before .before .before .before .before .before .before .before .before .before .if2 .taken) in
-    let g = gap-found l (as-read (a .shape .target) (c .before .before .before .before .before .before .before .before .before .before .before .before .before .before .before .before .before .before .before .before .before .before .before .before .before .struct-told .given .1 .1 .1 .0 .1)) (c .before .before .before .before .before .before .before .before .before .before .before .before .before .before .before .before .before .before .before .before .before .before .gap .given .0 .0) (sym (c .before .before .before .before .before .before .before .before .before .before .before .before .before .before .before .before .before .before .before .before .before .before .before .before .gap-of .ensures) ∙ c .before .before .before .before .before .before .before .before .before .before .before .before .before .before .before .before .before .before .before .before .before .before .gap .given .1) in
-    let k = sym (c .before .before .before .before .before .before .before .before .before .before .before .before .before .before .before .before .before .before .before .before .all-known .ensures) ∙ c .before .before .before .before .before .before .before .before .before .before .before .before .before .before .before .before .before .before .before .if1 .taken in
-    let eh = c .before .before .before .before .before .before .before .before .before .before .before .before .before .copy-classes .ensures ∙ w .classes in
-    let o = c .before .before .before .before .before .before .before .share-glyphs .ensures in
-    let u = c .before .before .before .shared .given .0 .0 in
-    let e = c .before .before .before .shared .given .1 in
-    work-done s (a .count) l g k (w .stops) eh o u e (narrowed s (a .count) l g k (w .stops) eh o u e) (w .count)
+    let w = walk-ended (s .machine) l (c .before .before .before .before .before .before .before .before .before .before .before .before .before .before .before .before .before .before .before .before .before .before .before .line-walk .result) _ (c .before .before .before .before .before .before .before .before .before .before .before .before .before .before .before .before .before .before .before .before .before .before .before .line-walk .ensures) (c .before .before .before .before .before .before .before .before .before .before .before .before .before .before .before .before .before .before .before .before .if2 .taken) in
+    let g = gap-found l (as-read (a .shape .target) (c .before .before .before .before .before .before .before .before .before .before .before .before .before .before .before .before .before .before .before .before .before .before .before .before .before .before .before .before .before .before .before .struct-told .given .1 .1 .1 .0 .1)) (c .before .before .before .before .before .before .before .before .before .before .before .before .before .before .before .before .before .before .before .before .before .before .before .before .before .before .before .before .gap .given .0 .0) (sym (c .before .before .before .before .before .before .before .before .before .before .before .before .before .before .before .before .before .before .before .before .before .before .before .before .before .before .before .before .before .before .gap-of .ensures) ∙ c .before .before .before .before .before .before .before .before .before .before .before .before .before .before .before .before .before .before .before .before .before .before .before .before .before .before .before .before .gap .given .1) in
+    let k = sym (c .before .before .before .before .before .before .before .before .before .before .before .before .before .before .before .before .before .before .before .before .before .before .before .before .before .before .all-known .ensures) ∙ c .before .before .before .before .before .before .before .before .before .before .before .before .before .before .before .before .before .before .before .before .before .before .before .before .before .if1 .taken in
+    let o = c .before .before .before .before .before .before .before .before .before .before .before .before .before .before .share-glyphs .ensures in
+    let u = c .before .before .before .before .shared .given .0 .0 in
+    let e = c .before .before .before .before .shared .given .1 in
+    work-done s (a .count) l g k (w .stops) (w .classes) o u e (c .shrinks .ensures) (narrowed s (a .count) l g k (w .stops) (w .classes) o u e) (w .count)
 
 barred-requires-3 : tie.Need-barred-requires-3
 barred-requires-3 c κs = search needs
 
+same-length-11 : tie.Need-same-length-11
+same-length-11 c = search needs
+
 returns-4 : tie.Need-returns-4
 returns-4 c =
-    let a = c .before .before .before .before .before .before .before .before .before .before .before .before .before .before .args in
+    let a = c .before .before .before .before .before .before .before .before .before .before .before .before .before .before .before .before .before .before .before .before .before .args in
     let s = sideOf (a .shape .direction) (meaningOf (a .table .now) (a .count)) in
     let l = lineBy (a .shape) (a .sizes .now) (a .glyphs .now) (a .advances .now) in
-    let g = gap-found l (as-read (a .shape .target) (c .before .before .before .before .before .before .before .before .before .struct-told .given .1 .1 .1 .0 .1)) (c .before .before .before .before .before .before .gap .given .0 .0) (sym (c .before .before .before .before .before .before .before .before .gap-of .ensures) ∙ c .before .before .before .before .before .before .gap .given .1) in
-    bad-walk s (a .count) l (g .good) (sym (c .before .before .before .before .all-known .ensures) ∙ c .before .before .before .if1 .taken) (c .barred3 .ensures) (walk-endless (s .machine) l (c .before .before .line-walk .result) (c .before .before .line-walk .ensures) (c .before .if2 .left))
+    let g = gap-found l (as-read (a .shape .target) (c .before .before .before .before .before .before .before .before .before .before .before .before .struct-told .given .1 .1 .1 .0 .1)) (c .before .before .before .before .before .before .before .before .before .gap .given .0 .0) (sym (c .before .before .before .before .before .before .before .before .before .before .before .gap-of .ensures) ∙ c .before .before .before .before .before .before .before .before .before .gap .given .1) in
+    let k = sym (c .before .before .before .before .before .before .before .all-known .ensures) ∙ c .before .before .before .before .before .before .if1 .taken in
+    bad-walk s (a .count) l (g .good) k (c .barred3 .ensures) (walk-endless (s .machine) l (c .before .before .before .before .line-walk .result) _ (c .before .before .before .before .line-walk .ensures) (c .before .if2 .left))
 
 barred-requires-4 : tie.Need-barred-requires-4
 barred-requires-4 c κs = search needs
 
 returns-5 : tie.Need-returns-5
 returns-5 c =
-    let a = c .before .before .before .before .before .before .before .before .before .before .before .before .args in
+    let a = c .before .before .before .before .before .before .before .before .before .before .before .before .before .before .before .before .args in
     let s = sideOf (a .shape .direction) (meaningOf (a .table .now) (a .count)) in
     let l = lineBy (a .shape) (a .sizes .now) (a .glyphs .now) (a .advances .now) in
     let g = gap-found l (as-read (a .shape .target) (c .before .before .before .before .before .before .before .struct-told .given .1 .1 .1 .0 .1)) (c .before .before .before .before .gap .given .0 .0) (sym (c .before .before .before .before .before .before .gap-of .ensures) ∙ c .before .before .before .before .gap .given .1) in
@@ -169,9 +162,6 @@ work-out-spec =
     returns
     all-known-requires
     line-walk-requires
-    array-share-prefix-classes
-    slice-aggregate-copy-classes
-    copy-classes-requires
     share-glyphs-requires
     enum-known-shared
     enum-told-2
@@ -179,13 +169,19 @@ work-out-spec =
     same-length
     same-length-2
     same-length-3
-    returns-2
-    cast-remainder
     same-length-4
     same-length-5
+    returns-2
+    cast-remainder
+    shrinks-requires
     same-length-6
+    same-length-7
+    same-length-8
+    same-length-9
+    same-length-10
     returns-3
     barred-requires-3
+    same-length-11
     returns-4
     barred-requires-4
     returns-5)

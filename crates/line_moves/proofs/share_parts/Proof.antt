@@ -1,15 +1,18 @@
 -- `line_moves::share_parts` meets its contract.
+use Prim.Native.Nat.{ℕ}
 use native.Mathlib.Omega.{arith}
 use mathlib.Core.List.{List}
 use mathlib.Core.Path.{refl, sym, ap, _∙_}
 use lib.IntN.{natAbs}
+use lib.ListN.{replicate}
 use Rattle.share.specs.Line.{Glyph, lineLeft, signedOf}
+use Rattle.share.proofs.Signs.{wide-fits, widened}
 use Rattle.share.proofs.Sums.{totals-line}
 use Rattle.table.specs.Means.{meaningOf}
 use Rattle.meaning.specs.Ask.{sideOf}
 use Rattle.line_rule.specs.Line.{goesBack, partsOf}
 use Rattle.line_moves.proofs.Parts.{parts-length, parts-narrow, record-limits}
-use Rattle.line_moves.proofs.Sharing.{laid-lent, laid-parts, laid-priorities, laid-glyphs, laid-fits, left-small, shared-left, shared-over, by-sign, wide-fits, widened}
+use Rattle.line_moves.proofs.Sharing.{laid-lent, laid-parts, laid-priorities, laid-glyphs, laid-fits, left-small, shared-left, shared-over, by-sign}
 use borrow.Author.Needs.{needs}
 use Rattle.line_moves.proofs.share_parts.Statement.{statement}
 use Rattle.line_moves.proofs.share_parts.Tie as tie
@@ -22,13 +25,13 @@ lay-parts-requires c κs = search needs
 
 line-totals-requires : tie.Need-line-totals-requires
 line-totals-requires c κs =
-    let a = c .before .before .before .before .before .before .before .before .before .before .before .before .before .before .before .before .before .before .before .before .before .before .before .before .before .args in
-    let p = c .before .before .before .before .before .before .before .before .before .before .before .before .before .before .before .before .before .before .before .before .before .before .before .before .before .pre in
+    let a = c .before .before .before .before .before .before .before .before .before .before .before .before .before .before .before .before .before .before .before .before .before .before .before .before .before .before .before .args in
+    let p = c .before .before .before .before .before .before .before .before .before .before .before .before .before .before .before .before .before .before .before .before .before .before .before .before .before .before .before .pre in
     let k = c .before .before .before .before .before .before .before .before .before .before .before .before .before .before .before .before .shrinks .result in
     let w = c .before .before .before .before .before .before .before .before .before .before .before .lay-parts .ensures in
     let s = sideOf (a .shape .direction) (meaningOf (a .table .now) (a .count)) in
     let q = parts-length s k (a .sizes .now) (a .glyphs .now) (a .classes .now) (p .0 .2) (p .0 .1) in
-    let nn = parts-narrow s k (record-limits (a .table .now) (a .count) (a .shape .direction) (λ i. c .before .before .before .before .before .before .before .before .before .before .before .before .before .before .before .before .before .before .before .before .before .before .before .before .shared-slice-known .given i .fits) (p .0 .0)) (a .sizes .now) (p .1 .1 .4) (a .glyphs .now) (a .classes .now) in
+    let nn = parts-narrow s k (record-limits (a .table .now) (a .count) (a .shape .direction) (λ i. c .before .before .before .before .before .before .before .before .before .before .before .before .before .before .before .before .before .before .before .before .before .before .before .before .before .before .shared-slice-known .given i .fits) (p .0 .0)) (a .sizes .now) (p .1 .1 .4) (a .glyphs .now) (a .classes .now) in
     let m = laid-priorities w in
     (laid-parts w nn, omega (arith, p .1 .1 .2))
 
@@ -39,28 +42,29 @@ goes-back-requires : tie.Need-goes-back-requires
 goes-back-requires c κs = search needs
 
 size-of-requires : tie.Need-size-of-requires
-size-of-requires c κs = c .before .before .before .before .before .before .before .before .before .before .before .before .before .before .before .before .before .before .before .before .before .before .before .before .before .before .before .before .before .pre .1 .1 .3
+size-of-requires c κs = c .before .before .before .before .before .before .before .before .before .before .before .before .before .before .before .before .before .before .before .before .before .before .before .before .before .before .before .before .before .before .before .pre .1 .1 .3
 
 share-line-requires : tie.Need-share-line-requires
 share-line-requires c κs =
-    let a = c .before .before .before .before .before .before .before .before .before .before .before .before .before .before .before .before .before .before .before .before .before .before .before .before .before .before .before .before .before .before .before .before .before .before .before .before .args in
-    let p = c .before .before .before .before .before .before .before .before .before .before .before .before .before .before .before .before .before .before .before .before .before .before .before .before .before .before .before .before .before .before .before .before .before .before .before .before .pre in
+    let a = c .before .before .before .before .before .before .before .before .before .before .before .before .before .before .before .before .before .before .before .before .before .before .before .before .before .before .before .before .before .before .before .before .before .before .before .before .before .before .args in
+    let p = c .before .before .before .before .before .before .before .before .before .before .before .before .before .before .before .before .before .before .before .before .before .before .before .before .before .before .before .before .before .before .before .before .before .before .before .before .before .before .pre in
     let k = c .before .before .before .before .before .before .before .before .before .before .before .before .before .before .before .before .before .before .before .before .before .before .before .before .before .before .before .shrinks .result in
     let w = c .before .before .before .before .before .before .before .before .before .before .before .before .before .before .before .before .before .before .before .before .before .before .lay-parts .ensures in
     let s = sideOf (a .shape .direction) (meaningOf (a .table .now) (a .count)) in
     let q = parts-length s k (a .sizes .now) (a .glyphs .now) (a .classes .now) (p .0 .2) (p .0 .1) in
-    let nn = parts-narrow s k (record-limits (a .table .now) (a .count) (a .shape .direction) (λ i. c .before .before .before .before .before .before .before .before .before .before .before .before .before .before .before .before .before .before .before .before .before .before .before .before .before .before .before .before .before .before .before .before .before .before .before .shared-slice-known .given i .fits) (p .0 .0)) (a .sizes .now) (p .1 .1 .4) (a .glyphs .now) (a .classes .now) in
+    let nn = parts-narrow s k (record-limits (a .table .now) (a .count) (a .shape .direction) (λ i. c .before .before .before .before .before .before .before .before .before .before .before .before .before .before .before .before .before .before .before .before .before .before .before .before .before .before .before .before .before .before .before .before .before .before .before .before .before .shared-slice-known .given i .fits) (p .0 .0)) (a .sizes .now) (p .1 .1 .4) (a .glyphs .now) (a .classes .now) in
     let m = laid-priorities w in
     let l = laid-lent w (omega (arith, p .1 .1 .2)) nn in
-    (l, ((omega (arith, p .1 .1 .0), omega (arith, p .1 .1 .1)), (omega (arith, c .before .before .before .before .before .before .size-of .ensures, p .1 .1 .3), c .before .before .before .before .before .before .before .before .before .before .line-totals .ensures, sym (c .before .before .before .before .before .before .before .before .before .totals-fit .ensures ∙ totals-line (c .before .before .before .before .before .before .before .before .before .before .line-totals .ensures) l) ∙ c .before .before .before .before .before .before .before .before .if1 .taken)))
+    let z = ap (λ (k : ℕ). replicate {A = ℕ} k 0) (sym (m ∙ q)) in
+    (l, ((p .1 .1 .0 ∙ z, p .1 .1 .1 ∙ z), (omega (arith, c .before .before .before .before .before .before .size-of .ensures, p .1 .1 .3), c .before .before .before .before .before .before .before .before .before .before .line-totals .ensures, sym (c .before .before .before .before .before .before .before .before .before .totals-fit .ensures ∙ totals-line (c .before .before .before .before .before .before .before .before .before .before .line-totals .ensures) l) ∙ c .before .before .before .before .before .before .before .before .if1 .taken)))
 
 signed-requires : tie.Need-signed-requires
 signed-requires c κs =
-    let a = c .before .before .before .before .before .before .before .before .before .before .before .before .before .before .before .before .before .before .before .before .before .before .before .before .before .before .before .before .before .before .before .before .before .before .before .before .before .before .before .args in
-    let n = c .before .before .before .before .before .before .before .before .before .size-of .result in
-    let back = c .before .before .before .before .before .before .before .before .before .before .goes-back .result in
-    let e = c .before .before .share-line .ensures .0 ∙ ap (λ (x : List Glyph). lineLeft back x n) (laid-glyphs (c .before .before .before .before .before .before .before .before .before .before .before .before .before .before .before .before .before .before .before .before .before .before .before .before .before .lay-parts .ensures)) in
-    omega (arith, c .before .before .before .before .before .before .before .before .before .size-of .ensures, c .before .before .before .before .before .before .before .before .before .before .before .before .before .before .before .before .before .before .before .before .before .before .before .before .before .before .before .before .before .before .before .before .before .before .before .before .before .before .before .pre .1 .1 .3, left-small back (partsOf (sideOf (a .shape .direction) (meaningOf (a .table .now) (a .count))) (c .before .before .before .before .before .before .before .before .before .before .before .before .before .before .before .before .before .before .before .before .before .before .before .before .before .before .before .before .before .before .shrinks .result) (a .sizes .now) (a .glyphs .now) (a .classes .now)) n)
+    let a = c .before .before .before .before .before .before .before .before .before .before .before .before .before .before .before .before .before .before .before .before .before .before .before .before .before .before .before .before .before .before .before .before .before .before .before .before .before .before .before .before .before .before .before .args in
+    let n = c .before .before .before .before .before .before .before .before .before .before .before .size-of .result in
+    let back = c .before .before .before .before .before .before .before .before .before .before .before .before .goes-back .result in
+    let e = c .before .before .before .before .share-line .ensures .0 ∙ ap (λ (x : List Glyph). lineLeft back x n) (laid-glyphs (c .before .before .before .before .before .before .before .before .before .before .before .before .before .before .before .before .before .before .before .before .before .before .before .before .before .before .before .lay-parts .ensures)) in
+    omega (arith, c .before .before .before .before .before .before .before .before .before .before .before .size-of .ensures, c .before .before .before .before .before .before .before .before .before .before .before .before .before .before .before .before .before .before .before .before .before .before .before .before .before .before .before .before .before .before .before .before .before .before .before .before .before .before .before .before .before .before .before .pre .1 .1 .3, left-small back (partsOf (sideOf (a .shape .direction) (meaningOf (a .table .now) (a .count))) (c .before .before .before .before .before .before .before .before .before .before .before .before .before .before .before .before .before .before .before .before .before .before .before .before .before .before .before .before .before .before .before .before .shrinks .result) (a .sizes .now) (a .glyphs .now) (a .classes .now)) n)
 
 cast-remainder : tie.Need-cast-remainder
 cast-remainder c = wide-fits (c .signed .result) (record { sfits = c .signed .ok })
@@ -85,18 +89,18 @@ same-length-6 c = search needs
 
 returns : tie.Need-returns
 returns c =
-    let a = c .before .before .before .before .before .before .before .before .before .before .before .before .before .before .before .before .before .before .before .before .before .before .before .before .before .before .before .before .before .before .before .before .before .before .before .before .before .before .before .before .args in
-    let p = c .before .before .before .before .before .before .before .before .before .before .before .before .before .before .before .before .before .before .before .before .before .before .before .before .before .before .before .before .before .before .before .before .before .before .before .before .before .before .before .before .pre in
-    let k = c .before .before .before .before .before .before .before .before .before .before .before .before .before .before .before .before .before .before .before .before .before .before .before .before .before .before .before .before .before .before .before .shrinks .result in
-    let w = c .before .before .before .before .before .before .before .before .before .before .before .before .before .before .before .before .before .before .before .before .before .before .before .before .before .before .lay-parts .ensures in
+    let a = c .before .before .before .before .before .before .before .before .before .before .before .before .before .before .before .before .before .before .before .before .before .before .before .before .before .before .before .before .before .before .before .before .before .before .before .before .before .before .before .before .before .before .before .before .args in
+    let p = c .before .before .before .before .before .before .before .before .before .before .before .before .before .before .before .before .before .before .before .before .before .before .before .before .before .before .before .before .before .before .before .before .before .before .before .before .before .before .before .before .before .before .before .before .pre in
+    let k = c .before .before .before .before .before .before .before .before .before .before .before .before .before .before .before .before .before .before .before .before .before .before .before .before .before .before .before .before .before .before .before .before .before .shrinks .result in
+    let w = c .before .before .before .before .before .before .before .before .before .before .before .before .before .before .before .before .before .before .before .before .before .before .before .before .before .before .before .before .lay-parts .ensures in
     let s = sideOf (a .shape .direction) (meaningOf (a .table .now) (a .count)) in
     let q = parts-length s k (a .sizes .now) (a .glyphs .now) (a .classes .now) (p .0 .2) (p .0 .1) in
-    let nn = parts-narrow s k (record-limits (a .table .now) (a .count) (a .shape .direction) (λ i. c .before .before .before .before .before .before .before .before .before .before .before .before .before .before .before .before .before .before .before .before .before .before .before .before .before .before .before .before .before .before .before .before .before .before .before .before .before .before .before .shared-slice-known .given i .fits) (p .0 .0)) (a .sizes .now) (p .1 .1 .4) (a .glyphs .now) (a .classes .now) in
+    let nn = parts-narrow s k (record-limits (a .table .now) (a .count) (a .shape .direction) (λ i. c .before .before .before .before .before .before .before .before .before .before .before .before .before .before .before .before .before .before .before .before .before .before .before .before .before .before .before .before .before .before .before .before .before .before .before .before .before .before .before .before .before .before .before .shared-slice-known .given i .fits) (p .0 .0)) (a .sizes .now) (p .1 .1 .4) (a .glyphs .now) (a .classes .now) in
     let m = laid-priorities w in
     let l = laid-lent w (omega (arith, p .1 .1 .2)) nn in
-    let e = c .before .before .before .share-line .ensures in
-    by-sign (a .gap .0) (a .shape .edition) s (a .sizes .now) (a .glyphs .now) (a .classes .now) (c .before .before .before .before .before .before .before .before .before .before .before .before .before .before .before .before .before .before .before .before .before .before .before .before .before .before .before .before .before .before .before .shrinks .ensures) (c .before .before .before .before .before .before .before .before .before .before .before .goes-back .ensures) (c .before .before .before .before .before .before .before .before .before .before .size-of .ensures)
-    (shared-left k (c .before .before .before .before .before .before .before .before .before .before .before .goes-back .result) (c .before .before .before .before .before .before .before .before .before .before .size-of .result) _ _ (laid-glyphs w) (a .before .now) (a .after .now) (laid-fits w (c .before .before .before .before .before .before .before .before .before .before .before .before .before .totals-fit .ensures ∙ totals-line (c .before .before .before .before .before .before .before .before .before .before .before .before .before .before .line-totals .ensures) l) ∙ c .before .before .before .before .before .before .before .before .before .before .before .before .if1 .taken)
+    let e = c .before .before .before .before .before .share-line .ensures in
+    by-sign (a .gap .0) (a .shape .edition) s (a .sizes .now) (a .glyphs .now) (a .classes .now) (c .before .before .before .before .before .before .before .before .before .before .before .before .before .before .before .before .before .before .before .before .before .before .before .before .before .before .before .before .before .before .before .before .before .shrinks .ensures) (c .before .before .before .before .before .before .before .before .before .before .before .before .before .goes-back .ensures) (c .before .before .before .before .before .before .before .before .before .before .before .before .size-of .ensures)
+    (shared-left k (c .before .before .before .before .before .before .before .before .before .before .before .before .before .goes-back .result) (c .before .before .before .before .before .before .before .before .before .before .before .before .size-of .result) _ _ (laid-glyphs w) (a .before .now) (a .after .now) (laid-fits w (c .before .before .before .before .before .before .before .before .before .before .before .before .before .before .before .totals-fit .ensures ∙ totals-line (c .before .before .before .before .before .before .before .before .before .before .before .before .before .before .before .before .line-totals .ensures) l) ∙ c .before .before .before .before .before .before .before .before .before .before .before .before .before .before .if1 .taken)
     (widened (c .signed .result) (record { sfits = c .signed .ok }) ∙ c .signed .ensures ∙ ap (signedOf k) (e .0)) (e .1 .0) (e .1 .1))
 
 same-length-7 : tie.Need-same-length-7
@@ -113,13 +117,13 @@ same-length-10 c = search needs
 
 returns-2 : tie.Need-returns-2
 returns-2 c =
-    let a = c .before .before .before .before .before .before .before .before .before .before .before .before .before .before .before .before .before .before .before .before .before .before .before .before .before .before .before .before .args in
-    let p = c .before .before .before .before .before .before .before .before .before .before .before .before .before .before .before .before .before .before .before .before .before .before .before .before .before .before .before .before .pre in
+    let a = c .before .before .before .before .before .before .before .before .before .before .before .before .before .before .before .before .before .before .before .before .before .before .before .before .before .before .before .before .before .before .args in
+    let p = c .before .before .before .before .before .before .before .before .before .before .before .before .before .before .before .before .before .before .before .before .before .before .before .before .before .before .before .before .before .before .pre in
     let k = c .before .before .before .before .before .before .before .before .before .before .before .before .before .before .before .before .before .before .before .shrinks .result in
     let w = c .before .before .before .before .before .before .before .before .before .before .before .before .before .before .lay-parts .ensures in
     let s = sideOf (a .shape .direction) (meaningOf (a .table .now) (a .count)) in
     let q = parts-length s k (a .sizes .now) (a .glyphs .now) (a .classes .now) (p .0 .2) (p .0 .1) in
-    let nn = parts-narrow s k (record-limits (a .table .now) (a .count) (a .shape .direction) (λ i. c .before .before .before .before .before .before .before .before .before .before .before .before .before .before .before .before .before .before .before .before .before .before .before .before .before .before .before .shared-slice-known .given i .fits) (p .0 .0)) (a .sizes .now) (p .1 .1 .4) (a .glyphs .now) (a .classes .now) in
+    let nn = parts-narrow s k (record-limits (a .table .now) (a .count) (a .shape .direction) (λ i. c .before .before .before .before .before .before .before .before .before .before .before .before .before .before .before .before .before .before .before .before .before .before .before .before .before .before .before .before .before .shared-slice-known .given i .fits) (p .0 .0)) (a .sizes .now) (p .1 .1 .4) (a .glyphs .now) (a .classes .now) in
     let m = laid-priorities w in
     let l = laid-lent w (omega (arith, p .1 .1 .2)) nn in
     by-sign (a .gap .0) (a .shape .edition) s (a .sizes .now) (a .glyphs .now) (a .classes .now) (c .before .before .before .before .before .before .before .before .before .before .before .before .before .before .before .before .before .before .before .shrinks .ensures) refl refl

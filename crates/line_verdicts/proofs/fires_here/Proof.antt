@@ -1,6 +1,6 @@
 -- `line_verdicts::fires_here` meets its contract.
 use mathlib.Core.Path.{sym, ap, _∙_}
-use Rattle.line_verdicts.specs.Cursor.{firesNumber}
+use Rattle.line_verdicts.specs.Bits.{firesNumber}
 use Rattle.line_verdicts.proofs.Laws.{other-class, own-class}
 use borrow.Author.Needs.{needs}
 use Rattle.line_verdicts.proofs.fires_here.Statement.{statement}

@@ -1,9 +1,9 @@
 -- `line_verdicts::own_fires` meets its contract.
 use Prim.Native.Nat.{ℕ, _+_}
-use mathlib.Core.Path.{_≡_, sym, ap, _∙_}
+use mathlib.Core.Path.{sym, ap, _∙_}
 use lib.ListN.{drop}
 use Rattle.verdict.specs.Verdict.{typeFires}
-use Rattle.line_verdicts.specs.Cursor.{firesNumber}
+use Rattle.line_verdicts.specs.Bits.{firesNumber}
 use borrow.Author.Needs.{needs}
 use Rattle.line_verdicts.proofs.own_fires.Statement.{statement}
 use Rattle.line_verdicts.proofs.own_fires.Tie as tie
