@@ -2,7 +2,7 @@
 // Their number is known before one is stored, so that refusal 16 changes nothing.
 ghost use mathlib.Core.Path.{_≡_};
 ghost use Rattle.answers.specs.Says.{saysCount};
-ghost use Rattle.diff_call.specs.Listed.{tablesFault, counted, listed};
+ghost use Rattle.diff_call.specs.Calls.{eitherFault, differencesCounted, differencesListed};
 use answers::CountAnswer;
 use fields::Fault;
 use fields::Refusal;
@@ -11,8 +11,8 @@ use fields::Refusal;
 const NUMBERS: usize = 5;
 
 // The first fault of two tables, the first table's before the second's.
-fn tables_fault<'a>(one: &'a [u8], other: &'a [u8], count: u32) -> Fault
-    ensures { λ r. ⌜ r ≡ tablesFault (now (one .entry)) (now (other .entry)) count ⌝ }
+fn either_fault<'a>(one: &'a [u8], other: &'a [u8], count: u32) -> Fault
+    ensures { λ r. ⌜ r ≡ eitherFault (now (one .entry)) (now (other .entry)) count ⌝ }
 {
     let fault = table::table_fault(one, count);
     if let Fault::Bad { refusal: _, at: _ } = fault {
@@ -23,9 +23,9 @@ fn tables_fault<'a>(one: &'a [u8], other: &'a [u8], count: u32) -> Fault
 
 // How many differences two tables have that are read with one glyph count.
 pub fn difference_count<'a>(one: &'a [u8], other: &'a [u8], count: u32) -> CountAnswer
-    ensures { λ r. ⌜ saysCount r ≡ counted (now (one .entry)) (now (other .entry)) count ⌝ }
+    ensures { λ r. ⌜ saysCount r ≡ differencesCounted (now (one .entry)) (now (other .entry)) count ⌝ }
 {
-    let fault = tables_fault(one, other, count);
+    let fault = either_fault(one, other, count);
     if let Fault::Bad { refusal, at } = fault {
         return CountAnswer::Refused { refusal, at };
     }
@@ -37,9 +37,9 @@ pub fn difference_count<'a>(one: &'a [u8], other: &'a [u8], count: u32) -> Count
 // Lists the differences from the room's start on, five numbers each: direction, what differs, mark, and two numbers; answers
 // how many, or a refusal and changes nothing.
 pub fn differences<'a>(one: &'a [u8], other: &'a [u8], count: u32, list: &mut [u16]) -> CountAnswer
-    ensures { λ r. ⌜ record { said = saysCount r; room = now (list .exit) } ≡ listed (now (one .entry)) (now (other .entry)) count (now (list .entry)) ⌝ }
+    ensures { λ r. ⌜ record { said = saysCount r; room = now (list .exit) } ≡ differencesListed (now (one .entry)) (now (other .entry)) count (now (list .entry)) ⌝ }
 {
-    let fault = tables_fault(one, other, count);
+    let fault = either_fault(one, other, count);
     if let Fault::Bad { refusal, at } = fault {
         return CountAnswer::Refused { refusal, at };
     }

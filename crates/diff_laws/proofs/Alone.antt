@@ -15,7 +15,7 @@ use Rattle.meaning.specs.Meaning.{Machine, Side, Meaning}
 use Rattle.meaning.specs.Ask.{sizes, class, cell, both, maybe, askSide, ask}
 use Rattle.diff_rule.specs.declared.Aspect.the-variants.{Sizes, Class, Cell}
 use Rattle.diff_rule.specs.declared.Mark.{Mark}
-use Rattle.diff_rule.specs.declared.Mark.the-variants.{Changed, First, Second}
+use Rattle.diff_rule.specs.declared.Mark.the-variants.{Changed, OnlyFirst, OnlySecond}
 use Rattle.diff_rule.specs.declared.Difference.{Difference}
 use Rattle.diff_rule.specs.Differences.{noted, classesDiffer, cellsDiffer, machinesDiffer, widthsDiffer, listsDiffer, sidesDiffer, differences}
 use Rattle.diff_rule.specs.Order.{directionNumber, aspectNumber}
@@ -28,7 +28,7 @@ abbrev Aside : Direction → Difference → Type 0
 Aside d x = x .direction ≡ d → (x .aspect ≡ Class → ⊥) × (x .aspect ≡ Cell → ⊥)
 
 module _ (n : ℕ) (d : Direction) where
-  sizes-aside : (mark : Mark) → Aside d (record { direction = d; aspect = Sizes; mark = mark; one = 0; two = 0 })
+  sizes-aside : (mark : Mark) → Aside d (record { direction = d; aspect = Sizes; mark = mark; subject = 0; class = 0 })
   sizes-aside mark e =
       ((λ e. let z : _≡_ {A = ℕ} 0 1 = ap aspectNumber e in omega arith), λ e. let z : _≡_ {A = ℕ} 0 2 = ap aspectNumber e in omega arith)
 
@@ -36,8 +36,8 @@ module _ (n : ℕ) (d : Direction) where
       → (maybe (λ (x : Machine). both (x .rows) (x .classes)) p ≡ maybe (λ (x : Machine). both (x .rows) (x .classes)) q → ⊥)
       → All (Aside d) (machinesDiffer d n p q)
   machines-aside none none k = absurd (k refl)
-  machines-aside (some a) none k = (sizes-aside First, tt)
-  machines-aside none (some b) k = (sizes-aside Second, tt)
+  machines-aside (some a) none k = (sizes-aside OnlyFirst, tt)
+  machines-aside none (some b) k = (sizes-aside OnlySecond, tt)
   machines-aside (some a) (some b) k = go (eqb (a .rows) (b .rows) && eqb (a .classes) (b .classes)) refl
     where
       go : (t : Bool) → (eqb (a .rows) (b .rows) && eqb (a .classes) (b .classes)) ≡ t

@@ -52,7 +52,7 @@ module _ (P : Difference → Type 0) where
   all-place f n w k h = let z : 0 + k ≡ k = omega arith in subst (λ (j : ℕ). All P (f j)) z (all-later f n 0 w k h)
 
   no-note : (d : Direction) (a : Aspect) (x y : ℕ) (o : Option Mark) → All P (noted d a x y o)
-      → ((mark : Mark) → P (record { direction = d; aspect = a; mark = mark; one = x; two = y }) → ⊥) → o ≡ none
+      → ((mark : Mark) → P (record { direction = d; aspect = a; mark = mark; subject = x; class = y }) → ⊥) → o ≡ none
   no-note d a x y none w k = refl
   no-note d a x y (some mark) w k = absurd (k mark (w .0))
 

@@ -61,5 +61,5 @@ module _ (a p x y b q z w : ℕ) where
 
 pub key-rises : (x y : Difference) → InReach x → InReach y → keyOf x < keyOf y → Precedes x y
 key-rises x y h k =
-    rises (directionNumber (x .direction)) (aspectNumber (x .aspect)) (x .one) (x .two) (directionNumber (y .direction)) (aspectNumber (y .aspect)) (y .one) (y .two)
+    rises (directionNumber (x .direction)) (aspectNumber (x .aspect)) (x .subject) (x .class) (directionNumber (y .direction)) (aspectNumber (y .aspect)) (y .subject) (y .class)
     (few-aspects (x .aspect)) (few-aspects (y .aspect)) (h .0) (k .0) (h .1) (k .1)

@@ -27,25 +27,25 @@ use Rattle.diff_rule.specs.declared.Aspect.the-variants.{Sizes, Width}
 use Rattle.diff_rule.specs.declared.Mark.{Mark}
 use Rattle.diff_rule.specs.declared.Mark.the-variants.{Changed}
 use Rattle.diff_rule.specs.Differences.{noted, through, recordsDiffer, widthsDiffer, listsDiffer, sidesDiffer, differences}
-use Rattle.diff_rule.specs.Order.{numbersOf, stored}
+use Rattle.diff_rule.specs.Order.{numbersOf, allNumbers}
 use Rattle.diff_rule.proofs.Marks.{mark-apart}
-use Rattle.diff_call.specs.Listed.{differencesOf}
+use Rattle.diff_call.specs.Calls.{differencesOf}
 use Rattle.diff_laws.specs.Samples.{emptyList, growing, glyphWith}
 
 -- glyph 0 has a record of class 5 in the second table only, and then in the first only
-pub record-second : stored (differencesOf bareTable zeroTable 1) ≡ 0 ∷ 3 ∷ 2 ∷ 0 ∷ 5 ∷ []
-unfolding bareTable zeroTable u16At u32At meaningOf directionOf emptySide sideAt machineOf listsOf clusterOf listOf from valueOf valueFrom unitCount hasUnits unitsValue covers firstOf unitValue clusterAt pairsAt pairAt classAt differencesOf differences sidesDiffer widthsDiffer recordsDiffer listsDiffer through stored numbersOf
+pub record-second : allNumbers (differencesOf bareTable zeroTable 1) ≡ 0 ∷ 3 ∷ 2 ∷ 0 ∷ 5 ∷ []
+unfolding bareTable zeroTable u16At u32At meaningOf directionOf emptySide sideAt machineOf listsOf clusterOf listOf from valueOf valueFrom unitCount hasUnits unitsValue covers firstOf unitValue clusterAt pairsAt pairAt classAt differencesOf differences sidesDiffer widthsDiffer recordsDiffer listsDiffer through allNumbers numbersOf
 record-second = refl
 
-pub record-first : stored (differencesOf zeroTable bareTable 1) ≡ 0 ∷ 3 ∷ 1 ∷ 0 ∷ 5 ∷ []
-unfolding bareTable zeroTable u16At u32At meaningOf directionOf emptySide sideAt machineOf listsOf clusterOf listOf from valueOf valueFrom unitCount hasUnits unitsValue covers firstOf unitValue clusterAt pairsAt pairAt classAt differencesOf differences sidesDiffer widthsDiffer recordsDiffer listsDiffer through stored numbersOf
+pub record-first : allNumbers (differencesOf zeroTable bareTable 1) ≡ 0 ∷ 3 ∷ 1 ∷ 0 ∷ 5 ∷ []
+unfolding bareTable zeroTable u16At u32At meaningOf directionOf emptySide sideAt machineOf listsOf clusterOf listOf from valueOf valueFrom unitCount hasUnits unitsValue covers firstOf unitValue clusterAt pairsAt pairAt classAt differencesOf differences sidesDiffer widthsDiffer recordsDiffer listsDiffer through allNumbers numbersOf
 record-first = refl
 
 -- of machines of 4 and of 5 classes, in which the glyph has class 1 and class 2, the sizes alone are listed; and the record
-pub unlike-machines : stored (differences (glyphWith 4 1 1) (glyphWith 5 2 2)) ≡ 0 ∷ 0 ∷ 0 ∷ 0 ∷ 0 ∷ 0 ∷ 3 ∷ 0 ∷ 0 ∷ 5 ∷ []
-unfolding glyphWith emptySide differences sidesDiffer widthsDiffer recordsDiffer listsDiffer through stored numbersOf
+pub unlike-machines : allNumbers (differences (glyphWith 4 1 1) (glyphWith 5 2 2)) ≡ 0 ∷ 0 ∷ 0 ∷ 0 ∷ 0 ∷ 0 ∷ 3 ∷ 0 ∷ 0 ∷ 5 ∷ []
+unfolding glyphWith emptySide differences sidesDiffer widthsDiffer recordsDiffer listsDiffer through allNumbers numbersOf
 unlike-machines =
-    ap (λ (o : Option Mark). stored (noted Horizontal Sizes 0 0 (some Changed) ++ ((((noted Horizontal Width 0 5 o ++ []) ++ []) ++ []) ++ [])))
+    ap (λ (o : Option Mark). allNumbers (noted Horizontal Sizes 0 0 (some Changed) ++ ((((noted Horizontal Width 0 5 o ++ []) ++ []) ++ []) ++ [])))
     (sym (mark-apart Pair-discrete (growing 1) (growing 2) (λ e. let z : _≡_ {A = ℕ} 1 2 = ap (λ (p : Pair). p .before .grow) e in omega arith)))
 
 -- an empty list is none

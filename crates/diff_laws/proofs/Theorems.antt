@@ -25,12 +25,12 @@ use Rattle.table_laws.proofs.Valid.{valid-meaning}
 use Rattle.sheet_laws.specs.Writing.{SheetBy}
 use Rattle.sheet_laws.proofs.Theorem.{meant}
 use Rattle.diff_rule.specs.declared.Difference.{Difference}
-use Rattle.diff_rule.specs.Order.{Between, stored}
+use Rattle.diff_rule.specs.Order.{Between, allNumbers}
 use Rattle.diff_rule.specs.Exchange.{exchanged}
 use Rattle.diff_rule.proofs.Empty.{empty-sheets}
 use Rattle.diff_rule.proofs.Order as order
 use Rattle.diff_rule.proofs.Exchange as marks
-use Rattle.diff_call.specs.Listed.{differencesOf, tablesFault, counted, listingFault, Listing, storedUnless, listed}
+use Rattle.diff_call.specs.Calls.{differencesOf, eitherFault, differencesCounted, listingFault, ListAnswer, storedUnless, differencesListed}
 use Rattle.diff_call.proofs.Laws.{first-clear}
 use Rattle.encoding.specs.Codes.{All}
 use Rattle.diff_laws.specs.Reach.{InReach}
@@ -39,7 +39,7 @@ use Rattle.diff_laws.proofs.Unlike.{all-told}
 use Rattle.diff_laws.proofs.Complete.{all-named}
 use Rattle.diff_laws.proofs.Alone.{alone}
 use Rattle.diff_laws.proofs.Reach.{all-reach, key-rises}
-use Rattle.diff_laws.specs.Changes.{Counted, Listed, Changes}
+use Rattle.diff_laws.specs.Changes.{CountAnswered, ListAnswered, Changes}
 
 -- ---- what a reply says
 
@@ -62,10 +62,10 @@ answered (given a) = 1
 -- ---- empty
 
 module _ (t u : List ℕ) (n : ℕ) where
-  counted-is : Accepted t n → Accepted u n → counted t u n ≡ given (number (length (differencesOf t u n)))
-  unfolding counted Accepted
+  counted-is : Accepted t n → Accepted u n → differencesCounted t u n ≡ given (number (length (differencesOf t u n)))
+  unfolding differencesCounted Accepted
   counted-is a d =
-      let e : tablesFault t u n ≡ Clear = sym (first-clear t u n a) ∙ d in
+      let e : eitherFault t u n ≡ Clear = sym (first-clear t u n a) ∙ d in
       ap (λ (f : Fault). unlessBad f (number (length (differencesOf t u n)))) e
 
   empty : Bytes t → Bytes u → Accepted t n → Accepted u n
@@ -77,17 +77,17 @@ module _ (t u : List ℕ) (n : ℕ) where
   no-length [] e = refl
   no-length (x ∷ xs) e = absurd (omega arith)
 
-  none-counted : Accepted t n → Accepted u n → Counted t u n (Count 0) → differencesOf t u n ≡ []
+  none-counted : Accepted t n → Accepted u n → CountAnswered t u n (Count 0) → differencesOf t u n ≡ []
   unfolding total amount
   none-counted a d e = no-length (differencesOf t u n) (ap total (e ∙ counted-is a d))
 
-  counted-none : Accepted t n → Accepted u n → (answer : CountAnswer) → Counted t u n answer → differencesOf t u n ≡ [] → answer ≡ Count 0
+  counted-none : Accepted t n → Accepted u n → (answer : CountAnswer) → CountAnswered t u n answer → differencesOf t u n ≡ [] → answer ≡ Count 0
   unfolding total amount answered
   counted-none a d (Count k) e q = ap Count (ap total (e ∙ counted-is a d) ∙ ap length q)
   counted-none a d (Refused r at) e q = let z : _≡_ {A = ℕ} 0 1 = ap answered (e ∙ counted-is a d) in absurd (omega arith)
 
   empty-by : (s s′ : List ℕ) → Bytes t → Bytes u → Accepted t n → Accepted u n → SheetBy t n s → SheetBy u n s′
-      → (answer : CountAnswer) → Counted t u n answer → (answer ≡ Count 0 → s ≡ s′) × (s ≡ s′ → answer ≡ Count 0)
+      → (answer : CountAnswer) → CountAnswered t u n answer → (answer ≡ Count 0 → s ≡ s′) × (s ≡ s′ → answer ≡ Count 0)
   empty-by s s′ b c a d w v answer e = (
     (λ q. sym (meant t s n a w) ∙ empty b c a d .0 (none-counted a d (ap saysCount (sym q) ∙ e)) ∙ meant u s′ n d v),
     (λ q. counted-none a d answer e (empty b c a d .1 (meant t s n a w ∙ q ∙ sym (meant u s′ n d v)))),
@@ -97,35 +97,35 @@ module _ (t u : List ℕ) (n : ℕ) where
 
 module _ (t u before after : List ℕ) (n : ℕ) where
   fault-clear : (f : Fault) (count : ℕ) (xs : List Difference)
-      → _≡_ {A = Listing} (record { said = given (number count); room = after }) (record { said = unlessBad f (number (length xs)); room = storedUnless f xs before })
-      → (f ≡ Clear) × (count ≡ length xs) × (after ≡ sets before 0 (stored xs))
+      → _≡_ {A = ListAnswer} (record { said = given (number count); room = after }) (record { said = unlessBad f (number (length xs)); room = storedUnless f xs before })
+      → (f ≡ Clear) × (count ≡ length xs) × (after ≡ sets before 0 (allNumbers xs))
   unfolding total amount answered
-  fault-clear Clear count xs e = (refl, ap (λ (o : Listing). total (o .said)) e, ap (λ (o : Listing). o .room) e)
-  fault-clear (Bad r at) count xs e = let z : _≡_ {A = ℕ} 1 0 = ap (λ (o : Listing). answered (o .said)) e in absurd (omega arith)
+  fault-clear Clear count xs e = (refl, ap (λ (o : ListAnswer). total (o .said)) e, ap (λ (o : ListAnswer). o .room) e)
+  fault-clear (Bad r at) count xs e = let z : _≡_ {A = ℕ} 1 0 = ap (λ (o : ListAnswer). answered (o .said)) e in absurd (omega arith)
 
   fault-bad : (f : Fault) (k at : ℕ) (xs : List Difference)
-      → _≡_ {A = Listing} (record { said = refused k at; room = after }) (record { said = unlessBad f (number (length xs)); room = storedUnless f xs before })
+      → _≡_ {A = ListAnswer} (record { said = refused k at; room = after }) (record { said = unlessBad f (number (length xs)); room = storedUnless f xs before })
       → after ≡ before
   unfolding answered
-  fault-bad Clear k at xs e = let z : _≡_ {A = ℕ} 0 1 = ap (λ (o : Listing). answered (o .said)) e in absurd (omega arith)
-  fault-bad (Bad r p) k at xs e = ap (λ (o : Listing). o .room) e
+  fault-bad Clear k at xs e = let z : _≡_ {A = ℕ} 0 1 = ap (λ (o : ListAnswer). answered (o .said)) e in absurd (omega arith)
+  fault-bad (Bad r p) k at xs e = ap (λ (o : ListAnswer). o .room) e
 
   room-enough : listingFault t u n (length before) ≡ Clear → 5 * length (differencesOf t u n) ≤ length before
   unfolding listingFault
   room-enough e =
       let h : length (differencesOf t u n) ≤ length before / 5 =
-      leb-true _ _ (rule-holds (leb (length (differencesOf t u n)) (length before / 5)) ShortRoom 0 (then-second (tablesFault t u n) _ e)) in
+      leb-true _ _ (rule-holds (leb (length (differencesOf t u n)) (length before / 5)) ShortRoom 0 (then-second (eitherFault t u n) _ e)) in
       omega (arith, h)
 
-  list-by : (count : ℕ) → Listed t u n before (Count count) after
-      → (count ≡ length (differencesOf t u n)) × (after ≡ sets before 0 (stored (differencesOf t u n))) × (5 * count ≤ length before)
-  unfolding listed
+  list-by : (count : ℕ) → ListAnswered t u n before (Count count) after
+      → (count ≡ length (differencesOf t u n)) × (after ≡ sets before 0 (allNumbers (differencesOf t u n))) × (5 * count ≤ length before)
+  unfolding differencesListed
   list-by count e =
       let w = fault-clear (listingFault t u n (length before)) count (differencesOf t u n) e in
       (w .1, w .2, omega (arith, w .1, room-enough (w .0)))
 
-  refused-by : (refusal : Refusal) (at : ℕ) → Listed t u n before (Refused refusal at) after → after ≡ before
-  unfolding listed
+  refused-by : (refusal : Refusal) (at : ℕ) → ListAnswered t u n before (Refused refusal at) after → after ≡ before
+  unfolding differencesListed
   refused-by refusal at e = fault-bad (listingFault t u n (length before)) _ at (differencesOf t u n) e
 
 -- ---- order and marks

@@ -16,7 +16,7 @@ use Rattle.meaning.specs.Discrete.{Entry-discrete, Pair-discrete, list-discrete
 use Rattle.diff_rule.specs.declared.Aspect.{Aspect}
 use Rattle.diff_rule.specs.declared.Aspect.the-variants.{Sizes, Class, Cell, Width, Actions}
 use Rattle.diff_rule.specs.declared.Mark.{Mark}
-use Rattle.diff_rule.specs.declared.Mark.the-variants.{Changed, First, Second}
+use Rattle.diff_rule.specs.declared.Mark.the-variants.{Changed, OnlyFirst, OnlySecond}
 use Rattle.diff_rule.specs.declared.Difference.{Difference}
 use Rattle.diff_rule.specs.Differences.{markOf, noted, through, classesDiffer, cellsDiffer, machinesDiffer, recordDiffers, recordsDiffer, widthsDiffer, someList, listDiffers, listsDiffer, sidesDiffer}
 
@@ -28,14 +28,14 @@ module _ (P : Difference → Type 0) where
       all-append P (f i) (through f n (suc i)) (h i (omega arith) (omega arith)) (all-through f n (suc i) (λ k a b. h k (omega arith) (omega arith)))
 
   all-noted : (d : Direction) (a : Aspect) (x y : ℕ) (o : Option Mark)
-      → ((mark : Mark) → P (record { direction = d; aspect = a; mark = mark; one = x; two = y })) → All P (noted d a x y o)
+      → ((mark : Mark) → P (record { direction = d; aspect = a; mark = mark; subject = x; class = y })) → All P (noted d a x y o)
   all-noted d a x y none h = tt
   all-noted d a x y (some mark) h = (h mark, tt)
 
   module _ (d : Direction) (n : ℕ) where
     pub of-glyphs : (a b : Side)
-        → ((mark : Mark) (g c : ℕ) → g < n → c < 128 → P (record { direction = d; aspect = Width; mark = mark; one = g; two = c }))
-        → ((mark : Mark) (g : ℕ) → g < n → P (record { direction = d; aspect = Actions; mark = mark; one = g; two = 0 }))
+        → ((mark : Mark) (g c : ℕ) → g < n → c < 128 → P (record { direction = d; aspect = Width; mark = mark; subject = g; class = c }))
+        → ((mark : Mark) (g : ℕ) → g < n → P (record { direction = d; aspect = Actions; mark = mark; subject = g; class = 0 }))
         → All P (widthsDiffer d n a b ++ listsDiffer d n a b)
     unfolding widthsDiffer recordsDiffer listsDiffer
     of-glyphs a b width action =
@@ -49,8 +49,8 @@ module _ (P : Difference → Type 0) where
         (λ mark. action mark g (omega arith))))
 
     of-parts : (a b : Machine)
-        → ((mark : Mark) (g : ℕ) → g < n → P (record { direction = d; aspect = Class; mark = mark; one = g; two = 0 }))
-        → ((mark : Mark) (r c : ℕ) → r < a .rows → c < a .classes → P (record { direction = d; aspect = Cell; mark = mark; one = r; two = c }))
+        → ((mark : Mark) (g : ℕ) → g < n → P (record { direction = d; aspect = Class; mark = mark; subject = g; class = 0 }))
+        → ((mark : Mark) (r c : ℕ) → r < a .rows → c < a .classes → P (record { direction = d; aspect = Cell; mark = mark; subject = r; class = c }))
         → All P (classesDiffer d n a b ++ cellsDiffer d a b)
     unfolding classesDiffer cellsDiffer
     of-parts a b class cell =
@@ -64,15 +64,15 @@ module _ (P : Difference → Type 0) where
     -- the cells of the first machine, if there is one
     abbrev pub EachCell : Option Machine → Type 0
     EachCell none = Unit {0}
-    EachCell (some a) = (mark : Mark) (r c : ℕ) → r < a .rows → c < a .classes → P (record { direction = d; aspect = Cell; mark = mark; one = r; two = c })
+    EachCell (some a) = (mark : Mark) (r c : ℕ) → r < a .rows → c < a .classes → P (record { direction = d; aspect = Cell; mark = mark; subject = r; class = c })
 
     of-machines : (p q : Option Machine)
-        → ((mark : Mark) → P (record { direction = d; aspect = Sizes; mark = mark; one = 0; two = 0 }))
-        → ((mark : Mark) (g : ℕ) → g < n → P (record { direction = d; aspect = Class; mark = mark; one = g; two = 0 }))
+        → ((mark : Mark) → P (record { direction = d; aspect = Sizes; mark = mark; subject = 0; class = 0 }))
+        → ((mark : Mark) (g : ℕ) → g < n → P (record { direction = d; aspect = Class; mark = mark; subject = g; class = 0 }))
         → EachCell p → All P (machinesDiffer d n p q)
     of-machines none none size class cell = tt
-    of-machines (some a) none size class cell = (size First, tt)
-    of-machines none (some b) size class cell = (size Second, tt)
+    of-machines (some a) none size class cell = (size OnlyFirst, tt)
+    of-machines none (some b) size class cell = (size OnlySecond, tt)
     of-machines (some a) (some b) size class cell = go (eqb (a .rows) (b .rows) && eqb (a .classes) (b .classes))
       where
         go : (t : Bool) → All P (cond t (classesDiffer d n a b ++ cellsDiffer d a b) (noted d Sizes 0 0 (some Changed)))
@@ -80,11 +80,11 @@ module _ (P : Difference → Type 0) where
         go false = (size Changed, tt)
 
     pub of-side : (a b : Side)
-        → ((mark : Mark) → P (record { direction = d; aspect = Sizes; mark = mark; one = 0; two = 0 }))
-        → ((mark : Mark) (g : ℕ) → g < n → P (record { direction = d; aspect = Class; mark = mark; one = g; two = 0 }))
+        → ((mark : Mark) → P (record { direction = d; aspect = Sizes; mark = mark; subject = 0; class = 0 }))
+        → ((mark : Mark) (g : ℕ) → g < n → P (record { direction = d; aspect = Class; mark = mark; subject = g; class = 0 }))
         → EachCell (a .machine)
-        → ((mark : Mark) (g c : ℕ) → g < n → c < 128 → P (record { direction = d; aspect = Width; mark = mark; one = g; two = c }))
-        → ((mark : Mark) (g : ℕ) → g < n → P (record { direction = d; aspect = Actions; mark = mark; one = g; two = 0 }))
+        → ((mark : Mark) (g c : ℕ) → g < n → c < 128 → P (record { direction = d; aspect = Width; mark = mark; subject = g; class = c }))
+        → ((mark : Mark) (g : ℕ) → g < n → P (record { direction = d; aspect = Actions; mark = mark; subject = g; class = 0 }))
         → All P (sidesDiffer d n a b)
     unfolding sidesDiffer
     of-side a b size class cell width action =

@@ -22,7 +22,7 @@ use Rattle.meaning.specs.Discrete.{Entry-discrete, Pair-discrete, list-discrete
 use Rattle.diff_rule.specs.declared.Aspect.{Aspect}
 use Rattle.diff_rule.specs.declared.Aspect.the-variants.{Sizes, Class, Cell, Width, Actions}
 use Rattle.diff_rule.specs.declared.Mark.{Mark}
-use Rattle.diff_rule.specs.declared.Mark.the-variants.{Changed, First, Second}
+use Rattle.diff_rule.specs.declared.Mark.the-variants.{Changed, OnlyFirst, OnlySecond}
 use Rattle.diff_rule.specs.Differences.{markOf, noted, through, classesDiffer, cellsDiffer, machinesDiffer, recordDiffers, recordsDiffer, widthsDiffer, someList, listDiffers, listsDiffer, sidesDiffer, differences}
 use Rattle.diff_rule.proofs.Empty.{same-none}
 use Rattle.diff_laws.proofs.Throughout.{all-through}
@@ -165,8 +165,8 @@ module _ (m m′ : Meaning) (d : Direction) where
   machines-told : (n : ℕ) (p q : Option Machine) → sideOf d m .machine ≡ p → sideOf d m′ .machine ≡ q → All (Founded m m′) (machinesDiffer d n p q)
   unfolding classesDiffer cellsDiffer sizesOf classOf cellIn
   machines-told n none none ep eq = tt
-  machines-told n (some a) none ep eq = sizes-told (some a) none ep eq First (some-sizes a, refl) (some-sizes a)
-  machines-told n none (some b) ep eq = sizes-told none (some b) ep eq Second (refl, some-sizes b) (λ e. some-sizes b (sym e))
+  machines-told n (some a) none ep eq = sizes-told (some a) none ep eq OnlyFirst (some-sizes a, refl) (some-sizes a)
+  machines-told n none (some b) ep eq = sizes-told none (some b) ep eq OnlySecond (refl, some-sizes b) (λ e. some-sizes b (sym e))
   machines-told n (some a) (some b) ep eq = go (eqb (a .rows) (b .rows) && eqb (a .classes) (b .classes)) refl
     where
       go : (t : Bool) → (eqb (a .rows) (b .rows) && eqb (a .classes) (b .classes)) ≡ t

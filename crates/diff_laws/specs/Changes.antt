@@ -17,28 +17,28 @@ use Rattle.table.specs.Table.{Accepted}
 use Rattle.table.specs.Means.{meaningOf}
 use Rattle.sheet_laws.specs.Writing.{SheetBy}
 use Rattle.diff_rule.specs.declared.Difference.{Difference}
-use Rattle.diff_rule.specs.Order.{keyOf, Between, stored}
+use Rattle.diff_rule.specs.Order.{keyOf, Between, allNumbers}
 use Rattle.diff_rule.specs.Exchange.{exchanged}
-use Rattle.diff_call.specs.Listed.{differencesOf, counted, Listing, listed}
+use Rattle.diff_call.specs.Calls.{differencesOf, differencesCounted, ListAnswer, differencesListed}
 use Rattle.diff_laws.specs.Reach.{InReach, Precedes}
 use Rattle.diff_laws.specs.Unlike.{Alike, Founded, Unnamed, Listable}
 
 -- an answer of `difference_count` for the tables t and u read with n
-abbrev pub Counted : List ℕ → List ℕ → ℕ → CountAnswer → Type 0
-Counted t u n answer = saysCount answer ≡ counted t u n
+abbrev pub CountAnswered : List ℕ → List ℕ → ℕ → CountAnswer → Type 0
+CountAnswered t u n answer = saysCount answer ≡ differencesCounted t u n
 
 -- an answer of `differences`, with the room as it was lent and as it is handed back
-abbrev pub Listed : List ℕ → List ℕ → ℕ → List ℕ → CountAnswer → List ℕ → Type 0
-Listed t u n before answer after = _≡_ {A = Listing} (record { said = saysCount answer; room = after }) (listed t u n before)
+abbrev pub ListAnswered : List ℕ → List ℕ → ℕ → List ℕ → CountAnswer → List ℕ → Type 0
+ListAnswered t u n before answer after = _≡_ {A = ListAnswer} (record { said = saysCount answer; room = after }) (differencesListed t u n before)
 
 pub record Changes : Type 0 where
   -- there is no difference exactly when the sheets that are written for the two tables are equal
   pub empty-exactly : (t u s s′ : List ℕ) (n : ℕ) → Bytes t → Bytes u → Accepted t n → Accepted u n → SheetBy t n s → SheetBy u n s′
-      → (answer : CountAnswer) → Counted t u n answer → (answer ≡ Count 0 → s ≡ s′) × (s ≡ s′ → answer ≡ Count 0)
+      → (answer : CountAnswer) → CountAnswered t u n answer → (answer ≡ Count 0 → s ≡ s′) × (s ≡ s′ → answer ≡ Count 0)
   -- the list is what the room holds from its start on, and is counted; after a refusal the room is as it was
-  pub the-list : (t u before after : List ℕ) (n count : ℕ) → Listed t u n before (Count count) after
-      → (count ≡ length (differencesOf t u n)) × (after ≡ sets before 0 (stored (differencesOf t u n))) × (5 * count ≤ length before)
-  pub refused-unchanged : (t u before after : List ℕ) (n : ℕ) (refusal : Refusal) (at : ℕ) → Listed t u n before (Refused refusal at) after → after ≡ before
+  pub the-list : (t u before after : List ℕ) (n count : ℕ) → ListAnswered t u n before (Count count) after
+      → (count ≡ length (differencesOf t u n)) × (after ≡ sets before 0 (allNumbers (differencesOf t u n))) × (5 * count ≤ length before)
+  pub refused-unchanged : (t u before after : List ℕ) (n : ℕ) (refusal : Refusal) (at : ℕ) → ListAnswered t u n before (Refused refusal at) after → after ≡ before
   -- each difference stands once, in order: direction, what differs and the two numbers, as one number, rise strictly; the two stay in reach, where a greater
   -- number stands for what comes later, by direction, then by what differs, then by the first number, then by the second
   pub in-order : (t u : List ℕ) (n : ℕ) → Bytes t → Accepted t n → Between 0 (10 * 2 ^ 24) (differencesOf t u n)

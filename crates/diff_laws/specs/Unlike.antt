@@ -10,7 +10,7 @@ use Rattle.meaning.specs.Ask.{Part, sizes, class, cell, width, action, along, A
 use Rattle.diff_rule.specs.declared.Aspect.{Aspect}
 use Rattle.diff_rule.specs.declared.Aspect.the-variants.{Sizes, Class, Cell, Width, Actions}
 use Rattle.diff_rule.specs.declared.Mark.{Mark}
-use Rattle.diff_rule.specs.declared.Mark.the-variants.{Changed, First, Second}
+use Rattle.diff_rule.specs.declared.Mark.the-variants.{Changed, OnlyFirst, OnlySecond}
 use Rattle.diff_rule.specs.declared.Difference.{Difference}
 
 abbrev pub Alike : Meaning → Meaning → Direction → Part → Type 0
@@ -34,8 +34,8 @@ namedPart Actions x y = action x 0
 -- what a mark says of the answers of the first and of the second
 abbrev pub Marked : Mark → Answer → Answer → Type 0
 Marked Changed a b = (a ≡ nothing → ⊥) × (b ≡ nothing → ⊥)
-Marked First a b = (a ≡ nothing → ⊥) × (b ≡ nothing)
-Marked Second a b = (a ≡ nothing) × (b ≡ nothing → ⊥)
+Marked OnlyFirst a b = (a ≡ nothing → ⊥) × (b ≡ nothing)
+Marked OnlySecond a b = (a ≡ nothing) × (b ≡ nothing → ⊥)
 
 -- a number without use is 0
 abbrev pub ZeroUnused : Aspect → ℕ → ℕ → Type 0
@@ -46,17 +46,17 @@ ZeroUnused Width x y = Unit {0}
 ZeroUnused Actions x y = y ≡ 0
 
 pub record Founded (m m′ : Meaning) (x : Difference) : Type 0 where
-  pub marked : Marked (x .mark) (ask m (along (x .direction) (namedPart (x .aspect) (x .one) (x .two)))) (ask m′ (along (x .direction) (namedPart (x .aspect) (x .one) (x .two))))
-  pub unlike : AllAlike (x .aspect) m m′ (x .direction) (x .one) (x .two) → ⊥
-  pub unused : ZeroUnused (x .aspect) (x .one) (x .two)
+  pub marked : Marked (x .mark) (ask m (along (x .direction) (namedPart (x .aspect) (x .subject) (x .class)))) (ask m′ (along (x .direction) (namedPart (x .aspect) (x .subject) (x .class))))
+  pub unlike : AllAlike (x .aspect) m m′ (x .direction) (x .subject) (x .class) → ⊥
+  pub unused : ZeroUnused (x .aspect) (x .subject) (x .class)
 
 -- a difference names a part; that of a glyph's list names all its actions
 abbrev pub Names : Direction → Part → Difference → Type 0
 Names d sizes x = (x .direction ≡ d) × (x .aspect ≡ Sizes)
-Names d (class g) x = (x .direction ≡ d) × (x .aspect ≡ Class) × (x .one ≡ g)
-Names d (cell r c) x = (x .direction ≡ d) × (x .aspect ≡ Cell) × (x .one ≡ r) × (x .two ≡ c)
-Names d (width g c) x = (x .direction ≡ d) × (x .aspect ≡ Width) × (x .one ≡ g) × (x .two ≡ c)
-Names d (action g k) x = (x .direction ≡ d) × (x .aspect ≡ Actions) × (x .one ≡ g)
+Names d (class g) x = (x .direction ≡ d) × (x .aspect ≡ Class) × (x .subject ≡ g)
+Names d (cell r c) x = (x .direction ≡ d) × (x .aspect ≡ Cell) × (x .subject ≡ r) × (x .class ≡ c)
+Names d (width g c) x = (x .direction ≡ d) × (x .aspect ≡ Width) × (x .subject ≡ g) × (x .class ≡ c)
+Names d (action g k) x = (x .direction ≡ d) × (x .aspect ≡ Actions) × (x .subject ≡ g)
 
 -- no difference of a list does
 abbrev pub Unnamed : Direction → Part → List Difference → Type 0

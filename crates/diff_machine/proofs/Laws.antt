@@ -13,8 +13,8 @@ use borrow.Author.Tests.{eq-eqb, ne-eqb, lt-ltb}
 use Rattle.fields.specs.declared.Fault.the-variants.{Clear}
 use Rattle.encoding.specs.Upto.{upto}
 use Rattle.encoding.proofs.UptoLaws.{elem-upto}
-use Rattle.types.specs.declared.Direction.{Direction}
 use Rattle.types.specs.declared.Entry.{Entry}
+use Rattle.meaning.specs.Meaning.{Machine}
 use Rattle.meaning.specs.Ask.{cellOf}
 use Rattle.meaning.specs.Discrete.{Entry-discrete}
 use Rattle.machine.specs.Cells.{classCount, classAt, cellAt, entryAt, stateArray}
@@ -29,44 +29,38 @@ use Rattle.table.specs.Means as means
 use Rattle.diff_rule.specs.declared.Aspect.the-variants.{Sizes, Class, Cell}
 use Rattle.diff_rule.specs.declared.Mark.the-variants.{Changed}
 use Rattle.diff_rule.specs.declared.Difference.{Difference}
-use Rattle.diff_rule.specs.Differences.{markOf, noted, through, classesDiffer, cellsDiffer, machinesDiffer}
+use Rattle.diff_rule.specs.Differences.{markOf, noted, through, classesDiffer, cellsDiffer}
 use Rattle.diff_rule.proofs.Marks.{mark-same}
 use Rattle.diff_rule.proofs.Through.{through-same, from-start}
 use Rattle.diff_rule.proofs.Filled.{through-within}
+use Rattle.diff_machine.specs.declared.Machines.{Machines}
 use Rattle.diff_machine.specs.declared.Span.{Span}
-use Rattle.diff_machine.specs.Machines.{Spans, classBy, classesBy, cellBy, rowBy, cellsBy}
+use Rattle.diff_machine.specs.Machines.{Spans, classBy, classesBy, cellBy, rowBy, cellsBy, machinesBy}
 
-module _ (d : Direction) (t u : List ℕ) where
-  class-equal : (here there x : ℕ) → classAt t here x ≡ 1 → classAt u there x ≡ 1 → classBy d t u here there x ≡ []
-  class-equal here there x p q = ap (noted d Class x 0) (sym (mark-same ℕ-discrete (classAt t here x) (classAt u there x) (p ∙ sym q)))
+module _ (t u : List ℕ) (m : Machines) where
+  class-equal : (x : ℕ) → classAt t (m .first) x ≡ 1 → classAt u (m .second) x ≡ 1 → classBy t u m x ≡ []
+  class-equal x p q = ap (noted (m .direction) Class x 0) (sym (mark-same ℕ-discrete (classAt t (m .first) x) (classAt u (m .second) x) (p ∙ sym q)))
 
   -- glyphs that neither class table covers are of class 1 in both
-  pub classes-whole : (n here there : ℕ) (classes beside : ClassTable) (span : Span) → ClassesAt t here classes → ClassesAt u there beside
-      → Spans classes beside n span → through (classBy d t u here there) (span .until - span .from) (span .from) ≡ classesBy d t u n here there
+  pub classes-whole : (classes beside : ClassTable) (span : Span) → ClassesAt t (m .first) classes → ClassesAt u (m .second) beside
+      → Spans classes beside (m .glyphs) span → through (classBy t u m) (span .until - span .from) (span .from) ≡ classesBy t u m
   unfolding classesBy
-  classes-whole n here there classes beside span w v s =
-      sym (through-within (classBy d t u here there) n (span .from) (span .until) (s .rises) (s .most)
-      (λ x l. class-equal here there x (class-before t here x (omega (arith, w .first, s .low x l .0))) (class-before u there x (omega (arith, v .first, s .low x l .1))))
-      (λ x l m. class-equal here there x
-      (class-after t here x (omega (arith, w .first, s .high x l m .0)) (omega (arith, w .first, w .count, s .high x l m .0)))
-      (class-after u there x (omega (arith, v .first, s .high x l m .1)) (omega (arith, v .first, v .count, s .high x l m .1)))))
+  classes-whole classes beside span w v s =
+      sym (through-within (classBy t u m) (m .glyphs) (span .from) (span .until) (s .rises) (s .most)
+      (λ x l. class-equal x (class-before t (m .first) x (omega (arith, w .first, s .low x l .0))) (class-before u (m .second) x (omega (arith, v .first, s .low x l .1))))
+      (λ x l k. class-equal x
+      (class-after t (m .first) x (omega (arith, w .first, s .high x l k .0)) (omega (arith, w .first, w .count, s .high x l k .0)))
+      (class-after u (m .second) x (omega (arith, v .first, s .high x l k .1)) (omega (arith, v .first, v .count, s .high x l k .1)))))
 
-  pub row-whole : (here there classes r : ℕ) → through (cellBy d t u here there r) (classes - 0) 0 ≡ rowBy d t u here there classes r
+  pub row-whole : (classes r : ℕ) → through (cellBy t u m r) (classes - 0) 0 ≡ rowBy t u m classes r
   unfolding rowBy
-  row-whole here there classes r = from-start (cellBy d t u here there r) classes
+  row-whole classes r = from-start (cellBy t u m r) classes
 
-  pub cells-whole : (here there rows classes : ℕ) → through (rowBy d t u here there classes) (rows - 0) 0 ≡ cellsBy d t u here there rows classes
+  pub cells-whole : (classes rows : ℕ) → through (rowBy t u m classes) (rows - 0) 0 ≡ cellsBy t u m classes rows
   unfolding cellsBy
-  cells-whole here there rows classes = from-start (rowBy d t u here there classes) rows
+  cells-whole classes rows = from-start (rowBy t u m classes) rows
 
 -- ---- machines of tables
-
-module _ (d : Direction) (t u : List ℕ) (n here there : ℕ) where
-  classes-differ : classesDiffer d n (machineAt t n here) (machineAt u n there) ≡ classesBy d t u n here there
-  unfolding classesDiffer classesBy machineAt
-  classes-differ =
-      through-same (λ g. noted d Class g 0 (markOf ℕ-discrete (getElem? (upto (classAt t here) n) g) (getElem? (upto (classAt u there) n) g))) (classBy d t u here there) n 0
-      (λ g h l. ap₂ (λ (x y : Option ℕ). noted d Class g 0 (markOf ℕ-discrete x y)) (elem-upto (classAt t here) n g (omega arith)) (elem-upto (classAt u there) n g (omega arith)))
 
 cell-place : (t : List ℕ) (here row class : ℕ) → means.cellBy t here (row * classCount t here + class) ≡ cellAt t here row class
 unfolding means.cellBy cellAt
@@ -83,48 +77,69 @@ cell-read t n here r c h k =
     ∙ elem-upto (means.cellBy t here) (rowCount t here * classCount t here) i (digits-lt h k)
     ∙ ap some (cell-place t here r c)
 
-module _ (d : Direction) (t u : List ℕ) (n here there : ℕ) (er : rowCount t here ≡ rowCount u there) (ec : classCount t here ≡ classCount u there) where
-  row-differs : (r : ℕ) → r < rowCount t here
-      → through (λ c. noted d Cell r c (markOf Entry-discrete (cellOf (machineAt t n here) r c) (cellOf (machineAt u n there) r c))) (classCount t here) 0
-      ≡ rowBy d t u here there (classCount t here) r
-  unfolding rowBy
-  row-differs r h =
-      through-same (λ c. noted d Cell r c (markOf Entry-discrete (cellOf (machineAt t n here) r c) (cellOf (machineAt u n there) r c))) (cellBy d t u here there r) (classCount t here) 0
-      (λ c a l. ap₂ (λ (x y : Option Entry). noted d Cell r c (markOf Entry-discrete x y)) (cell-read t n here r c h (omega arith)) (cell-read u n there r c (omega arith) (omega arith)))
+module _ (t u : List ℕ) (m : Machines) where
+  abbrev one : Machine
+  one = machineAt t (m .glyphs) (m .first)
 
-  cells-differ : cellsDiffer d (machineAt t n here) (machineAt u n there) ≡ cellsBy d t u here there (rowCount t here) (classCount t here)
-  unfolding cellsDiffer cellsBy machineAt
-  cells-differ =
-      through-same (λ r. through (λ c. noted d Cell r c (markOf Entry-discrete (cellOf (machineAt t n here) r c) (cellOf (machineAt u n there) r c))) (classCount t here) 0)
-      (rowBy d t u here there (classCount t here)) (rowCount t here) 0 (λ r a l. row-differs r (omega arith))
+  abbrev other : Machine
+  other = machineAt u (m .glyphs) (m .second)
 
-  pub both-same : (rows classes : ℕ) → rows ≡ rowCount t here → classes ≡ classCount t here
-      → classesBy d t u n here there ++ cellsBy d t u here there rows classes ≡ machinesDiffer d n (some (machineAt t n here)) (some (machineAt u n there))
+  abbrev rows : ℕ
+  rows = rowCount t (m .first)
+
+  abbrev classes : ℕ
+  classes = classCount t (m .first)
+
+  abbrev parts : List Difference
+  parts = classesDiffer (m .direction) (m .glyphs) one other ++ cellsDiffer (m .direction) one other
+
+  abbrev same-rows : Bool
+  same-rows = eqb rows (rowCount u (m .second))
+
+  abbrev same-classes : Bool
+  same-classes = eqb classes (classCount u (m .second))
+
+  classes-differ : classesDiffer (m .direction) (m .glyphs) one other ≡ classesBy t u m
+  unfolding classesDiffer classesBy machineAt
+  classes-differ =
+      through-same (λ g. noted (m .direction) Class g 0 (markOf ℕ-discrete (getElem? (upto (classAt t (m .first)) (m .glyphs)) g) (getElem? (upto (classAt u (m .second)) (m .glyphs)) g)))
+      (classBy t u m) (m .glyphs) 0
+      (λ g h l. ap₂ (λ (x y : Option ℕ). noted (m .direction) Class g 0 (markOf ℕ-discrete x y)) (elem-upto (classAt t (m .first)) (m .glyphs) g (omega arith)) (elem-upto (classAt u (m .second)) (m .glyphs) g (omega arith)))
+
+  module _ (er : rows ≡ rowCount u (m .second)) (ec : classes ≡ classCount u (m .second)) where
+    cell-differs : (r c : ℕ) → r < rows → c < classes → noted (m .direction) Cell r c (markOf Entry-discrete (cellOf one r c) (cellOf other r c)) ≡ cellBy t u m r c
+    cell-differs r c h k =
+        ap₂ (λ (x y : Option Entry). noted (m .direction) Cell r c (markOf Entry-discrete x y)) (cell-read t (m .glyphs) (m .first) r c h k) (cell-read u (m .glyphs) (m .second) r c (omega arith) (omega arith))
+
+    row-differs : (r : ℕ) → r < rows → through (λ c. noted (m .direction) Cell r c (markOf Entry-discrete (cellOf one r c) (cellOf other r c))) classes 0 ≡ rowBy t u m classes r
+    unfolding rowBy
+    row-differs r h =
+        through-same (λ c. noted (m .direction) Cell r c (markOf Entry-discrete (cellOf one r c) (cellOf other r c))) (cellBy t u m r) classes 0
+        (λ c a l. cell-differs r c h (omega arith))
+
+    cells-differ : cellsDiffer (m .direction) one other ≡ cellsBy t u m classes rows
+    unfolding cellsDiffer cellsBy machineAt
+    cells-differ =
+        through-same (λ r. through (λ c. noted (m .direction) Cell r c (markOf Entry-discrete (cellOf one r c) (cellOf other r c))) classes 0)
+        (rowBy t u m classes) rows 0 (λ r a l. row-differs r (omega arith))
+
+    pub both-same : (r c : ℕ) → r ≡ rows → c ≡ classes → classesBy t u m ++ cellsBy t u m c r ≡ machinesBy t u m
+    unfolding machineAt
+    both-same r c qr qc =
+        let b : (same-rows && same-classes) ≡ true = ap₂ (λ (x y : Bool). x && y) (eq-eqb rows (rowCount u (m .second)) er) (eq-eqb classes (classCount u (m .second)) ec) in
+        ap₂ (λ (x y : ℕ). classesBy t u m ++ cellsBy t u m y x) qr qc
+        ∙ ap₂ (λ (x y : List Difference). x ++ y) (sym classes-differ) (sym cells-differ)
+        ∙ ap (λ (x : Bool). cond x parts (noted (m .direction) Sizes 0 0 (some Changed))) (sym b)
+
+  sizes-apart : (same-rows && same-classes) ≡ false → noted (m .direction) Sizes 0 0 (some Changed) ≡ machinesBy t u m
   unfolding machineAt
-  both-same rows classes qr qc =
-      let xs : List Difference = classesDiffer d n (machineAt t n here) (machineAt u n there) ++ cellsDiffer d (machineAt t n here) (machineAt u n there) in
-      let b : (eqb (rowCount t here) (rowCount u there) && eqb (classCount t here) (classCount u there)) ≡ true =
-      ap₂ (λ (x y : Bool). x && y) (eq-eqb (rowCount t here) (rowCount u there) er) (eq-eqb (classCount t here) (classCount u there) ec) in
-      ap₂ (λ (x y : ℕ). classesBy d t u n here there ++ cellsBy d t u here there x y) qr qc
-      ∙ ap₂ (λ (x y : List Difference). x ++ y) (sym (classes-differ d t u n here there)) (sym cells-differ)
-      ∙ ap (λ (x : Bool). cond x xs (noted d Sizes 0 0 (some Changed))) (sym b)
+  sizes-apart b = ap (λ (x : Bool). cond x parts (noted (m .direction) Sizes 0 0 (some Changed))) (sym b)
 
-module _ (d : Direction) (t u : List ℕ) (n here there : ℕ) where
-  sizes-apart : (eqb (rowCount t here) (rowCount u there) && eqb (classCount t here) (classCount u there)) ≡ false
-      → noted d Sizes 0 0 (some Changed) ≡ machinesDiffer d n (some (machineAt t n here)) (some (machineAt u n there))
-  unfolding machineAt
-  sizes-apart b =
-      let xs : List Difference = classesDiffer d n (machineAt t n here) (machineAt u n there) ++ cellsDiffer d (machineAt t n here) (machineAt u n there) in
-      ap (λ (x : Bool). cond x xs (noted d Sizes 0 0 (some Changed))) (sym b)
+  pub rows-apart : (rows ≡ rowCount u (m .second) → ⊥) → noted (m .direction) Sizes 0 0 (some Changed) ≡ machinesBy t u m
+  rows-apart h = sizes-apart (ap (λ (x : Bool). x && same-classes) (ne-eqb rows (rowCount u (m .second)) h))
 
-  pub rows-apart : (rowCount t here ≡ rowCount u there → ⊥)
-      → noted d Sizes 0 0 (some Changed) ≡ machinesDiffer d n (some (machineAt t n here)) (some (machineAt u n there))
-  rows-apart h = sizes-apart (ap (λ (x : Bool). x && eqb (classCount t here) (classCount u there)) (ne-eqb (rowCount t here) (rowCount u there) h))
-
-  pub classes-apart : rowCount t here ≡ rowCount u there → (classCount t here ≡ classCount u there → ⊥)
-      → noted d Sizes 0 0 (some Changed) ≡ machinesDiffer d n (some (machineAt t n here)) (some (machineAt u n there))
-  classes-apart e h =
-      sizes-apart (ap₂ (λ (x y : Bool). x && y) (eq-eqb (rowCount t here) (rowCount u there) e) (ne-eqb (classCount t here) (classCount u there) h))
+  pub classes-apart : rows ≡ rowCount u (m .second) → (classes ≡ classCount u (m .second) → ⊥) → noted (m .direction) Sizes 0 0 (some Changed) ≡ machinesBy t u m
+  classes-apart e h = sizes-apart (ap₂ (λ (x y : Bool). x && y) (eq-eqb rows (rowCount u (m .second)) e) (ne-eqb classes (classCount u (m .second)) h))
 
 -- ---- a machine, or none
 

@@ -1,32 +1,45 @@
--- The differences of two machines of one size, in the tables t and u (document 02, 6/14): classes by glyph, cells row by row.
-use Prim.Native.Nat.{ℕ, _+_, _≤_, _<_}
+-- The differences of two machines, in the tables t and u (document 02, 6/14): of machines of one size, classes by glyph, cells row by row.
+use Prim.Native.Nat.{ℕ, _+_, _≤_, _<_, _^_}
 use mathlib.Core.List.{List}
 use mathlib.Core.Option.{some}
 use native.Mathlib.Decide.{ℕ-discrete}
-use Rattle.types.specs.declared.Direction.{Direction}
 use Rattle.meaning.specs.Discrete.{Entry-discrete}
 use Rattle.machine.specs.declared.ClassTable.{ClassTable}
-use Rattle.machine.specs.Cells.{classAt, cellAt}
+use Rattle.machine.specs.Cells.{classCount, classAt, cellAt}
+use Rattle.table.specs.Means.{machineAt}
 use Rattle.diff_rule.specs.declared.Aspect.the-variants.{Class, Cell}
 use Rattle.diff_rule.specs.declared.Difference.{Difference}
-use Rattle.diff_rule.specs.Differences.{markOf, noted, through}
+use Rattle.diff_rule.specs.Differences.{markOf, noted, through, machinesDiffer}
+use Rattle.diff_machine.specs.declared.Machines.{Machines}
 use Rattle.diff_machine.specs.declared.Span.{Span}
 
-abbrev pub classBy : Direction → List ℕ → List ℕ → ℕ → ℕ → ℕ → List Difference
-classBy d t u here there g = noted d Class g 0 (markOf ℕ-discrete (some (classAt t here g)) (some (classAt u there g)))
+abbrev pub classBy : List ℕ → List ℕ → Machines → ℕ → List Difference
+classBy t u m g = noted (m .direction) Class g 0 (markOf ℕ-discrete (some (classAt t (m .first) g)) (some (classAt u (m .second) g)))
 
-unfoldable pub classesBy : Direction → List ℕ → List ℕ → ℕ → ℕ → ℕ → List Difference
-classesBy d t u n here there = through (classBy d t u here there) n 0
+unfoldable pub classesBy : List ℕ → List ℕ → Machines → List Difference
+classesBy t u m = through (classBy t u m) (m .glyphs) 0
 
-abbrev pub cellBy : Direction → List ℕ → List ℕ → ℕ → ℕ → ℕ → ℕ → List Difference
-cellBy d t u here there r c = noted d Cell r c (markOf Entry-discrete (some (cellAt t here r c)) (some (cellAt u there r c)))
+abbrev pub cellBy : List ℕ → List ℕ → Machines → ℕ → ℕ → List Difference
+cellBy t u m r c = noted (m .direction) Cell r c (markOf Entry-discrete (some (cellAt t (m .first) r c)) (some (cellAt u (m .second) r c)))
 
 -- a row's cells, and those of all rows
-unfoldable pub rowBy : Direction → List ℕ → List ℕ → ℕ → ℕ → ℕ → ℕ → List Difference
-rowBy d t u here there classes r = through (cellBy d t u here there r) classes 0
+unfoldable pub rowBy : List ℕ → List ℕ → Machines → ℕ → ℕ → List Difference
+rowBy t u m classes r = through (cellBy t u m r) classes 0
 
-unfoldable pub cellsBy : Direction → List ℕ → List ℕ → ℕ → ℕ → ℕ → ℕ → List Difference
-cellsBy d t u here there rows classes = through (rowBy d t u here there classes) rows 0
+unfoldable pub cellsBy : List ℕ → List ℕ → Machines → ℕ → ℕ → List Difference
+cellsBy t u m classes rows = through (rowBy t u m classes) rows 0
+
+-- the differences of the two, of whatever sizes
+abbrev pub machinesBy : List ℕ → List ℕ → Machines → List Difference
+machinesBy t u m = machinesDiffer (m .direction) (m .glyphs) (some (machineAt t (m .glyphs) (m .first))) (some (machineAt u (m .glyphs) (m .second)))
+
+-- both stand near and have classes
+pub record WithClasses (t u : List ℕ) (m : Machines) : Type 0 where
+  pub first : m .first < 2 ^ 32
+  pub second : m .second < 2 ^ 32
+  pub few : m .glyphs < 2 ^ 16
+  pub ones : 0 < classCount t (m .first)
+  pub others : 0 < classCount u (m .second)
 
 -- the glyphs below n from `from` on and before `until` are all that one of two class tables covers
 pub record Spans (classes beside : ClassTable) (n : ℕ) (s : Span) : Type 0 where

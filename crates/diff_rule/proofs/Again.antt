@@ -16,9 +16,9 @@ use Rattle.diff_rule.specs.declared.Aspect.the-variants.{Width, Actions}
 use Rattle.diff_rule.specs.declared.Mark.{Mark}
 use Rattle.diff_rule.specs.declared.Difference.{Difference}
 use Rattle.diff_rule.specs.Differences.{markOf, noted, through, recordDiffers, recordsDiffer, someList, listDiffers}
-use Rattle.diff_rule.specs.Order.{directionNumber, aspectNumber, markNumber, numbersOf, stored}
+use Rattle.diff_rule.specs.Order.{directionNumber, aspectNumber, markNumber, numbersOf, allNumbers}
 use Rattle.diff_rule.specs.Again.{forGlyph, again, againThrough}
-use Rattle.diff_rule.proofs.Stored.{stored-length, stored-append}
+use Rattle.diff_rule.proofs.Stored.{numbers-length, numbers-append}
 use Rattle.diff_rule.proofs.Through.{through-same}
 
 -- ---- the numbers
@@ -45,37 +45,37 @@ module _ (block : List ℕ) (g : ℕ) where
 -- ---- what they are
 
 five : (x : Difference) → List ℕ
-five x = directionNumber (x .direction) ∷ aspectNumber (x .aspect) ∷ markNumber (x .mark) ∷ x .one ∷ x .two ∷ []
+five x = directionNumber (x .direction) ∷ aspectNumber (x .aspect) ∷ markNumber (x .mark) ∷ x .subject ∷ x .class ∷ []
 
 again-at : (g : ℕ) (xs : List Difference) (before after : List ℕ) (p : ℕ) → length before ≡ p
-    → again (length xs) (before ++ (stored xs ++ after)) g p ≡ stored (map (forGlyph g) xs)
-unfolding again stored numbersOf five
+    → again (length xs) (before ++ (allNumbers xs ++ after)) g p ≡ allNumbers (map (forGlyph g) xs)
+unfolding again allNumbers numbersOf five
 again-at g [] before after p e = refl
 again-at g (x ∷ xs) before after p e =
-    let rest : List ℕ = stored xs ++ after in
+    let rest : List ℕ = allNumbers xs ++ after in
     let all : List ℕ = before ++ (five x ++ rest) in
     let read : (k : ℕ) → getD all (p + k) 0 ≡ getD (five x ++ rest) k 0 =
     λ k. subst (λ (q : ℕ). getD all (q + k) 0 ≡ getD (five x ++ rest) k 0) e (getD-append-add before (five x ++ rest) k 0) in
     let n : length (before ++ five x) ≡ p + 5 = omega (arith, length-append before (five x)) in
-    let next : again (length xs) all g (p + 5) ≡ stored (map (forGlyph g) xs) =
+    let next : again (length xs) all g (p + 5) ≡ allNumbers (map (forGlyph g) xs) =
     ap (λ (l : List ℕ). again (length xs) l g (p + 5)) (sym (append-assoc before (five x) rest)) ∙ again-at g xs (before ++ five x) after (p + 5) n in
-    λ i. getD-at before (directionNumber (x .direction)) (aspectNumber (x .aspect) ∷ markNumber (x .mark) ∷ x .one ∷ x .two ∷ rest) 0 p e i
+    λ i. getD-at before (directionNumber (x .direction)) (aspectNumber (x .aspect) ∷ markNumber (x .mark) ∷ x .subject ∷ x .class ∷ rest) 0 p e i
     ∷ read 1 i ∷ read 2 i ∷ g ∷ read 4 i ∷ next i
 
 pub again-stored : (g : ℕ) (xs : List Difference) (l : List ℕ) → 5 * length xs ≤ length l
-    → again (length xs) (sets l 0 (stored xs)) g 0 ≡ stored (map (forGlyph g) xs)
+    → again (length xs) (sets l 0 (allNumbers xs)) g 0 ≡ allNumbers (map (forGlyph g) xs)
 again-stored g xs l h =
-    ap (λ (b : List ℕ). again (length xs) b g 0) (sets-eq (stored xs) l 0 (omega (arith, stored-length xs)))
-    ∙ again-at g xs [] (drop (0 + length (stored xs)) l) 0 refl
+    ap (λ (b : List ℕ). again (length xs) b g 0) (sets-eq (allNumbers xs) l 0 (omega (arith, numbers-length xs)))
+    ∙ again-at g xs [] (drop (0 + length (allNumbers xs)) l) 0 refl
 
 -- ---- n glyphs, each of which has what the block has
 
-pub through-again : (f : ℕ → List Difference) (k : ℕ) (block : List ℕ) → ((g : ℕ) → again k block g 0 ≡ stored (f g)) → (n g : ℕ)
-    → againThrough k block n g ≡ stored (through f n g)
-unfolding againThrough through stored
+pub through-again : (f : ℕ → List Difference) (k : ℕ) (block : List ℕ) → ((g : ℕ) → again k block g 0 ≡ allNumbers (f g)) → (n g : ℕ)
+    → againThrough k block n g ≡ allNumbers (through f n g)
+unfolding againThrough through allNumbers
 through-again f k block h zero g = refl
 through-again f k block h (suc n) g =
-    ap₂ (λ (x y : List ℕ). x ++ y) (h g) (through-again f k block h n (suc g)) ∙ sym (stored-append (f g) (through f n (suc g)))
+    ap₂ (λ (x y : List ℕ). x ++ y) (h g) (through-again f k block h n (suc g)) ∙ sym (numbers-append (f g) (through f n (suc g)))
 
 module _ (k : ℕ) (block : List ℕ) where
   pub glyphs-next : (n g : ℕ) → 0 < n → againThrough k block n g ≡ again k block g 0 ++ againThrough k block (n - 1) (g + 1)
@@ -90,6 +90,13 @@ module _ (k : ℕ) (block : List ℕ) where
   unfolding againThrough
   glyphs-none zero g h = refl
   glyphs-none (suc n) g h = absurd (omega arith)
+
+  pub glyphs-length : (n g : ℕ) → length (againThrough k block n g) ≡ n * (5 * k)
+  unfolding againThrough
+  glyphs-length zero g = omega arith
+  glyphs-length (suc n) g =
+      let step : suc n * (5 * k) ≡ 5 * k + n * (5 * k) = omega arith in
+      length-append (again k block g 0) (againThrough k block n (suc g)) ∙ ap₂ _+_ (again-length block g k 0) (glyphs-length n (suc g)) ∙ sym step
 
   -- none for each
   pub glyphs-bare : k ≡ 0 → (n g : ℕ) → againThrough k block n g ≡ []

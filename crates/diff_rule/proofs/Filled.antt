@@ -1,19 +1,18 @@
 -- Places one after the other, counted and stored by stretches.
-use Prim.Native.Nat.{ℕ, _+_, _-_, _*_, _≤_, _<_}
+use Prim.Native.Nat.{ℕ, _+_, _-_, _≤_, _<_}
 use mathlib.Core.Path.{_≡_, refl, sym, ap, ap₂, _∙_}
 use mathlib.Core.List.{List, [], _++_, append-nil}
 use native.Mathlib.Omega.{arith}
-use lib.ListN.{length, length-append}
-use lib.Seq.{sets}
-use Rattle.fields.specs.Stores.{put-two, put-length}
+use lib.ListN.{length}
+use Rattle.fields.specs.Stores.{put-length}
 use Rattle.diff_rule.specs.declared.Difference.{Difference}
 use Rattle.diff_rule.specs.Differences.{through}
-use Rattle.diff_rule.specs.Order.{stored}
-use Rattle.diff_rule.proofs.Stored.{stored-append}
-use Rattle.diff_rule.proofs.Through.{split, pass-over, count-each, from-start}
+use Rattle.diff_rule.specs.Order.{allNumbers, Stores}
+use Rattle.diff_rule.proofs.Stored.{stores-none, stores-two, stores-other}
+use Rattle.diff_rule.proofs.Through.{split, pass-over, from-start}
 
 module _ (f : ℕ → List Difference) where
-  pub through-one : (n g : ℕ) → n ≡ 1 → through f n g ≡ f g
+  through-one : (n g : ℕ) → n ≡ 1 → through f n g ≡ f g
   unfolding through
   through-one n g e = ap (λ (k : ℕ). through f k g) e ∙ append-nil (f g)
 
@@ -31,43 +30,32 @@ module _ (f : ℕ → List Difference) where
       ∙ ap₂ (λ (x y : List Difference). x ++ y) (pass-over f (g - 0) 0 (λ x a b. low x (omega arith)))
       (through-by g e n h k ∙ ap (λ (l : List Difference). through f (e - g) g ++ l) (pass-over f (n - e) e (λ x a b. high x a (omega arith))) ∙ append-nil (through f (e - g) g))
 
-  -- those from g on, where each of a stretch has c
-  pub count-more : (n g e c : ℕ) → g ≤ e → e ≤ n → ((x : ℕ) → g ≤ x → x < e → length (f x) ≡ c)
-      → length (through f (n - g) g) ≡ (e - g) * c + length (through f (n - e) e)
-  count-more n g e c h k each =
-      ap length (through-by g e n h k) ∙ length-append (through f (e - g) g) (through f (n - e) e)
-      ∙ ap (λ (m : ℕ). m + length (through f (n - e) e)) (count-each f c (e - g) g (λ x a b. each x a (omega arith)))
-
-  pub count-none : (n g : ℕ) → n ≤ g → length (through f (n - g) g) ≡ 0
-  unfolding through
-  count-none n g h = let e : n - g ≡ 0 = omega arith in ap (λ (m : ℕ). length (through f m g)) e
-
   -- those of the places from g₀ on and before g are stored from `to` on, up to `at`
   pub record Filled (l₀ l : List ℕ) (to at g₀ g : ℕ) : Type 0 where
-    pub list : l ≡ sets l₀ to (stored (through f (g - g₀) g₀))
-    pub ends : at ≡ to + length (stored (through f (g - g₀) g₀))
+    pub stores : Stores l₀ l to at (through f (g - g₀) g₀)
 
   pub filled-none : (l₀ : List ℕ) (to g : ℕ) → Filled l₀ l₀ to to g g
-  unfolding through stored
+  unfolding through
   filled-none l₀ to g =
       let z : 0 ≡ g - g = omega arith in
-      record {
-        list = ap (λ (m : ℕ). sets l₀ to (stored (through f m g))) z;
-        ends = (omega arith) ∙ ap (λ (m : ℕ). to + length (stored (through f m g))) z;
-      }
+      record { stores = stores-other l₀ l₀ to to [] _ (ap (λ (m : ℕ). through f m g) z) (stores-none l₀ to) }
 
   pub filled-length : (l₀ l : List ℕ) (to at g₀ g : ℕ) → Filled l₀ l to at g₀ g → length l ≡ length l₀
-  filled-length l₀ l to at g₀ g w = put-length (stored (through f (g - g₀) g₀)) l₀ l to (length l₀) (w .list) refl
+  filled-length l₀ l to at g₀ g w = put-length (allNumbers (through f (g - g₀) g₀)) l₀ l to (length l₀) (w .stores .0) refl
 
-  -- a stretch more, whose differences are xs
-  pub filled-more : (l₀ l l₁ : List ℕ) (to at at₁ g₀ g e : ℕ) (xs : List Difference) → g₀ ≤ g → g ≤ e → xs ≡ through f (e - g) g
-      → Filled l₀ l to at g₀ g → l₁ ≡ sets l at (stored xs) → at₁ ≡ at + length (stored xs) → Filled l₀ l₁ to at₁ g₀ e
-  filled-more l₀ l l₁ to at at₁ g₀ g e xs h k q w a b =
-      let ys : List Difference = through f (g - g₀) g₀ in
-      let all : stored (through f (e - g₀) g₀) ≡ stored ys ++ stored xs =
-      ap stored (through-by g₀ g e h k ∙ ap (λ (l : List Difference). ys ++ l) (sym q)) ∙ stored-append ys xs in
-      let n : length (stored ys ++ stored xs) ≡ length (stored ys) + length (stored xs) = length-append (stored ys) (stored xs) in
-      record {
-        list = put-two (stored ys) (stored xs) l₀ l l₁ to at (w .ends) (w .list) a ∙ ap (sets l₀ to) (sym all);
-        ends = omega (arith, b, w .ends, n, ap length all);
-      }
+  -- a stretch more
+  pub filled-more : (l₀ l l₁ : List ℕ) (to at at₁ g₀ g e : ℕ) → g₀ ≤ g → g ≤ e → Filled l₀ l to at g₀ g → Stores l l₁ at at₁ (through f (e - g) g)
+      → Filled l₀ l₁ to at₁ g₀ e
+  filled-more l₀ l l₁ to at at₁ g₀ g e h k w s = record {
+    stores = stores-other l₀ l₁ to at₁ _ _ (sym (through-by g₀ g e h k)) (stores-two (through f (g - g₀) g₀) (through f (e - g) g) l₀ l l₁ to at at₁ (w .stores) s);
+  }
+
+  -- a place more
+  pub filled-next : (l₀ l l₁ : List ℕ) (to at at₁ g₀ g : ℕ) → g₀ ≤ g → Filled l₀ l to at g₀ g → Stores l l₁ at at₁ (f g) → Filled l₀ l₁ to at₁ g₀ (g + 1)
+  filled-next l₀ l l₁ to at at₁ g₀ g h w s =
+      let o : g + 1 - g ≡ 1 = omega arith in
+      filled-more l₀ l l₁ to at at₁ g₀ g (g + 1) h (omega arith) w (stores-other l l₁ at at₁ (f g) _ (sym (through-one (g + 1 - g) g o)) s)
+
+  -- all of them
+  pub filled-all : (l₀ l : List ℕ) (to at g₀ g e : ℕ) (xs : List Difference) → g ≡ e → through f (e - g₀) g₀ ≡ xs → Filled l₀ l to at g₀ g → Stores l₀ l to at xs
+  filled-all l₀ l to at g₀ g e xs q whole w = stores-other l₀ l to at _ xs (ap (λ (k : ℕ). through f (k - g₀) g₀) q ∙ whole) (w .stores)

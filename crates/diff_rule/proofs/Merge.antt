@@ -11,7 +11,7 @@ use Rattle.meaning.specs.Limits.{Rising}
 use Rattle.meaning.specs.Discrete.{Pair-discrete}
 use Rattle.meaning.proofs.AskLaws.{record-here, record-past, record-none}
 use Rattle.diff_rule.specs.declared.Aspect.the-variants.{Width}
-use Rattle.diff_rule.specs.declared.Mark.the-variants.{First, Second}
+use Rattle.diff_rule.specs.declared.Mark.the-variants.{OnlyFirst, OnlySecond}
 use Rattle.diff_rule.specs.declared.Difference.{Difference}
 use Rattle.diff_rule.specs.Differences.{markOf, noted, through, recordDiffers}
 use Rattle.diff_rule.proofs.Through.{skip, pass-over, through-same}
@@ -39,7 +39,7 @@ module _ (d : Direction) (g : ℕ) where
   module _ (n i m : ℕ) where
     -- the next class is in the first only: `c` is it, n classes are left from i on and m after it
     pub merge-first : (p : Pair) (ps qs : List Pair) → Rising i (p ∷ ps) → Rising (suc (p .class)) qs → p .class < i + n → m ≡ i + n - suc (p .class)
-        → through (recordDiffers d g (p ∷ ps) qs) n i ≡ (noted d Width g (p .class) (some First) ++ through (recordDiffers d g ps qs) m (suc (p .class)))
+        → through (recordDiffers d g (p ∷ ps) qs) n i ≡ (noted d Width g (p .class) (some OnlyFirst) ++ through (recordDiffers d g ps qs) m (suc (p .class)))
     merge-first p ps qs r s h e =
         let c : ℕ = p .class in
         let k : ℕ = c - i in
@@ -52,7 +52,7 @@ module _ (d : Direction) (g : ℕ) where
 
     -- in the second only
     pub merge-second : (q : Pair) (ps qs : List Pair) → Rising (suc (q .class)) ps → Rising i (q ∷ qs) → q .class < i + n → m ≡ i + n - suc (q .class)
-        → through (recordDiffers d g ps (q ∷ qs)) n i ≡ (noted d Width g (q .class) (some Second) ++ through (recordDiffers d g ps qs) m (suc (q .class)))
+        → through (recordDiffers d g ps (q ∷ qs)) n i ≡ (noted d Width g (q .class) (some OnlySecond) ++ through (recordDiffers d g ps qs) m (suc (q .class)))
     merge-second q ps qs r s h e =
         let c : ℕ = q .class in
         let k : ℕ = c - i in

@@ -18,10 +18,10 @@ use Rattle.meaning.specs.Limits.{OkMachine, OkMaybe, OkSide, Valid}
 use Rattle.diff_rule.specs.declared.Aspect.{Aspect}
 use Rattle.diff_rule.specs.declared.Aspect.the-variants.{Sizes, Class, Cell, Width, Actions}
 use Rattle.diff_rule.specs.declared.Mark.{Mark}
-use Rattle.diff_rule.specs.declared.Mark.the-variants.{Changed, First, Second}
+use Rattle.diff_rule.specs.declared.Mark.the-variants.{Changed, OnlyFirst, OnlySecond}
 use Rattle.diff_rule.specs.declared.Difference.{Difference}
 use Rattle.diff_rule.specs.Differences.{markOf, noted, through, classesDiffer, cellsDiffer, machinesDiffer, recordsDiffer, widthsDiffer, someList, listsDiffer, sidesDiffer, differences}
-use Rattle.diff_rule.specs.Order.{section, keyOf, Between}
+use Rattle.diff_rule.specs.Order.{firstKey, keyOf, Between}
 
 -- ---- lists of rising keys
 
@@ -34,7 +34,7 @@ append-between b m e [] ys w v = wider m e b e ys w (omega arith) v
 append-between b m e (x ∷ xs) ys w v = (w .0, append-between (suc (keyOf x)) m e xs ys (w .1) v)
 
 -- at one place
-noted-between : (d : Direction) (a : Aspect) (x y b e : ℕ) (o : Option Mark) → b ≤ section d a + 256 * x + y → section d a + 256 * x + y < e
+noted-between : (d : Direction) (a : Aspect) (x y b e : ℕ) (o : Option Mark) → b ≤ firstKey d a + 256 * x + y → firstKey d a + 256 * x + y < e
     → Between b e (noted d a x y o)
 noted-between d a x y b e none h i = omega arith
 noted-between d a x y b e (some m) h i = (h, omega arith)
@@ -57,41 +57,41 @@ each-between f b w n e h i =
     wider (b + w * 0) (b + w * 0 + w * n) b e (through f n 0) (omega arith) (omega arith) (through-between f b w n 0 (λ k l. h k (omega arith)))
 
 module _ (d : Direction) (n : ℕ) (few : n ≤ 65535) where
-  machine-between : (a b : Machine) → OkMachine n a → Between (section d Class) (section d Width) (classesDiffer d n a b ++ cellsDiffer d a b)
+  machine-between : (a b : Machine) → OkMachine n a → Between (firstKey d Class) (firstKey d Width) (classesDiffer d n a b ++ cellsDiffer d a b)
   unfolding classesDiffer cellsDiffer
   machine-between a b ok =
-      append-between (section d Class) (section d Cell) (section d Width) (classesDiffer d n a b) (cellsDiffer d a b)
-      (each-between (λ g. noted d Class g 0 (markOf ℕ-discrete (getElem? (a .columns) g) (getElem? (b .columns) g))) (section d Class) 256 n (section d Cell) (λ g l. noted-between d Class g 0 (section d Class + 256 * g) (section d Class + 256 * g + 256) (markOf ℕ-discrete (getElem? (a .columns) g) (getElem? (b .columns) g)) (omega arith) (omega arith)) (omega arith))
-      (each-between (λ r. through (λ c. noted d Cell r c (markOf Entry-discrete (cellOf a r c) (cellOf b r c))) (a .classes) 0) (section d Cell) 256 (a .rows) (section d Width)
+      append-between (firstKey d Class) (firstKey d Cell) (firstKey d Width) (classesDiffer d n a b) (cellsDiffer d a b)
+      (each-between (λ g. noted d Class g 0 (markOf ℕ-discrete (getElem? (a .columns) g) (getElem? (b .columns) g))) (firstKey d Class) 256 n (firstKey d Cell) (λ g l. noted-between d Class g 0 (firstKey d Class + 256 * g) (firstKey d Class + 256 * g + 256) (markOf ℕ-discrete (getElem? (a .columns) g) (getElem? (b .columns) g)) (omega arith) (omega arith)) (omega arith))
+      (each-between (λ r. through (λ c. noted d Cell r c (markOf Entry-discrete (cellOf a r c) (cellOf b r c))) (a .classes) 0) (firstKey d Cell) 256 (a .rows) (firstKey d Width)
       (λ r l.
-      each-between (λ c. noted d Cell r c (markOf Entry-discrete (cellOf a r c) (cellOf b r c))) (section d Cell + 256 * r) 1 (a .classes) (section d Cell + 256 * r + 256)
-      (λ c k. noted-between d Cell r c (section d Cell + 256 * r + 1 * c) (section d Cell + 256 * r + 1 * c + 1) (markOf Entry-discrete (cellOf a r c) (cellOf b r c)) (omega arith) (omega arith))
+      each-between (λ c. noted d Cell r c (markOf Entry-discrete (cellOf a r c) (cellOf b r c))) (firstKey d Cell + 256 * r) 1 (a .classes) (firstKey d Cell + 256 * r + 256)
+      (λ c k. noted-between d Cell r c (firstKey d Cell + 256 * r + 1 * c) (firstKey d Cell + 256 * r + 1 * c + 1) (markOf Entry-discrete (cellOf a r c) (cellOf b r c)) (omega arith) (omega arith))
       (omega (arith, ok .few-classes)))
       (omega (arith, ok .few-rows)))
 
-  machines-between : (a b : Option Machine) → OkMaybe n a → Between (section d Sizes) (section d Width) (machinesDiffer d n a b)
+  machines-between : (a b : Option Machine) → OkMaybe n a → Between (firstKey d Sizes) (firstKey d Width) (machinesDiffer d n a b)
   machines-between none none ok = omega arith
-  machines-between (some a) none ok = noted-between d Sizes 0 0 (section d Sizes) (section d Width) (some First) (omega arith) (omega arith)
-  machines-between none (some b) ok = noted-between d Sizes 0 0 (section d Sizes) (section d Width) (some Second) (omega arith) (omega arith)
+  machines-between (some a) none ok = noted-between d Sizes 0 0 (firstKey d Sizes) (firstKey d Width) (some OnlyFirst) (omega arith) (omega arith)
+  machines-between none (some b) ok = noted-between d Sizes 0 0 (firstKey d Sizes) (firstKey d Width) (some OnlySecond) (omega arith) (omega arith)
   machines-between (some a) (some b) ok = go (eqb (a .rows) (b .rows) && eqb (a .classes) (b .classes))
     where
-      go : (q : Bool) → Between (section d Sizes) (section d Width) (cond q (classesDiffer d n a b ++ cellsDiffer d a b) (noted d Sizes 0 0 (some Changed)))
-      go true = wider (section d Class) (section d Width) (section d Sizes) (section d Width) (classesDiffer d n a b ++ cellsDiffer d a b) (omega arith) (omega arith) (machine-between a b ok)
-      go false = noted-between d Sizes 0 0 (section d Sizes) (section d Width) (some Changed) (omega arith) (omega arith)
+      go : (q : Bool) → Between (firstKey d Sizes) (firstKey d Width) (cond q (classesDiffer d n a b ++ cellsDiffer d a b) (noted d Sizes 0 0 (some Changed)))
+      go true = wider (firstKey d Class) (firstKey d Width) (firstKey d Sizes) (firstKey d Width) (classesDiffer d n a b ++ cellsDiffer d a b) (omega arith) (omega arith) (machine-between a b ok)
+      go false = noted-between d Sizes 0 0 (firstKey d Sizes) (firstKey d Width) (some Changed) (omega arith) (omega arith)
 
-  side-between : (a b : Side) → OkSide n a → Between (section d Sizes) (section d Sizes + 5 * 2 ^ 24) (sidesDiffer d n a b)
+  side-between : (a b : Side) → OkSide n a → Between (firstKey d Sizes) (firstKey d Sizes + 5 * 2 ^ 24) (sidesDiffer d n a b)
   unfolding sidesDiffer widthsDiffer recordsDiffer listsDiffer
   side-between a b ok =
-      append-between (section d Sizes) (section d Width) (section d Sizes + 5 * 2 ^ 24) (machinesDiffer d n (a .machine) (b .machine))
+      append-between (firstKey d Sizes) (firstKey d Width) (firstKey d Sizes + 5 * 2 ^ 24) (machinesDiffer d n (a .machine) (b .machine))
       (widthsDiffer d n a b ++ listsDiffer d n a b)
       (machines-between (a .machine) (b .machine) (ok .machine))
-      (append-between (section d Width) (section d Actions) (section d Sizes + 5 * 2 ^ 24) (widthsDiffer d n a b) (listsDiffer d n a b)
-      (each-between (λ g. through (λ c. noted d Width g c (markOf Pair-discrete (recordOf c (getD (a .clusters) g [])) (recordOf c (getD (b .clusters) g [])))) 128 0) (section d Width) 256 n (section d Actions)
-      (λ g l. each-between (λ c. noted d Width g c (markOf Pair-discrete (recordOf c (getD (a .clusters) g [])) (recordOf c (getD (b .clusters) g [])))) (section d Width + 256 * g) 1 128 (section d Width + 256 * g + 256)
-      (λ c k. noted-between d Width g c (section d Width + 256 * g + 1 * c) (section d Width + 256 * g + 1 * c + 1) (markOf Pair-discrete (recordOf c (getD (a .clusters) g [])) (recordOf c (getD (b .clusters) g []))) (omega arith) (omega arith)) (omega arith))
+      (append-between (firstKey d Width) (firstKey d Actions) (firstKey d Sizes + 5 * 2 ^ 24) (widthsDiffer d n a b) (listsDiffer d n a b)
+      (each-between (λ g. through (λ c. noted d Width g c (markOf Pair-discrete (recordOf c (getD (a .clusters) g [])) (recordOf c (getD (b .clusters) g [])))) 128 0) (firstKey d Width) 256 n (firstKey d Actions)
+      (λ g l. each-between (λ c. noted d Width g c (markOf Pair-discrete (recordOf c (getD (a .clusters) g [])) (recordOf c (getD (b .clusters) g [])))) (firstKey d Width + 256 * g) 1 128 (firstKey d Width + 256 * g + 256)
+      (λ c k. noted-between d Width g c (firstKey d Width + 256 * g + 1 * c) (firstKey d Width + 256 * g + 1 * c + 1) (markOf Pair-discrete (recordOf c (getD (a .clusters) g [])) (recordOf c (getD (b .clusters) g []))) (omega arith) (omega arith)) (omega arith))
       (omega arith))
-      (each-between (λ g. noted d Actions g 0 (markOf list-discrete (someList (getD (a .lists) g [])) (someList (getD (b .lists) g [])))) (section d Actions) 256 n (section d Sizes + 5 * 2 ^ 24)
-      (λ g l. noted-between d Actions g 0 (section d Actions + 256 * g) (section d Actions + 256 * g + 256) (markOf list-discrete (someList (getD (a .lists) g [])) (someList (getD (b .lists) g []))) (omega arith) (omega arith)) (omega arith)))
+      (each-between (λ g. noted d Actions g 0 (markOf list-discrete (someList (getD (a .lists) g [])) (someList (getD (b .lists) g [])))) (firstKey d Actions) 256 n (firstKey d Sizes + 5 * 2 ^ 24)
+      (λ g l. noted-between d Actions g 0 (firstKey d Actions + 256 * g) (firstKey d Actions + 256 * g + 256) (markOf list-discrete (someList (getD (a .lists) g [])) (someList (getD (b .lists) g []))) (omega arith) (omega arith)) (omega arith)))
 
 pub in-order : (m m′ : Meaning) → Valid m → Between 0 (10 * 2 ^ 24) (differences m m′)
 unfolding differences

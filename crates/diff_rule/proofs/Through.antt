@@ -1,10 +1,9 @@
 -- Places one after the other, for code that goes by stretches of them: a stretch is split off, a stretch without differences is passed over, and a stretch in
 -- which each place has as many differences is counted by a product.
-use Prim.Native.Nat.{ℕ, zero, suc, _+_, _-_, _*_, _≤_, _<_}
+use Prim.Native.Nat.{ℕ, zero, suc, _+_, _-_, _≤_, _<_}
 use mathlib.Core.Path.{_≡_, refl, sym, ap, ap₂, _∙_}
 use mathlib.Core.List.{List, [], _++_, append-assoc}
 use native.Mathlib.Omega.{arith}
-use lib.ListN.{length, length-append}
 use Rattle.diff_rule.specs.declared.Difference.{Difference}
 use Rattle.diff_rule.specs.Differences.{through}
 
@@ -41,15 +40,6 @@ module _ (f : ℕ → List Difference) where
       let x : n ≡ k + m = omega arith in
       ap (λ (l : ℕ). through f l i) x ∙ split k m i
       ∙ ap₂ (λ (l : List Difference) (p : ℕ). l ++ through f m p) (pass-over k i none) (sym q)
-
-  pub count-each : (c n i : ℕ) → ((k : ℕ) → i ≤ k → k < i + n → length (f k) ≡ c) → length (through f n i) ≡ n * c
-  unfolding through
-  count-each c zero i h = omega arith
-  count-each c (suc n) i h =
-      let rest = count-each c n (suc i) (λ k a b. h k (omega arith) (omega arith)) in
-      let here : length (f i) ≡ c = h i (omega arith) (omega arith) in
-      let step : suc n * c ≡ c + n * c = omega arith in
-      length-append (f i) (through f n (suc i)) ∙ ap₂ _+_ here rest ∙ sym step
 
   -- from the first place on
   pub from-start : (n : ℕ) → through f (n - 0) 0 ≡ through f n 0

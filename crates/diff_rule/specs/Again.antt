@@ -7,7 +7,7 @@ use Rattle.diff_rule.specs.declared.Difference.{Difference}
 
 -- a difference, of another glyph
 abbrev pub forGlyph : ℕ → Difference → Difference
-forGlyph g x = record { direction = x .direction; aspect = x .aspect; mark = x .mark; one = g; two = x .two }
+forGlyph g x = record { direction = x .direction; aspect = x .aspect; mark = x .mark; subject = g; class = x .class }
 
 -- so many differences, whose numbers stand in a block from its place p on, for the glyph g
 unfoldable pub again : ℕ → List ℕ → ℕ → ℕ → List ℕ

@@ -17,32 +17,27 @@ use Rattle.meaning.specs.Discrete.{Entry-discrete, Pair-discrete, list-discrete
 use Rattle.diff_rule.specs.declared.Aspect.{Aspect}
 use Rattle.diff_rule.specs.declared.Aspect.the-variants.{Sizes, Class, Cell, Width, Actions}
 use Rattle.diff_rule.specs.declared.Mark.{Mark}
-use Rattle.diff_rule.specs.declared.Mark.the-variants.{Changed, First, Second}
+use Rattle.diff_rule.specs.declared.Mark.the-variants.{Changed, OnlyFirst, OnlySecond}
 use Rattle.diff_rule.specs.declared.Difference.{Difference}
-use Rattle.diff_rule.specs.declared.Outcome.{Outcome}
-use Rattle.diff_rule.specs.declared.Outcome.the-variants.{Same, Differs}
+use Rattle.diff_rule.specs.declared.Comparison.{Comparison}
+use Rattle.diff_rule.specs.declared.Comparison.the-variants.{Same, Differs}
 
 -- how two parts differ, or none where they are the same
 abbrev pub markOf : {A : Type 0} → Discrete A → Option A → Option A → Option Mark
 markOf eq none none = none
-markOf eq (some x) none = some First
-markOf eq none (some y) = some Second
+markOf eq (some x) none = some OnlyFirst
+markOf eq none (some y) = some OnlySecond
 markOf eq (some x) (some y) = ite (eq x y) none (some Changed)
 
 -- the difference at a place, if there is one
 abbrev pub noted : Direction → Aspect → ℕ → ℕ → Option Mark → List Difference
 noted d a x y none = []
-noted d a x y (some m) = record { direction = d; aspect = a; mark = m; one = x; two = y } ∷ []
+noted d a x y (some m) = record { direction = d; aspect = a; mark = m; subject = x; class = y } ∷ []
 
 -- what the answer of a comparison says
-abbrev pub markSeen : Outcome → Option Mark
+abbrev pub markSeen : Comparison → Option Mark
 markSeen Same = none
 markSeen (Differs m) = some m
-
--- one difference, or none
-abbrev pub countSeen : Outcome → ℕ
-countSeen Same = 0
-countSeen (Differs m) = 1
 
 -- what n places have, from place i on, one after the other
 unfoldable pub through : (ℕ → List Difference) → ℕ → ℕ → List Difference
@@ -60,8 +55,8 @@ cellsDiffer d a b =
 -- machines that differ in size, or of which there is one only, are one difference, and neither classes nor cells are listed
 abbrev pub machinesDiffer : Direction → ℕ → Option Machine → Option Machine → List Difference
 machinesDiffer d n none none = []
-machinesDiffer d n (some a) none = noted d Sizes 0 0 (some First)
-machinesDiffer d n none (some b) = noted d Sizes 0 0 (some Second)
+machinesDiffer d n (some a) none = noted d Sizes 0 0 (some OnlyFirst)
+machinesDiffer d n none (some b) = noted d Sizes 0 0 (some OnlySecond)
 machinesDiffer d n (some a) (some b) =
     cond (eqb (a .rows) (b .rows) && eqb (a .classes) (b .classes)) (classesDiffer d n a b ++ cellsDiffer d a b) (noted d Sizes 0 0 (some Changed))
 

@@ -4,9 +4,9 @@ ghost use mathlib.Core.List.{[], _∷_};
 ghost use Prim.Native.Nat.{_+_, _*_, _≤_, _<_, _^_};
 ghost use lib.ListN.{length};
 ghost use lib.Seq.{sets};
-ghost use Rattle.diff_rule.specs.Differences.{noted, markSeen, countSeen};
+ghost use Rattle.diff_rule.specs.Differences.{noted, markSeen};
 ghost use Rattle.diff_rule.specs.Again.{again};
-ghost use Rattle.diff_rule.specs.Order.{directionNumber, aspectNumber, markNumber, numbersOf, stored};
+ghost use Rattle.diff_rule.specs.Order.{directionNumber, aspectNumber, markNumber, numbersOf, Stores};
 use types::Direction;
 
 // What of a direction differs: the machine's sizes, the class of a glyph, a cell, a width record, a glyph's action list.
@@ -22,12 +22,12 @@ pub enum Aspect {
 // How: in both and not the same, only in the first, only in the second.
 pub enum Mark {
     Changed,
-    First,
-    Second,
+    OnlyFirst,
+    OnlySecond,
 }
 
 // What a comparison answers: the same, or how it differs.
-pub enum Outcome {
+pub enum Comparison {
     Same,
     Differs(Mark),
 }
@@ -38,8 +38,8 @@ pub struct Difference {
     pub direction: Direction,
     pub aspect: Aspect,
     pub mark: Mark,
-    pub one: u16,
-    pub two: u16,
+    pub subject: u16,
+    pub class: u16,
 }
 
 fn direction_number(direction: Direction) -> u16
@@ -68,8 +68,8 @@ fn mark_number(mark: Mark) -> u16
 {
     match mark {
         Mark::Changed => 0,
-        Mark::First => 1,
-        Mark::Second => 2,
+        Mark::OnlyFirst => 1,
+        Mark::OnlySecond => 2,
     }
 }
 
@@ -105,7 +105,7 @@ fn put_difference(list: &mut [u16], at: usize, difference: Difference)
     let a = direction_number(direction);
     let b = aspect_number(aspect);
     let c = mark_number(mark);
-    put_five(list, at, a, b, c, difference.one, difference.two);
+    put_five(list, at, a, b, c, difference.subject, difference.class);
 }
 
 // Stores what a comparison answered, and answers where that ends.
@@ -114,15 +114,14 @@ pub fn put_noted(
     at: usize,
     direction: Direction,
     aspect: Aspect,
-    one: u16,
-    two: u16,
-    outcome: Outcome,
+    subject: u16,
+    class: u16,
+    comparison: Comparison,
 ) -> usize
     requires { ⌜ at < 2 ^ 59 ⌝ }
-    ensures { λ r. ⌜ (now (list .exit) ≡ sets (now (list .entry)) at (stored (noted direction aspect one two (markSeen outcome))))
-        × (r ≡ at + length (stored (noted direction aspect one two (markSeen outcome)))) × (r < at + 6) ⌝ }
+    ensures { λ r. ⌜ Stores (now (list .entry)) (now (list .exit)) at r (noted direction aspect subject class (markSeen comparison)) × (r < at + 6) ⌝ }
 {
-    let Outcome::Differs(mark) = outcome else {
+    let Comparison::Differs(mark) = comparison else {
         return at;
     };
     put_difference(
@@ -132,21 +131,11 @@ pub fn put_noted(
             direction,
             aspect,
             mark,
-            one,
-            two,
+            subject,
+            class,
         },
     );
     at + 5
-}
-
-// How many differences a comparison answered: one, or none.
-pub fn count_noted(outcome: Outcome) -> usize
-    ensures { λ r. ⌜ r ≡ countSeen outcome ⌝ }
-{
-    match outcome {
-        Outcome::Same => 0,
-        Outcome::Differs(_) => 1,
-    }
 }
 
 // Stores the differences of another glyph that has the same: `count` of them, whose numbers `block` begins with.
@@ -161,8 +150,8 @@ pub fn put_again(block: &[u16], count: usize, glyph: u16, list: &mut [u16], to: 
         let direction = block[p];
         let aspect = block[p + 1];
         let mark = block[p + 2];
-        let two = block[p + 4];
-        put_five(list, at, direction, aspect, mark, glyph, two);
+        let class = block[p + 4];
+        put_five(list, at, direction, aspect, mark, glyph, class);
         p += 5;
         at += 5;
         left -= 1;

@@ -14,8 +14,9 @@ use Rattle.lookup_targets.specs.declared.Source.{Source}
 use Rattle.lookup_targets.specs.declared.Source.the-variants.{Lookup, Absent}
 use Rattle.write_glyphs.specs.Places.{runPlace, Sound}
 use Rattle.write_glyphs.proofs.Laws.{place-before, place-one, run-item}
+use Rattle.diff_stretches.specs.declared.Sources.{Sources}
 use Rattle.diff_stretches.specs.declared.Stretch.{Stretch}
-use Rattle.diff_stretches.specs.Stretches.{itemBy, baseOf, ServesBy, Tells, Even, Splits}
+use Rattle.diff_stretches.specs.Stretches.{itemBy, baseOf, ServesBy, Tells, BothTell, Even, Splits}
 
 -- ---- runs
 
@@ -90,25 +91,26 @@ module _ (kind : Kind) (t : List ℕ) (n : ℕ) (source : Source) (glyph : ℕ) 
   place-items e until p v h k q x l m =
       sym (w .items x l (omega (arith, v .most)) (omega arith)) ∙ ap (itemAt kind t) (v .same kind t (baseOf source) x l (omega arith) ∙ sym q)
 
-pub splits : (kind : Kind) (t u : List ℕ) (n : ℕ) (source beside : Source) (glyph : ℕ) (s : Stretch) (ea eb : ℕ) → glyph < n
-    → Tells kind t n source glyph (s .ones) → Tells kind u n beside glyph (s .others) → Even (s .ones) glyph ea → Even (s .others) glyph eb
-    → s .end ≡ min (min ea eb) n
-    → s .first ≡ runPlace kind t (baseOf source) (s .ones .from) (s .ones .place) (s .ones .array) glyph
-    → s .second ≡ runPlace kind u (baseOf beside) (s .others .from) (s .others .place) (s .others .array) glyph
-    → Splits kind t u n source beside glyph s
-splits kind t u n source beside glyph s ea eb g wa wb va vb e p q =
-    let m : glyph < s .end = omega (arith, va .more, vb .more) in
-    let la : s .end ≤ ea = omega arith in
-    let lb : s .end ≤ eb = omega arith in
-    let l : s .end ≤ n = omega arith in
-    record {
-      more = m;
-      most = l;
-      first = place-items kind t n source glyph (s .ones) wa (s .end) ea (s .first) va la l p;
-      second = place-items kind u n beside glyph (s .others) wb (s .end) eb (s .second) vb lb l q;
-      ones = tells-later kind t n source glyph (s .ones) wa (s .end) (omega arith) (omega (arith, va .most));
-      others = tells-later kind u n beside glyph (s .others) wb (s .end) (omega arith) (omega (arith, vb .most));
-    }
+module _ (t u : List ℕ) (s : Sources) (glyph : ℕ) (r : Stretch) (w : BothTell t u s glyph (r .runs)) where
+  pub splits : (ea eb : ℕ) → glyph < s .glyphs → Even (r .runs .first) glyph ea → Even (r .runs .second) glyph eb → r .end ≡ min (min ea eb) (s .glyphs)
+      → r .places .first ≡ runPlace (s .kind) t (baseOf (s .first)) (r .runs .first .from) (r .runs .first .place) (r .runs .first .array) glyph
+      → r .places .second ≡ runPlace (s .kind) u (baseOf (s .second)) (r .runs .second .from) (r .runs .second .place) (r .runs .second .array) glyph
+      → Splits t u s glyph r
+  splits ea eb g va vb e p q =
+      let m : glyph < r .end = omega (arith, va .more, vb .more) in
+      let la : r .end ≤ ea = omega arith in
+      let lb : r .end ≤ eb = omega arith in
+      let l : r .end ≤ s .glyphs = omega arith in
+      record {
+        more = m;
+        most = l;
+        first = place-items (s .kind) t (s .glyphs) (s .first) glyph (r .runs .first) (w .first) (r .end) ea (r .places .first) va la l p;
+        second = place-items (s .kind) u (s .glyphs) (s .second) glyph (r .runs .second) (w .second) (r .end) eb (r .places .second) vb lb l q;
+        runs = record {
+          first = tells-later (s .kind) t (s .glyphs) (s .first) glyph (r .runs .first) (w .first) (r .end) (omega arith) (omega (arith, va .most));
+          second = tells-later (s .kind) u (s .glyphs) (s .second) glyph (r .runs .second) (w .second) (r .end) (omega arith) (omega (arith, vb .most));
+        };
+      }
 
 -- a sound source's base is a 16-bit number
 pub base-near : (t : List ℕ) (n : ℕ) (source : Source) → Sound t n source → baseOf source < 2 ^ 16

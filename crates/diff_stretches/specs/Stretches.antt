@@ -2,6 +2,7 @@
 use Prim.Native.Nat.{ℕ, _≤_, _<_, _^_}
 use mathlib.Core.Path.{_≡_}
 use mathlib.Core.List.{List}
+use lib.ListN.{length}
 use Rattle.lookup.specs.declared.Cursor.{Cursor}
 use Rattle.lookup.specs.Pass.{Serves}
 use Rattle.lookup_runs.specs.declared.Run.{Run}
@@ -9,7 +10,9 @@ use Rattle.lookup_targets.specs.declared.Kind.{Kind}
 use Rattle.write_item.specs.Items.{Item, noItem, itemAt}
 use Rattle.lookup_targets.specs.declared.Source.{Source}
 use Rattle.lookup_targets.specs.declared.Source.the-variants.{Lookup, Absent}
-use Rattle.write_glyphs.specs.Places.{glyphItem, runPlace}
+use Rattle.write_glyphs.specs.Places.{glyphItem, Sound, runPlace}
+use Rattle.diff_stretches.specs.declared.Sources.{Sources}
+use Rattle.diff_stretches.specs.declared.Runs.{Runs}
 use Rattle.diff_stretches.specs.declared.Stretch.{Stretch}
 
 -- what a glyph of n has
@@ -34,6 +37,19 @@ pub record Tells (kind : Kind) (t : List ℕ) (n : ℕ) (source : Source) (glyph
       → itemAt kind t (runPlace kind t (baseOf source) (r .from) (r .place) (r .array) x) ≡ itemBy kind t n source x
   pub serves : ServesBy t source (r .until) (r .cursor)
 
+-- a run of each table does
+pub record BothTell (t u : List ℕ) (s : Sources) (glyph : ℕ) (r : Runs) : Type 0 where
+  pub first : Tells (s .kind) t (s .glyphs) (s .first) glyph (r .first)
+  pub second : Tells (s .kind) u (s .glyphs) (s .second) glyph (r .second)
+
+-- both tables have at most 32,768 bytes, and sources that a pass can go over
+pub record BothSound (t u : List ℕ) (s : Sources) : Type 0 where
+  pub short : length t ≤ 2 ^ 15
+  pub beside : length u ≤ 2 ^ 15
+  pub few : s .glyphs < 2 ^ 16
+  pub first : Sound t (s .glyphs) (s .first)
+  pub second : Sound u (s .glyphs) (s .second)
+
 -- the glyphs of a run from `glyph` on and before e have one place
 pub record Even (r : Run) (glyph e : ℕ) : Type 0 where
   pub more : glyph < e
@@ -42,10 +58,9 @@ pub record Even (r : Run) (glyph e : ℕ) : Type 0 where
       → runPlace kind t base (r .from) (r .place) (r .array) x ≡ runPlace kind t base (r .from) (r .place) (r .array) glyph
 
 -- what the glyphs from `glyph` on and before the stretch's end have stands at its places, and its runs tell what those after them have
-pub record Splits (kind : Kind) (t u : List ℕ) (n : ℕ) (source beside : Source) (glyph : ℕ) (s : Stretch) : Type 0 where
-  pub more : glyph < s .end
-  pub most : s .end ≤ n
-  pub first : (x : ℕ) → glyph ≤ x → x < s .end → itemBy kind t n source x ≡ itemAt kind t (s .first)
-  pub second : (x : ℕ) → glyph ≤ x → x < s .end → itemBy kind u n beside x ≡ itemAt kind u (s .second)
-  pub ones : Tells kind t n source (s .end) (s .ones)
-  pub others : Tells kind u n beside (s .end) (s .others)
+pub record Splits (t u : List ℕ) (s : Sources) (glyph : ℕ) (r : Stretch) : Type 0 where
+  pub more : glyph < r .end
+  pub most : r .end ≤ s .glyphs
+  pub first : (x : ℕ) → glyph ≤ x → x < r .end → itemBy (s .kind) t (s .glyphs) (s .first) x ≡ itemAt (s .kind) t (r .places .first)
+  pub second : (x : ℕ) → glyph ≤ x → x < r .end → itemBy (s .kind) u (s .glyphs) (s .second) x ≡ itemAt (s .kind) u (r .places .second)
+  pub runs : BothTell t u s (r .end) (r .runs)

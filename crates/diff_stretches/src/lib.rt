@@ -1,23 +1,40 @@
 // A pass over what the glyphs have in two tables, clusters or action lists (document 02, 6/14): by stretches of glyphs that
 // have one place in each.
 ghost use mathlib.Core.Path.{_≡_};
-ghost use Prim.Native.Nat.{ℕ, _≤_, _<_, _^_};
+ghost use Prim.Native.Nat.{_≤_, _<_, _^_};
 ghost use lib.ListN.{length};
 ghost use Rattle.write_glyphs.specs.Places.{Sound, runPlace};
-ghost use Rattle.diff_stretches.specs.Stretches.{baseOf, ServesBy, Tells, Even, Splits};
+ghost use Rattle.diff_stretches.specs.Stretches.{baseOf, ServesBy, Tells, BothTell, BothSound, Even, Splits};
 use lookup::Cursor;
 use lookup_runs::Run;
 use lookup_targets::Kind;
 use lookup_targets::Source;
 
-// The glyphs up to `end` have one place in the first table, and one in the second; the runs tell what the glyphs after them
-// have.
-pub struct Stretch {
-    pub end: usize,
+// What is compared of two tables: clusters or lists of `glyphs` glyphs, and where each table's come from.
+pub struct Sources {
+    pub kind: Kind,
+    pub glyphs: usize,
+    pub first: Source,
+    pub second: Source,
+}
+
+// A run of each table.
+pub struct Runs {
+    pub first: Run,
+    pub second: Run,
+}
+
+// Where a cluster or a list stands in each table.
+pub struct Places {
     pub first: u16,
     pub second: u16,
-    pub ones: Run,
-    pub others: Run,
+}
+
+// The glyphs before `end` have what stands at these places; the runs tell what the glyphs after them have.
+pub struct Stretch {
+    pub end: usize,
+    pub places: Places,
+    pub runs: Runs,
 }
 
 // A run of no glyphs, before all others.
@@ -33,14 +50,27 @@ fn no_glyphs(cursor: Cursor) -> Run
     }
 }
 
-// Where a pass begins.
-pub fn begin(table: &[u8], glyphs: usize, source: Source) -> Run
+// The run of a table that a pass begins with.
+fn first_run(table: &[u8], glyphs: usize, source: Source) -> Run
     requires { ⌜ Sound (now table) glyphs source ⌝ }
     ensures { λ r. ⌜ ((kind : Kind) → Tells kind (now (table .entry)) glyphs source 0 r) ⌝ }
 {
     match source {
         Source::Lookup { at, base: _ } => no_glyphs(lookup::begin(table, at)),
         Source::Absent => no_glyphs(Cursor { at: 0, left: 0 }),
+    }
+}
+
+// Where a pass begins.
+pub fn begin<'a>(one: &'a [u8], other: &'a [u8], sources: Sources) -> Runs
+    requires { ⌜ BothSound (now one) (now other) sources ⌝ }
+    ensures { λ r. ⌜ BothTell (now (one .entry)) (now (other .entry)) sources 0 r ⌝ }
+{
+    let source = sources.first;
+    let beside = sources.second;
+    Runs {
+        first: first_run(one, sources.glyphs, source),
+        second: first_run(other, sources.glyphs, beside),
     }
 }
 
@@ -122,27 +152,29 @@ fn place_of(table: &[u8], kind: Kind, source: Source, run: Run, glyph: usize) ->
 pub fn next_stretch<'a>(
     one: &'a [u8],
     other: &'a [u8],
-    glyphs: usize,
-    kind: Kind,
-    source: Source,
-    beside: Source,
-    ones: Run,
-    others: Run,
+    sources: Sources,
+    runs: Runs,
     glyph: usize,
 ) -> Stretch
-    requires { ⌜ (length (now one) ≤ 2 ^ 15) × (length (now other) ≤ 2 ^ 15) × (glyphs < 2 ^ 16) × (glyph < glyphs) ⌝ }
-    requires { ⌜ Sound (now one) glyphs source × Sound (now other) glyphs beside ⌝ }
-    requires { ⌜ Tells kind (now one) glyphs source glyph ones × Tells kind (now other) glyphs beside glyph others ⌝ }
-    ensures { λ r. ⌜ Splits kind (now (one .entry)) (now (other .entry)) glyphs source beside glyph r ⌝ }
+    requires { ⌜ BothSound (now one) (now other) sources × BothTell (now one) (now other) sources glyph runs × (glyph < sources .glyphs) ⌝ }
+    ensures { λ r. ⌜ Splits (now (one .entry)) (now (other .entry)) sources glyph r ⌝ }
 {
-    let a = onward(one, glyphs, kind, source, ones, glyph);
-    let b = onward(other, glyphs, kind, beside, others, glyph);
+    let glyphs = sources.glyphs;
+    let kind = sources.kind;
+    let source = sources.first;
+    let beside = sources.second;
+    let a = onward(one, glyphs, kind, source, runs.first, glyph);
+    let b = onward(other, glyphs, kind, beside, runs.second, glyph);
     let both = fields::lower(even_end(a, glyph), even_end(b, glyph));
     Stretch {
         end: fields::lower(both, glyphs),
-        first: place_of(one, kind, source, a, glyph),
-        second: place_of(other, kind, beside, b, glyph),
-        ones: a,
-        others: b,
+        places: Places {
+            first: place_of(one, kind, source, a, glyph),
+            second: place_of(other, kind, beside, b, glyph),
+        },
+        runs: Runs {
+            first: a,
+            second: b,
+        },
     }
 }

@@ -1,9 +1,9 @@
 -- The differences of a direction by where its parts come from, and what an accepted table gives each of them.
-use Prim.Native.Nat.{ℕ, suc, _+_, _*_, _≤_, _<_, _^_}
+use Prim.Native.Nat.{ℕ, suc, _+_, _≤_, _<_, _^_}
 use mathlib.Core.Path.{_≡_, sym, ap, ap₂, _∙_, subst}
 use mathlib.Core.List.{List, [], _∷_, _++_}
 use native.Mathlib.Omega.{arith}
-use lib.ListN.{length, getD, take, getD-replicate, length-append}
+use lib.ListN.{length, getD, take, getD-replicate}
 use lib.Seq.{take-suc, take-all}
 use Rattle.fields.specs.declared.Fault.the-variants.{Clear}
 use Rattle.fields.specs.Field.{Bytes}
@@ -19,7 +19,7 @@ use Rattle.lookup_targets.specs.declared.Source.{Source}
 use Rattle.lookup_targets.specs.declared.Source.the-variants.{Lookup, Absent}
 use Rattle.lookup_targets.specs.Values.{Near, sourceFault}
 use Rattle.table.specs.Table.{directionAt, machinePlace, sourceAt, machinePart, tableFault, Accepted}
-use Rattle.table.specs.Means.{machineOf, directionOf, meaningOf}
+use Rattle.table.specs.Means.{directionOf, meaningOf}
 use Rattle.table.proofs.Laws.{machine-clear, source-clear}
 use Rattle.table_laws.proofs.Valid.{valid-meaning}
 use Rattle.write_item.specs.Items.{noItem}
@@ -27,14 +27,15 @@ use Rattle.write_glyphs.specs.Places.{itemsFrom, glyphItem, Sound}
 use Rattle.write_direction.proofs.Laws.{by-sources, direction-is, source-sound, side-clear}
 use Rattle.diff_stretches.specs.Stretches.{itemBy}
 use Rattle.diff_rule.specs.declared.Difference.{Difference}
-use Rattle.diff_rule.specs.Differences.{machinesDiffer, recordsDiffer, widthsDiffer, listDiffers, listsDiffer, sidesDiffer, differences}
-use Rattle.diff_rule.specs.Order.{stored}
+use Rattle.diff_rule.specs.Differences.{recordsDiffer, widthsDiffer, listDiffers, listsDiffer, sidesDiffer, differences}
+use Rattle.diff_rule.specs.Order.{allNumbers}
 use Rattle.diff_rule.proofs.Empty.{same-empty}
 use Rattle.diff_rule.proofs.Order.{differences-few}
-use Rattle.diff_rule.proofs.Stored.{stored-length}
+use Rattle.diff_rule.proofs.Stored.{numbers-length}
 use Rattle.diff_rule.proofs.Through.{through-same}
-use Rattle.diff_glyphs.specs.Glyphs.{itemDiffers, glyphDiffers, glyphsDiffer, Rises, AllRise}
-use Rattle.diff_table.specs.Sides.{GoodSide}
+use Rattle.diff_glyphs.specs.Glyphs.{itemDiffers, glyphDiffers, glyphsDiffer, Rises, AllRise, Comparable}
+use Rattle.diff_table.specs.declared.Sides.{Sides}
+use Rattle.diff_table.specs.Sides.{GoodSide, GoodSides, sidesOf, sourcesOf, machinesIn, kindIn, sidesIn}
 
 -- ---- a direction by its sources
 
@@ -43,53 +44,37 @@ unfolding itemsFrom
 item-get kind t n (Lookup at base) g l = getD-upto (glyphItem kind t n at base) n g (noItem kind) l
 item-get kind t n Absent g l = getD-replicate n g (noItem kind) (noItem kind) l
 
-module _ (d : Direction) (t u : List ℕ) (n at beside : ℕ) where
-  -- the glyphs' clusters, or their lists
-  abbrev pub kindOf : Kind → List Difference
-  kindOf kind = glyphsDiffer kind d t u n (sourceAt t at kind) (sourceAt u beside kind)
+module _ (t u : List ℕ) (s : Sides) where
+  abbrev one : Side
+  one = by-sources t (s .glyphs) (s .first)
 
-  abbrev pub machines : List Difference
-  machines = machinesDiffer d n (machineOf t n (machinePlace t at)) (machineOf u n (machinePlace u beside))
+  abbrev other : Side
+  other = by-sources u (s .glyphs) (s .second)
 
-  widths-are : widthsDiffer d n (by-sources t n at) (by-sources u n beside) ≡ kindOf Clusters
+  widths-are : widthsDiffer (s .direction) (s .glyphs) one other ≡ kindIn t u s Clusters
   unfolding widthsDiffer glyphsDiffer glyphDiffers itemDiffers by-sources
   widths-are =
       through-same
-      (λ g. recordsDiffer d g (getD (itemsFrom Clusters t n (sourceAt t at Clusters)) g []) (getD (itemsFrom Clusters u n (sourceAt u beside Clusters)) g []))
-      (glyphDiffers Clusters d t u n (sourceAt t at Clusters) (sourceAt u beside Clusters)) n 0
+      (λ g. recordsDiffer (s .direction) g (getD (itemsFrom Clusters t (s .glyphs) (sourceAt t (s .first) Clusters)) g []) (getD (itemsFrom Clusters u (s .glyphs) (sourceAt u (s .second) Clusters)) g []))
+      (glyphDiffers (s .direction) t u (sourcesOf t u s Clusters)) (s .glyphs) 0
       (λ g h l.
-      ap₂ (recordsDiffer d g) (item-get Clusters t n (sourceAt t at Clusters) g (omega arith)) (item-get Clusters u n (sourceAt u beside Clusters) g (omega arith)))
+      ap₂ (recordsDiffer (s .direction) g) (item-get Clusters t (s .glyphs) (sourceAt t (s .first) Clusters) g (omega arith)) (item-get Clusters u (s .glyphs) (sourceAt u (s .second) Clusters) g (omega arith)))
 
-  lists-are : listsDiffer d n (by-sources t n at) (by-sources u n beside) ≡ kindOf Lists
+  lists-are : listsDiffer (s .direction) (s .glyphs) one other ≡ kindIn t u s Lists
   unfolding listsDiffer glyphsDiffer glyphDiffers itemDiffers by-sources
   lists-are =
       through-same
-      (λ g. listDiffers d g (getD (itemsFrom Lists t n (sourceAt t at Lists)) g []) (getD (itemsFrom Lists u n (sourceAt u beside Lists)) g []))
-      (glyphDiffers Lists d t u n (sourceAt t at Lists) (sourceAt u beside Lists)) n 0
+      (λ g. listDiffers (s .direction) g (getD (itemsFrom Lists t (s .glyphs) (sourceAt t (s .first) Lists)) g []) (getD (itemsFrom Lists u (s .glyphs) (sourceAt u (s .second) Lists)) g []))
+      (glyphDiffers (s .direction) t u (sourcesOf t u s Lists)) (s .glyphs) 0
       (λ g h l.
-      ap₂ (listDiffers d g) (item-get Lists t n (sourceAt t at Lists) g (omega arith)) (item-get Lists u n (sourceAt u beside Lists) g (omega arith)))
+      ap₂ (listDiffers (s .direction) g) (item-get Lists t (s .glyphs) (sourceAt t (s .first) Lists) g (omega arith)) (item-get Lists u (s .glyphs) (sourceAt u (s .second) Lists) g (omega arith)))
 
-  by-parts : sidesDiffer d n (by-sources t n at) (by-sources u n beside) ≡ machines ++ (kindOf Clusters ++ kindOf Lists)
+  by-parts : sidesDiffer (s .direction) (s .glyphs) one other ≡ machinesIn t u s ++ (kindIn t u s Clusters ++ kindIn t u s Lists)
   unfolding sidesDiffer by-sources
-  by-parts = ap₂ (λ (x y : List Difference). machines ++ (x ++ y)) widths-are lists-are
+  by-parts = ap₂ (λ (x y : List Difference). machinesIn t u s ++ (x ++ y)) widths-are lists-are
 
-  pub side-parts : machines ++ (kindOf Clusters ++ kindOf Lists) ≡ sidesDiffer d n (directionOf t n at) (directionOf u n beside)
-  side-parts = sym by-parts ∙ ap₂ (λ (x y : Side). sidesDiffer d n x y) (sym (direction-is t n at)) (sym (direction-is u n beside))
-
-  pub parts-size : (m w l : ℕ) → m ≡ length (stored machines) → w ≡ length (kindOf Clusters) → l ≡ length (kindOf Lists)
-      → m + 5 * w + 5 * l ≡ length (stored (sidesDiffer d n (directionOf t n at) (directionOf u n beside)))
-  parts-size m w l em ew el =
-      omega (
-        arith,
-        em,
-        ew,
-        el,
-        stored-length machines,
-        stored-length (machines ++ (kindOf Clusters ++ kindOf Lists)),
-        length-append machines (kindOf Clusters ++ kindOf Lists),
-        length-append (kindOf Clusters) (kindOf Lists),
-        ap (λ (k : List Difference). length (stored k)) side-parts,
-      )
+  pub side-parts : machinesIn t u s ++ (kindIn t u s Clusters ++ kindIn t u s Lists) ≡ sidesIn t u s
+  side-parts = sym by-parts ∙ ap₂ (λ (x y : Side). sidesDiffer (s .direction) (s .glyphs) x y) (sym (direction-is t (s .glyphs) (s .first))) (sym (direction-is u (s .glyphs) (s .second)))
 
 -- ---- what a good direction gives
 
@@ -108,12 +93,27 @@ module _ (t : List ℕ) (n at : ℕ) (good : GoodSide t n at) where
   pub place-clear : (p : ℕ) → p ≡ machinePlace t at → machinePart t n p ≡ Clear
   place-clear p e = ap (machinePart t n) e ∙ machine-clear t at n (good .clear .clear)
 
-  pub kind-sound : (kind : Kind) (s : Source) → (s ≡ sourceAt t at kind) × Near s → Sound t n s
+  kind-sound : (kind : Kind) (s : Source) → (s ≡ sourceAt t at kind) × Near s → Sound t n s
   kind-sound kind s e = source-sound t n kind s (e .1) (ap (sourceFault t n kind) (e .0) ∙ source-clear t at n (good .clear .clear) kind)
 
-  pub kind-rises : (kind : Kind) (s : Source) → s ≡ sourceAt t at kind → AllRise kind t n s
+  kind-rises : (kind : Kind) (s : Source) → s ≡ sourceAt t at kind → AllRise kind t n s
   kind-rises kind s e =
       subst (AllRise kind t n) (sym e) (record { each = all-rise kind t n at (subst (OkSide n) (direction-is t n at) (good .limits)) })
+
+-- the sources of two
+pub comparable : (t u : List ℕ) (s : Sides) (kind : Kind) (x y : Source) → GoodSides t u s → (x ≡ sourceAt t (s .first) kind) × Near x → (y ≡ sourceAt u (s .second) kind) × Near y
+    → Comparable t u (record { kind = kind; glyphs = s .glyphs; first = x; second = y })
+comparable t u s kind x y good a b = record {
+  sound = record {
+    short = good .first .clear .bytes;
+    beside = good .second .clear .bytes;
+    few = good .first .clear .few;
+    first = kind-sound t (s .glyphs) (s .first) (good .first) kind x a;
+    second = kind-sound u (s .glyphs) (s .second) (good .second) kind y b;
+  };
+  first = kind-rises t (s .glyphs) (s .first) (good .first) kind x (a .0);
+  second = kind-rises u (s .glyphs) (s .second) (good .second) kind y (b .0);
+}
 
 -- ---- an accepted table's directions
 
@@ -130,26 +130,22 @@ module _ (t : List ℕ) (n : ℕ) (e : tableFault t n ≡ Clear) (bytes : Bytes 
   }
 
 module _ (t u : List ℕ) (n : ℕ) where
-  -- horizontal, then vertical, where a direction's offsets were read
-  pub both-sides : (a b c d : ℕ) → a ≡ directionAt t Horizontal → b ≡ directionAt u Horizontal → c ≡ directionAt t Vertical → d ≡ directionAt u Vertical
-      → sidesDiffer Horizontal n (directionOf t n a) (directionOf u n b) ++ sidesDiffer Vertical n (directionOf t n c) (directionOf u n d)
-      ≡ differences (meaningOf t n) (meaningOf u n)
+  -- horizontal, then vertical
+  pub both-sides : (h v : Sides) → h ≡ sidesOf t u n Horizontal → v ≡ sidesOf t u n Vertical
+      → sidesIn t u h ++ sidesIn t u v ≡ differences (meaningOf t n) (meaningOf u n)
   unfolding differences meaningOf
-  both-sides a b c d ea eb ec ed =
-      ap₂ (λ (x y : List Difference). x ++ y)
-      (ap₂ (λ (x y : ℕ). sidesDiffer Horizontal n (directionOf t n x) (directionOf u n y)) ea eb)
-      (ap₂ (λ (x y : ℕ). sidesDiffer Vertical n (directionOf t n x) (directionOf u n y)) ec ed)
+  both-sides h v eh ev = ap₂ (λ (x y : Sides). sidesIn t u x ++ sidesIn t u y) eh ev
 
-  pub size-few : Bytes t → tableFault t n ≡ Clear → length (stored (differences (meaningOf t n) (meaningOf u n))) < 2 ^ 30
+  pub size-few : Bytes t → tableFault t n ≡ Clear → length (allNumbers (differences (meaningOf t n) (meaningOf u n))) < 2 ^ 30
   unfolding Accepted
   size-few bytes e =
       let xs : List Difference = differences (meaningOf t n) (meaningOf u n) in
-      omega (arith, stored-length xs, differences-few (meaningOf t n) (meaningOf u n) (valid-meaning t n bytes e))
+      omega (arith, numbers-length xs, differences-few (meaningOf t n) (meaningOf u n) (valid-meaning t n bytes e))
 
-  pub same-size : t ≡ u → 0 ≡ length (stored (differences (meaningOf t n) (meaningOf u n)))
-  unfolding stored
+  pub same-size : t ≡ u → 0 ≡ length (allNumbers (differences (meaningOf t n) (meaningOf u n)))
+  unfolding allNumbers
   same-size e =
-      ap (λ (xs : List Difference). length (stored xs)) (sym (same-empty (meaningOf t n) (meaningOf u n) (ap (λ (x : List ℕ). meaningOf x n) e)))
+      ap (λ (xs : List Difference). length (allNumbers xs)) (sym (same-empty (meaningOf t n) (meaningOf u n) (ap (λ (x : List ℕ). meaningOf x n) e)))
 
 -- ---- tables that are the same byte for byte
 

@@ -7,7 +7,7 @@ use Rattle.answers.specs.declared.Sought.{Sought}
 use Rattle.answers.specs.declared.Sought.the-variants.{Found, Nothing, Refused}
 use Rattle.answers.specs.Says.{Reply, saysSought, roomAfter}
 use Rattle.sheet_write.specs.Written.{Said, refused, bytes, Outcome}
-use Rattle.diff_call.specs.Listed.{Listing}
+use Rattle.diff_call.specs.Calls.{ListAnswer}
 use Rattle.just_c.specs.declared.JustLength.{JustLength}
 use Rattle.just_c.specs.declared.JustCount.{JustCount}
 use Rattle.just_c.specs.InC.{countIn, actionOut, actionIn}
@@ -34,7 +34,7 @@ pub outcome-given : (a : JustLength) (s : Said) (after : List ℕ) (o : Outcome)
 outcome-given a s after o e k = cc
 
 -- and with the room that a list of differences was lent
-pub listed-given : (a : JustCount) (r : Reply) (after : List ℕ) (o : Listing) → a ≡ countIn r
-    → _≡_ {A = Listing} (record { said = r; room = after }) o
+pub listed-given : (a : JustCount) (r : Reply) (after : List ℕ) (o : ListAnswer) → a ≡ countIn r
+    → _≡_ {A = ListAnswer} (record { said = r; room = after }) o
     → _≡_ {A = ListedInC} (record { answer = a; room = after }) (listedIn o)
 listed-given a r after o e k = cc

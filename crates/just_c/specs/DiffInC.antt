@@ -2,7 +2,7 @@
 -- and what the lent room holds afterwards.
 use Prim.Native.Nat.{ℕ}
 use mathlib.Core.List.{List}
-use Rattle.diff_call.specs.Listed.{Listing}
+use Rattle.diff_call.specs.Calls.{ListAnswer}
 use Rattle.just_c.specs.declared.JustCount.{JustCount}
 use Rattle.just_c.specs.InC.{countIn}
 
@@ -10,5 +10,5 @@ pub record ListedInC : Type 0 where
   pub answer : JustCount
   pub room : List ℕ
 
-abbrev pub listedIn : Listing → ListedInC
+abbrev pub listedIn : ListAnswer → ListedInC
 listedIn o = record { answer = countIn (o .said); room = o .room }

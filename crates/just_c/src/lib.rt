@@ -16,7 +16,7 @@ ghost use Rattle.sheet_write.specs.Written.{saysLength, saysWritten, sheetLengt
 ghost use Rattle.just_c.specs.InC.{checkedIn, countIn, sizesIn, classIn, cellIn, recordIn, noPair, actionIn, actionOut, stretchIn};
 ghost use Rattle.just_c.specs.SheetInC.{SheetNumber, Given};
 ghost use Rattle.just_c.specs.WriterInC.{lengthIn, OutcomeInC, outcomeIn};
-ghost use Rattle.diff_call.specs.Listed.{counted, listed};
+ghost use Rattle.diff_call.specs.Calls.{differencesCounted, differencesListed};
 ghost use Rattle.just_c.specs.DiffInC.{ListedInC, listedIn};
 use answers::ActionAnswer;
 use answers::CellAnswer;
@@ -556,7 +556,7 @@ pub extern "C" fn just_difference_count<'a>(
     other: &'a [u8],
     glyphs: u32,
 ) -> JustCount
-    ensures { λ r. ⌜ r ≡ countIn (counted (now (one .entry)) (now (other .entry)) glyphs) ⌝ }
+    ensures { λ r. ⌜ r ≡ countIn (differencesCounted (now (one .entry)) (now (other .entry)) glyphs) ⌝ }
 {
     count_out(diff_call::difference_count(one, other, glyphs))
 }
@@ -569,7 +569,7 @@ pub extern "C" fn just_differences<'a>(
     glyphs: u32,
     list: &mut [u16],
 ) -> JustCount
-    ensures { λ r. ⌜ record { answer = r; room = now (list .exit) } ≡ listedIn (listed (now (one .entry)) (now (other .entry)) glyphs (now (list .entry))) ⌝ }
+    ensures { λ r. ⌜ record { answer = r; room = now (list .exit) } ≡ listedIn (differencesListed (now (one .entry)) (now (other .entry)) glyphs (now (list .entry))) ⌝ }
 {
     count_out(diff_call::differences(one, other, glyphs, list))
 }

@@ -1,106 +1,96 @@
 -- `diff_clusters::next_class` meets its contract.
-use Rattle.diff_clusters.proofs.Laws.{first-steps, second-steps, both-steps}
-use Rattle.diff_clusters.specs.Merge.{Steps}
+use Rattle.diff_clusters.proofs.Laws.{some-left, both-left, first-steps, second-steps, both-steps}
+use Prim.Native.Nat.{_<_}
 use native.Mathlib.Omega.{arith}
-use mathlib.Core.Path.{sym, subst}
+use mathlib.Core.Path.{_≡_}
 use borrow.Author.Needs.{needs}
 use Rattle.diff_clusters.proofs.next_class.Statement.{statement}
 use Rattle.diff_clusters.proofs.next_class.Tie as tie
 
-second-only-requires : tie.Need-second-only-requires
-second-only-requires c κs = search needs
+class-of-requires : tie.Need-class-of-requires
+class-of-requires c κs = search needs
+
+class-of-requires-2 : tie.Need-class-of-requires-2
+class-of-requires-2 c κs = search needs
+
+cast-t8 : tie.Need-cast-t8
+cast-t8 c = search needs
+
+after-requires : tie.Need-after-requires
+after-requires c κs =
+    let x = c .before .before .before .before .before .args in
+    (some-left (x .one .now) (x .ones) (c .before .before .class-of .result) (c .before .before .class-of .ensures) (omega (arith, c .before .class-of2 .ensures .most)), c .before .before .before .before .before .pre .0)
 
 returns : tie.Need-returns
 returns c =
-    let x = c .before .before .before .before .args in
-    let t = x .one .now in
-    let u = x .other .now in
-    subst (Steps t u (x .a) (x .left) (x .b) (x .right)) (sym (c .second-only .ensures))
-    (second-steps t u (x .a) (x .left) (x .b) (x .right) (omega (arith, c .before .before .before .before .pre, c .before .if1 .taken)) (λ h. absurd (omega (arith, c .before .if1 .taken))))
+    let x = c .before .before .before .before .before .before .args in
+    let m = c .before .before .before .class-of in
+    let n = c .before .before .class-of2 in
+    first-steps (x .one .now) (x .other .now) (x .ones) (x .others) (m .result) (n .result) (m .ensures) (n .ensures) (c .after .result) (c .before .if1 .taken) (c .after .ensures)
 
-first-only-requires : tie.Need-first-only-requires
-first-only-requires c κs = search needs
+cast-t12 : tie.Need-cast-t12
+cast-t12 c = search needs
+
+after-requires-2 : tie.Need-after-requires-2
+after-requires-2 c κs =
+    let x = c .before .before .before .before .before .before .args in
+    (some-left (x .other .now) (x .others) (c .before .before .class-of2 .result) (c .before .before .class-of2 .ensures) (omega (arith, c .before .before .before .class-of .ensures .most)), c .before .before .before .before .before .before .pre .1)
 
 returns-2 : tie.Need-returns-2
 returns-2 c =
-    let x = c .before .before .before .before .before .args in
-    let t = x .one .now in
-    let u = x .other .now in
-    subst (Steps t u (x .a) (x .left) (x .b) (x .right)) (sym (c .first-only .ensures))
-    (first-steps t u (x .a) (x .left) (x .b) (x .right) (omega (arith, c .before .before .if1 .left)) (λ h. absurd (omega (arith, c .before .if2 .taken))))
+    let x = c .before .before .before .before .before .before .before .args in
+    let m = c .before .before .before .before .class-of in
+    let n = c .before .before .before .class-of2 in
+    second-steps (x .one .now) (x .other .now) (x .ones) (x .others) (m .result) (n .result) (m .ensures) (n .ensures) (c .after2 .result) (c .before .if2 .taken) (c .after2 .ensures)
 
-class-at-requires : tie.Need-class-at-requires
-class-at-requires c κs = search needs
-
-class-at-requires-2 : tie.Need-class-at-requires-2
-class-at-requires-2 c κs = search needs
-
-first-only-requires-2 : tie.Need-first-only-requires-2
-first-only-requires-2 c κs = search needs
-
-returns-3 : tie.Need-returns-3
-returns-3 c =
-    let x = c .before .before .before .before .before .before .before .before .args in
-    let t = x .one .now in
-    let u = x .other .now in
-    subst (Steps t u (x .a) (x .left) (x .b) (x .right)) (sym (c .first-only2 .ensures))
-    (first-steps t u (x .a) (x .left) (x .b) (x .right) (omega (arith, c .before .before .before .before .before .if1 .left)) (λ h. omega (arith, c .before .if3 .taken, c .before .before .before .class-at .ensures .0, c .before .before .class-at2 .ensures .0)))
-
-second-only-requires-2 : tie.Need-second-only-requires-2
-second-only-requires-2 c κs = search needs
-
-returns-4 : tie.Need-returns-4
-returns-4 c =
-    let x = c .before .before .before .before .before .before .before .before .before .args in
-    let t = x .one .now in
-    let u = x .other .now in
-    subst (Steps t u (x .a) (x .left) (x .b) (x .right)) (sym (c .second-only2 .ensures))
-    (second-steps t u (x .a) (x .left) (x .b) (x .right) (omega (arith, c .before .before .before .before .before .if2 .left)) (λ h. omega (arith, c .before .if4 .taken, c .before .before .before .before .class-at .ensures .0, c .before .before .before .class-at2 .ensures .0)))
-
-cast-t10 : tie.Need-cast-t10
-cast-t10 c = search needs
+cast-t16 : tie.Need-cast-t16
+cast-t16 c = search needs
 
 compare-requires : tie.Need-compare-requires
 compare-requires c κs = search needs
 
-add-t12 : tie.Need-add-t12
-add-t12 c = search needs
+after-requires-3 : tie.Need-after-requires-3
+after-requires-3 c κs =
+    let x = c .before .before .before .before .before .before .before .args in
+    let m = c .before .before .before .before .class-of in
+    let n = c .before .before .before .class-of2 in
+    let e : m .result ≡ n .result = omega (arith, c .before .if2 .left, c .before .before .if1 .left) in
+    let l : m .result < 128 = both-left (x .one .now) (x .other .now) (x .ones) (x .others) (m .result) (n .result) (m .ensures) (n .ensures) e (c .before .before .before .before .before .before .before .pre .2) in
+    (some-left (x .one .now) (x .ones) (m .result) (m .ensures) l, c .before .before .before .before .before .before .before .pre .0)
 
-sub-t13 : tie.Need-sub-t13
-sub-t13 c = search needs
+after-requires-4 : tie.Need-after-requires-4
+after-requires-4 c κs =
+    let x = c .before .before .before .before .before .before .before .before .args in
+    let m = c .before .before .before .before .before .class-of in
+    let n = c .before .before .before .before .class-of2 in
+    let e : m .result ≡ n .result = omega (arith, c .before .before .if2 .left, c .before .before .before .if1 .left) in
+    let l : m .result < 128 = both-left (x .one .now) (x .other .now) (x .ones) (x .others) (m .result) (n .result) (m .ensures) (n .ensures) e (c .before .before .before .before .before .before .before .before .pre .2) in
+    (some-left (x .other .now) (x .others) (n .result) (n .ensures) (omega arith), c .before .before .before .before .before .before .before .before .pre .1)
 
-add-t14 : tie.Need-add-t14
-add-t14 c = search needs
-
-sub-t15 : tie.Need-sub-t15
-sub-t15 c = search needs
-
-returns-5 : tie.Need-returns-5
-returns-5 c =
+returns-3 : tie.Need-returns-3
+returns-3 c =
     let x = c .before .before .before .before .before .before .before .before .before .args in
-    let t = x .one .now in
-    let u = x .other .now in
-    both-steps t u (x .a) (x .left) (x .b) (x .right) (c .before .before .before .before .class-at .result) (c .compare .result) (omega (arith, c .before .before .before .before .before .before .if1 .left)) (omega (arith, c .before .before .before .before .before .if2 .left))
-    (c .before .before .before .before .class-at .ensures .0) (omega (arith, c .before .if4 .left, c .before .before .if3 .left, c .before .before .before .class-at2 .ensures .0)) (c .compare .ensures)
+    let m = c .before .before .before .before .before .before .class-of in
+    let n = c .before .before .before .before .before .class-of2 in
+    let o = c .before .before .compare in
+    let e : m .result ≡ n .result = omega (arith, c .before .before .before .if2 .left, c .before .before .before .before .if1 .left) in
+    let l : m .result < 128 = both-left (x .one .now) (x .other .now) (x .ones) (x .others) (m .result) (n .result) (m .ensures) (n .ensures) e (c .before .before .before .before .before .before .before .before .before .pre .2) in
+    both-steps (x .one .now) (x .other .now) (x .ones) (x .others) (m .result) (n .result) (m .ensures) (n .ensures) (o .result) (c .before .after3 .result) (c .after4 .result) e l (o .ensures) (c .before .after3 .ensures) (c .after4 .ensures)
 
 pub next-class-spec : {M : Type 1} → statement M
 next-class-spec =
     tie.close
     (tie.spec
-    second-only-requires
+    class-of-requires
+    class-of-requires-2
+    cast-t8
+    after-requires
     returns
-    first-only-requires
+    cast-t12
+    after-requires-2
     returns-2
-    class-at-requires
-    class-at-requires-2
-    first-only-requires-2
-    returns-3
-    second-only-requires-2
-    returns-4
-    cast-t10
+    cast-t16
     compare-requires
-    add-t12
-    sub-t13
-    add-t14
-    sub-t15
-    returns-5)
+    after-requires-3
+    after-requires-4
+    returns-3)

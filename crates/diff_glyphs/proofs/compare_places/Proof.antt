@@ -13,8 +13,8 @@ same-places-requires c κs = search needs
 returns : tie.Need-returns
 returns c =
     let a = c .before .before .before .before .before .before .args in
-    let e = subst (λ (b : Bool). Says b ((a .last .first ≡ a .first) × (a .last .second ≡ a .second))) (c .if1 .taken) (c .before .same-places .ensures) in
-    (e .0, e .1, c .before .before .before .before .before .before .pre .4, c .before .before .before .before .before .before .pre .5)
+    let e = subst (λ (b : Bool). Says b (a .last .places ≡ a .places)) (c .if1 .taken) (c .before .same-places .ensures) in
+    (e, c .before .before .before .before .before .before .pre .4, c .before .before .before .before .before .before .pre .5)
 
 is-kept-requires : tie.Need-is-kept-requires
 is-kept-requires c κs = c .before .before .before .before .before .before .before .pre .5 .room
@@ -26,8 +26,7 @@ returns-2 : tie.Need-returns-2
 returns-2 c =
     let a = c .before .before .before .before .before .before .before .before .before .args in (
       refl,
-      refl,
-      holds-kept (a .kind) (a .direction) (a .one .now) (a .other .now) (a .block .now) (a .same .now) (a .first) (a .second) (c .before .before .before .before .before .before .before .before .before .pre .4 .room) (c .before .before .before .before .before .before .before .before .before .pre .5) (c .before .is-kept .ensures (c .if2 .taken)),
+      holds-kept (a .kind) (a .direction) (a .one .now) (a .other .now) (a .block .now) (a .same .now) (a .places) (c .before .before .before .before .before .before .before .before .before .pre .4 .room) (c .before .before .before .before .before .before .before .before .before .pre .5) (c .before .is-kept .ensures (c .if2 .taken)),
       c .before .before .before .before .before .before .before .before .before .pre .5,
     )
 
@@ -49,9 +48,8 @@ returns-3 c =
     let p = c .before .before .before .before .before .before .put-places in
     let k = c .before .before .keep in (
       refl,
-      refl,
-      holds-made (a .kind) (a .direction) (a .one .now) (a .other .now) (a .first) (a .second) (p .result) (a .block .now) (p .last .1 .1 .1 .1 .1 .1 .0) (c .before .before .before .before .before .before .before .before .before .before .before .before .before .before .before .before .before .pre .4 .room) (p .ensures .0) (p .ensures .1),
-      kept-more (a .kind) (a .direction) (a .one .now) (a .other .now) (a .same .now) (k .last .0) (a .first) (a .second) (p .result) (c .before .before .before .before .before .before .before .before .before .before .before .before .before .before .before .before .before .pre .5) (k .ensures) (p .ensures .1),
+      holds-made (a .kind) (a .direction) (a .one .now) (a .other .now) (a .places) (p .result) (a .block .now) (p .last .1 .1 .1 .1 .1 .0) (c .before .before .before .before .before .before .before .before .before .before .before .before .before .before .before .before .before .pre .4 .room) (p .ensures),
+      kept-more (a .kind) (a .direction) (a .one .now) (a .other .now) (a .same .now) (k .last .0) (a .places) (p .result) (c .before .before .before .before .before .before .before .before .before .before .before .before .before .before .before .before .before .pre .5) (k .ensures) (p .ensures .1),
     )
 
 pub compare-places-spec : {M : Type 1} → statement M

@@ -12,7 +12,7 @@ slice-aggregate-put-by-2 : tie.Need-slice-aggregate-put-by-2
 slice-aggregate-put-by-2 c = search needs
 
 put-by-requires : tie.Need-put-by-requires
-put-by-requires c κs = let p = c .before .before .before .before .before .before .pre in ((p .0 .0, p .0 .1, p .0 .2, omega arith, p .0 .3, refl), p .1)
+put-by-requires c κs = let p = c .before .before .before .before .before .before .pre in (p .0, omega arith, refl, p .1)
 
 same-length : tie.Need-same-length
 same-length c = search needs

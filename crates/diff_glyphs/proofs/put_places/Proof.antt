@@ -1,13 +1,7 @@
 -- `diff_glyphs::put_places` meets its contract.
 use Rattle.diff_glyphs.proofs.Laws.{its-rising, its-clusters, its-lists}
-use Rattle.diff_rule.specs.declared.Difference.{Difference}
-use Rattle.diff_rule.specs.Order.{stored}
-use lib.Seq.{sets}
-use lib.ListN.{length}
-use Prim.Native.Nat.{_+_}
+use Rattle.diff_rule.proofs.Stored.{stores-other}
 use native.Mathlib.Omega.{arith}
-use mathlib.Core.List.{List}
-use mathlib.Core.Path.{ap, _∙_}
 use borrow.Author.Needs.{needs}
 use Rattle.diff_glyphs.proofs.put_places.Statement.{statement}
 use Rattle.diff_glyphs.proofs.put_places.Tie as tie
@@ -20,7 +14,7 @@ put-records-requires c κs =
     let a = c .before .before .before .before .before .before .args in
     let p = c .before .before .before .before .before .before .pre in
     let e = c .before .enum-told .given .1 in
-    (its-rising (a .one .now) (a .first) (a .kind) e (p .2), its-rising (a .other .now) (a .second) (a .kind) e (p .3), omega arith)
+    (its-rising (a .one .now) (a .places .first) (a .kind) e (p .2), its-rising (a .other .now) (a .places .second) (a .kind) e (p .3), omega arith)
 
 enum-told-2 : tie.Need-enum-told-2
 enum-told-2 c = search needs
@@ -35,8 +29,8 @@ returns : tie.Need-returns
 returns c =
     let a = c .before .before .before .before .before .before .before .before .before .args in
     let p = c .before .before .put-records in
-    let e = its-clusters (a .direction) (a .one .now) (a .other .now) (a .first) (a .second) (a .kind) (c .before .before .before .before .enum-told .given .1) in
-    (p .ensures .0 ∙ ap (λ (x : List Difference). sets (a .block .now) 0 (stored x)) e, p .ensures .1 ∙ ap (λ (x : List Difference). 0 + length (stored x)) e)
+    let e = its-clusters (a .direction) (a .one .now) (a .other .now) (a .places) (a .kind) (c .before .before .before .before .enum-told .given .1) in
+    stores-other (a .block .now) (p .last .1 .1 .1 .1 .1 .1 .0) 0 (p .result) _ _ e (p .ensures .0)
 
 same-length-2 : tie.Need-same-length-2
 same-length-2 c = search needs
@@ -45,8 +39,8 @@ returns-2 : tie.Need-returns-2
 returns-2 c =
     let a = c .before .before .before .before .before .before .before .before .before .args in
     let p = c .before .before .put-list in
-    let e = its-lists (a .direction) (a .one .now) (a .other .now) (a .first) (a .second) (a .kind) (c .before .before .before .before .enum-told2 .given .1) in
-    (p .ensures .0 ∙ ap (λ (x : List Difference). sets (a .block .now) 0 (stored x)) e, p .ensures .1 ∙ ap (λ (x : List Difference). 0 + length (stored x)) e)
+    let e = its-lists (a .direction) (a .one .now) (a .other .now) (a .places) (a .kind) (c .before .before .before .before .enum-told2 .given .1) in
+    stores-other (a .block .now) (p .last .1 .1 .1 .1 .0) 0 (p .result) _ _ e (p .ensures)
 
 pub put-places-spec : {M : Type 1} → statement M
 put-places-spec =

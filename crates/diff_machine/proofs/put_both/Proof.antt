@@ -27,9 +27,8 @@ returns : tie.Need-returns
 returns c =
     let a = c .before .before .before .before .before .before .before .before .before .before .before .args in
     let p = c .before .before .put-sizes in
-    let e = stores-other (a .list .now) (p .last .1 .1 .0) (a .to) (p .result) _ _
-    (rows-apart (a .direction) (a .one .now) (a .other .now) (a .glyphs) (a .here) (a .there) (λ q. c .before .before .before .before .if1 .taken (c .before .before .before .before .before .before .before .row-count .ensures ∙ q ∙ sym (c .before .before .before .before .before .row-count2 .ensures)))) (p .ensures .0, p .ensures .1) in
-    (e .0, e .1, p .ensures .2)
+    let apart = rows-apart (a .one .now) (a .other .now) (a .machines) (λ q. c .before .before .before .before .if1 .taken (c .before .before .before .before .before .before .before .row-count .ensures ∙ q ∙ sym (c .before .before .before .before .before .row-count2 .ensures))) in
+    (stores-other (a .list .now) (p .last .1 .1 .0) (a .to) (p .result) _ _ apart (p .ensures .0), p .ensures .1)
 
 class-count-requires-2 : tie.Need-class-count-requires-2
 class-count-requires-2 c κs = search needs
@@ -44,22 +43,24 @@ returns-2 : tie.Need-returns-2
 returns-2 c =
     let a = c .before .before .before .before .before .before .before .before .before .before .before .before .before .args in
     let p = c .before .before .put-sizes2 in
-    let e = stores-other (a .list .now) (p .last .1 .1 .0) (a .to) (p .result) _ _
-    (classes-apart (a .direction) (a .one .now) (a .other .now) (a .glyphs) (a .here) (a .there) (sym (c .before .before .before .before .before .before .before .before .before .row-count .ensures) ∙ c .before .before .before .before .before .before .if1 .left ∙ c .before .before .before .before .before .before .before .row-count2 .ensures)
-    (λ q. c .before .before .before .before .if2 .taken (c .before .before .before .before .before .before .before .before .class-count .ensures .0 ∙ q ∙ sym (c .before .before .before .before .before .class-count2 .ensures .0)))) (p .ensures .0, p .ensures .1) in
-    (e .0, e .1, p .ensures .2)
+    let er = sym (c .before .before .before .before .before .before .before .before .before .row-count .ensures) ∙ c .before .before .before .before .before .before .if1 .left ∙ c .before .before .before .before .before .before .before .row-count2 .ensures in
+    let apart = classes-apart (a .one .now) (a .other .now) (a .machines) er (λ q. c .before .before .before .before .if2 .taken (c .before .before .before .before .before .before .before .before .class-count .ensures .0 ∙ q ∙ sym (c .before .before .before .before .before .class-count2 .ensures .0))) in
+    (stores-other (a .list .now) (p .last .1 .1 .0) (a .to) (p .result) _ _ apart (p .ensures .0), p .ensures .1)
 
 put-parts-requires : tie.Need-put-parts-requires
 put-parts-requires c κs =
     let a = c .before .before .before .before .before .before .before .before .before .before .args in
-    let p = c .before .before .before .before .before .before .before .before .before .before .pre in (
-      p .0,
-      p .1,
-      omega (arith, c .before .before .before .before .before .before .row-count .ensures, rows-most (a .one .now) (a .glyphs) (a .here) (p .4)),
+    let p = c .before .before .before .before .before .before .before .before .before .before .pre in
+    let m = a .machines in (
+      record {
+        first = p .0;
+        second = p .1;
+        few = p .2;
+        ones = omega (arith, classes-least (a .one .now) (m .glyphs) (m .first) (p .4));
+        others = omega (arith, classes-least (a .other .now) (m .glyphs) (m .second) (p .5));
+      },
       omega (arith, c .before .before .before .before .before .class-count .ensures .1),
-      omega (arith, classes-least (a .one .now) (a .glyphs) (a .here) (p .4)),
-      omega (arith, classes-least (a .other .now) (a .glyphs) (a .there) (p .5)),
-      p .2,
+      omega (arith, c .before .before .before .before .before .before .row-count .ensures, rows-most (a .one .now) (m .glyphs) (m .first) (p .4)),
       p .3,
     )
 
@@ -70,11 +71,12 @@ returns-3 : tie.Need-returns-3
 returns-3 c =
     let a = c .before .before .before .before .before .before .before .before .before .before .before .before .before .args in
     let p = c .before .before .put-parts in
-    let er = sym (c .before .before .before .before .before .before .before .before .before .row-count .ensures) ∙ c .before .before .before .before .before .before .if1 .left ∙ c .before .before .before .before .before .before .before .row-count2 .ensures in
-    let ec = sym (c .before .before .before .before .before .before .before .before .class-count .ensures .0) ∙ c .before .before .before .before .if2 .left ∙ c .before .before .before .before .before .class-count2 .ensures .0 in
-    let e = stores-other (a .list .now) (p .last .1 .1 .1 .1 .1 .1 .1 .1 .0) (a .to) (p .result) _ _
-    (both-same (a .direction) (a .one .now) (a .other .now) (a .glyphs) (a .here) (a .there) er ec (c .before .before .before .before .before .before .before .before .before .row-count .result) (c .before .before .before .before .before .before .before .before .class-count .result) (c .before .before .before .before .before .before .before .before .before .row-count .ensures) (c .before .before .before .before .before .before .before .before .class-count .ensures .0)) (p .ensures .0, p .ensures .1) in
-    (e .0, e .1, p .ensures .2)
+    let x = c .before .before .before .before .before .before .before .before .before .row-count in
+    let y = c .before .before .before .before .before .before .before .before .class-count in
+    let er = sym (x .ensures) ∙ c .before .before .before .before .before .before .if1 .left ∙ c .before .before .before .before .before .before .before .row-count2 .ensures in
+    let ec = sym (y .ensures .0) ∙ c .before .before .before .before .if2 .left ∙ c .before .before .before .before .before .class-count2 .ensures .0 in
+    let same = both-same (a .one .now) (a .other .now) (a .machines) er ec (x .result) (y .result) (x .ensures) (y .ensures .0) in
+    (stores-other (a .list .now) (p .last .1 .1 .1 .1 .1 .0) (a .to) (p .result) _ _ same (p .ensures .0), p .ensures .1)
 
 pub put-both-spec : {M : Type 1} → statement M
 put-both-spec =

@@ -2,33 +2,31 @@
 use Rattle.diff_machine.proofs.Laws.{classes-whole}
 use Rattle.diff_machine.specs.Machines.{classBy}
 use Rattle.diff_rule.specs.declared.Aspect.the-variants.{Class}
-use Rattle.diff_rule.proofs.Filled.{Filled, filled-none, filled-more, filled-length, through-one}
-use Rattle.diff_rule.specs.Order.{stored}
-use Rattle.diff_rule.specs.Differences.{noted, markSeen}
+use Rattle.diff_rule.proofs.Filled.{Filled, filled-none, filled-next, filled-all, filled-length}
+use Rattle.diff_rule.proofs.Stored.{stores-other}
+use Rattle.diff_rule.specs.Differences.{noted}
 use Rattle.diff_rule.specs.declared.Difference.{Difference}
 use Rattle.diff_rule.specs.declared.Mark.{Mark}
 use Prim.Native.Nat.{ℕ, _+_, _-_, _*_, _≤_, _<_}
-use lib.Seq.{sets}
-use lib.ListN.{length}
 use native.Mathlib.Omega.{arith}
 use mathlib.Core.Option.{Option}
 use mathlib.Core.List.{List}
-use mathlib.Core.Path.{_≡_, sym, ap, _∙_, subst}
+use mathlib.Core.Path.{_≡_, ap}
 use Rattle.diff_machine.proofs.put_classes.Statement.{statement}
 use Rattle.diff_machine.proofs.put_classes.Tie as tie
 
 abbrev Inv-loop : tie.InvT-loop
-Inv-loop one other here there glyphs direction list₀ to classes beside span glyph₀ at₀ list glyph at =
-    (span .from ≤ glyph) × (glyph ≤ span .until) × (at ≤ to + 6 * glyph) × Filled (classBy direction one other here there) list₀ list to at (span .from) glyph
+Inv-loop one other machines list₀ to classes beside span glyph₀ at₀ list glyph at =
+    (span .from ≤ glyph) × (glyph ≤ span .until) × (at ≤ to + 6 * glyph) × Filled (classBy one other machines) list₀ list to at (span .from) glyph
 
 abbrev μ-loop : tie.MeasureT-loop
-μ-loop one other here there glyphs direction list₀ to classes beside span glyph₀ at₀ list glyph at = span .until - glyph
+μ-loop one other machines list₀ to classes beside span glyph₀ at₀ list glyph at = span .until - glyph
 
 class-table-requires : tie.Need-class-table-requires Inv-loop μ-loop
-class-table-requires c κs = c .before .before .before .pre .0
+class-table-requires c κs = c .before .before .before .pre .0 .first
 
 class-table-requires-2 : tie.Need-class-table-requires-2 Inv-loop μ-loop
-class-table-requires-2 c κs = c .before .before .before .before .pre .1
+class-table-requires-2 c κs = c .before .before .before .before .pre .0 .second
 
 class-span-requires : tie.Need-class-span-requires Inv-loop μ-loop
 class-span-requires c κs = (c .before .class-table .ensures .near, c .class-table2 .ensures .near)
@@ -37,22 +35,22 @@ loop-holds : tie.Need-loop-holds Inv-loop μ-loop
 loop-holds c =
     let a = c .before .before .before .before .before .before .args in
     let s = c .class-span in
-    (omega arith, s .ensures .rises, omega arith, filled-none (classBy (a .direction) (a .one .now) (a .other .now) (a .here) (a .there)) (a .list .now) (a .to) (s .result .from))
+    (omega arith, s .ensures .rises, omega arith, filled-none (classBy (a .one .now) (a .other .now) (a .machines)) (a .list .now) (a .to) (s .result .from))
 
 cast-compare-classes : tie.Need-cast-compare-classes Inv-loop μ-loop
-cast-compare-classes c = omega (arith, c .before .before .before .class-span .ensures .most, c .before .before .before .before .before .before .before .before .before .pre .2, c .if1 .taken)
+cast-compare-classes c = omega (arith, c .before .before .before .class-span .ensures .most, c .before .before .before .before .before .before .before .before .before .pre .0 .few, c .if1 .taken)
 
 compare-classes-requires : tie.Need-compare-classes-requires Inv-loop μ-loop
 compare-classes-requires c κs = (c .before .before .before .before .before .class-table .ensures .near, c .before .before .before .before .class-table2 .ensures .near)
 
 cast-put-noted : tie.Need-cast-put-noted Inv-loop μ-loop
-cast-put-noted c = omega (arith, c .before .before .before .before .before .class-span .ensures .most, c .before .before .before .before .before .before .before .before .before .before .before .pre .2, c .before .before .if1 .taken)
+cast-put-noted c = omega (arith, c .before .before .before .before .before .class-span .ensures .most, c .before .before .before .before .before .before .before .before .before .before .before .pre .0 .few, c .before .before .if1 .taken)
 
 put-noted-requires : tie.Need-put-noted-requires Inv-loop μ-loop
-put-noted-requires c κs = omega (arith, c .before .before .before .before .loop .inv .2, c .before .before .before .before .loop .inv .1, c .before .before .before .before .before .class-span .ensures .most, c .before .before .before .before .before .before .before .before .before .before .before .pre .2, c .before .before .before .before .before .before .before .before .before .before .before .pre .3)
+put-noted-requires c κs = omega (arith, c .before .before .before .before .loop .inv .2, c .before .before .before .before .loop .inv .1, c .before .before .before .before .before .class-span .ensures .most, c .before .before .before .before .before .before .before .before .before .before .before .pre .0 .few, c .before .before .before .before .before .before .before .before .before .before .before .pre .1)
 
 add-glyph : tie.Need-add-glyph Inv-loop μ-loop
-add-glyph c = omega (arith, c .before .before .before .before .before .before .before .before .class-span .ensures .most, c .before .before .before .before .before .before .before .before .before .before .before .before .before .before .pre .2, c .before .before .before .before .before .if1 .taken)
+add-glyph c = omega (arith, c .before .before .before .before .before .before .before .before .class-span .ensures .most, c .before .before .before .before .before .before .before .before .before .before .before .before .before .before .pre .0 .few, c .before .before .before .before .before .if1 .taken)
 
 loop-less : tie.Need-loop-less Inv-loop μ-loop
 loop-less c = omega (arith, c .before .before .before .before .before .if1 .taken)
@@ -64,35 +62,34 @@ loop-again c =
     let p = c .before .before .put-noted in
     let s = c .before .before .before .before .before .before .before .before .class-span in
     let o = c .before .before .before .before .compare-classes in
-    let f : ℕ → List Difference = classBy (a .direction) (a .one .now) (a .other .now) (a .here) (a .there) in
+    let f : ℕ → List Difference = classBy (a .one .now) (a .other .now) (a .machines) in
     let g : ℕ = l .glyph in
     let h : g < s .result .until = c .before .before .before .before .before .if1 .taken in
-    let e : g + 1 - g ≡ 1 = omega arith in (
+    let e = o .ensures (a .machines .first) (a .machines .second) (c .before .before .before .before .before .before .before .before .before .before .class-table .ensures) (c .before .before .before .before .before .before .before .before .before .class-table2 .ensures) in (
       omega (arith, l .inv .0),
       omega arith,
-      omega (arith, l .inv .2, p .ensures .2),
-      filled-more f (a .list .now) (l .list) (p .last .0) (a .to) (l .at) (p .result) (s .result .from) g (g + 1) (noted (a .direction) Class g 0 (markSeen (o .result))) (l .inv .0) (omega arith)
-          (ap (λ (m : Option Mark). noted (a .direction) Class g 0 m) (o .ensures (a .here) (a .there) (c .before .before .before .before .before .before .before .before .before .before .class-table .ensures) (c .before .before .before .before .before .before .before .before .before .class-table2 .ensures)) ∙ sym (through-one f (g + 1 - g) g e)) (l .inv .3) (p .ensures .0) (p .ensures .1),
+      omega (arith, l .inv .2, p .ensures .1),
+      filled-next f (a .list .now) (l .list) (p .last .0) (a .to) (l .at) (p .result) (s .result .from) g (l .inv .0) (l .inv .3)
+          (stores-other (l .list) (p .last .0) (l .at) (p .result) _ _ (ap (λ (m : Option Mark). noted (a .machines .direction) Class g 0 m) e) (p .ensures .0)),
     )
 
 same-length : tie.Need-same-length Inv-loop μ-loop
 same-length c =
     let a = c .before .before .before .before .before .before .before .before .before .args in
     let l = c .before .before .loop in
-    filled-length (classBy (a .direction) (a .one .now) (a .other .now) (a .here) (a .there)) (a .list .now) (l .list) (a .to) (l .at) (c .before .before .before .class-span .result .from) (l .glyph) (l .inv .3)
+    filled-length (classBy (a .one .now) (a .other .now) (a .machines)) (a .list .now) (l .list) (a .to) (l .at) (c .before .before .before .class-span .result .from) (l .glyph) (l .inv .3)
 
 returns : tie.Need-returns Inv-loop μ-loop
 returns c =
     let a = c .before .before .before .before .before .before .before .before .before .args in
     let l = c .before .before .loop in
     let s = c .before .before .before .class-span in
-    let f : ℕ → List Difference = classBy (a .direction) (a .one .now) (a .other .now) (a .here) (a .there) in
+    let x = c .before .before .before .before .before .class-table in
+    let y = c .before .before .before .before .class-table2 in
     let e : l .glyph ≡ s .result .until = omega (arith, l .inv .1, c .if1 .left) in
-    let w = subst (λ (k : ℕ). Filled f (a .list .now) (l .list) (a .to) (l .at) (s .result .from) k) e (l .inv .3) in
-    let whole = classes-whole (a .direction) (a .one .now) (a .other .now) (a .glyphs) (a .here) (a .there) (c .before .before .before .before .before .class-table .result) (c .before .before .before .before .class-table2 .result) (s .result) (c .before .before .before .before .before .class-table .ensures) (c .before .before .before .before .class-table2 .ensures) (s .ensures) in (
-      w .list ∙ ap (λ (x : List Difference). sets (a .list .now) (a .to) (stored x)) whole,
-      w .ends ∙ ap (λ (x : List Difference). a .to + length (stored x)) whole,
-      omega (arith, l .inv .2, l .inv .1, s .ensures .most, c .before .before .before .before .before .before .before .before .before .pre .2),
+    let whole = classes-whole (a .one .now) (a .other .now) (a .machines) (x .result) (y .result) (s .result) (x .ensures) (y .ensures) (s .ensures) in (
+      filled-all (classBy (a .one .now) (a .other .now) (a .machines)) (a .list .now) (l .list) (a .to) (l .at) (s .result .from) (l .glyph) (s .result .until) _ e whole (l .inv .3),
+      omega (arith, l .inv .2, l .inv .1, s .ensures .most, c .before .before .before .before .before .before .before .before .before .pre .0 .few),
     )
 
 pub put-classes-spec : {M : Type 1} → statement M

@@ -15,7 +15,7 @@ returns c =
     let a = c .before .before .before .before .before .args in
     let e = stores-other (a .list .now) (a .list .now) (a .to) (a .to) _ _
     (ap₂ (λ (x y : Option Machine). machinesDiffer (a .direction) (a .glyphs) x y) (of-none (a .one .now) (a .glyphs) (a .first) (c .before .if1 .taken)) (of-none (a .other .now) (a .glyphs) (a .second) (c .if2 .taken))) (stores-none (a .list .now) (a .to)) in
-    (e .0, e .1, omega arith)
+    (e, omega arith)
 
 put-sizes-requires : tie.Need-put-sizes-requires
 put-sizes-requires c κs = search needs
@@ -28,8 +28,8 @@ returns-2 c =
     let a = c .before .before .before .before .before .before .before .before .before .args in
     let p = c .before .before .put-sizes in
     let e = stores-other (a .list .now) (p .last .1 .1 .0) (a .to) (p .result) _ _
-    (ap₂ (λ (x y : Option Machine). machinesDiffer (a .direction) (a .glyphs) x y) (of-none (a .one .now) (a .glyphs) (a .first) (c .before .before .before .before .before .if1 .taken)) (of-some (a .other .now) (a .glyphs) (a .second) (c .before .before .before .before .if2 .left))) (p .ensures .0, p .ensures .1) in
-    (e .0, e .1, p .ensures .2)
+    (ap₂ (λ (x y : Option Machine). machinesDiffer (a .direction) (a .glyphs) x y) (of-none (a .one .now) (a .glyphs) (a .first) (c .before .before .before .before .before .if1 .taken)) (of-some (a .other .now) (a .glyphs) (a .second) (c .before .before .before .before .if2 .left))) (p .ensures .0) in
+    (e, p .ensures .1)
 
 put-sizes-requires-2 : tie.Need-put-sizes-requires-2
 put-sizes-requires-2 c κs = search needs
@@ -42,14 +42,14 @@ returns-3 c =
     let a = c .before .before .before .before .before .before .before .before .before .args in
     let p = c .before .before .put-sizes2 in
     let e = stores-other (a .list .now) (p .last .1 .1 .0) (a .to) (p .result) _ _
-    (ap₂ (λ (x y : Option Machine). machinesDiffer (a .direction) (a .glyphs) x y) (of-some (a .one .now) (a .glyphs) (a .first) (c .before .before .before .before .before .if1 .left)) (of-none (a .other .now) (a .glyphs) (a .second) (c .before .before .before .before .if3 .taken))) (p .ensures .0, p .ensures .1) in
-    (e .0, e .1, p .ensures .2)
+    (ap₂ (λ (x y : Option Machine). machinesDiffer (a .direction) (a .glyphs) x y) (of-some (a .one .now) (a .glyphs) (a .first) (c .before .before .before .before .before .if1 .left)) (of-none (a .other .now) (a .glyphs) (a .second) (c .before .before .before .before .if3 .taken))) (p .ensures .0) in
+    (e, p .ensures .1)
 
-add-put-both : tie.Need-add-put-both
-add-put-both c = search needs
+add-t18 : tie.Need-add-t18
+add-t18 c = search needs
 
-add-put-both-2 : tie.Need-add-put-both-2
-add-put-both-2 c = search needs
+add-t19 : tie.Need-add-t19
+add-t19 c = search needs
 
 put-both-requires : tie.Need-put-both-requires
 put-both-requires c κs =
@@ -64,9 +64,9 @@ returns-4 : tie.Need-returns-4
 returns-4 c =
     let a = c .before .before .before .before .before .before .before .before .before .args in
     let p = c .before .before .put-both in
-    let e = stores-other (a .list .now) (p .last .1 .1 .1 .1 .1 .1 .0) (a .to) (p .result) _ _
-    (ap₂ (λ (x y : Option Machine). machinesDiffer (a .direction) (a .glyphs) x y) (of-some (a .one .now) (a .glyphs) (a .first) (c .before .before .before .before .before .if1 .left)) (of-some (a .other .now) (a .glyphs) (a .second) (c .before .before .before .before .if3 .left))) (p .ensures .0, p .ensures .1) in
-    (e .0, e .1, p .ensures .2)
+    let e = stores-other (a .list .now) (p .last .1 .1 .1 .0) (a .to) (p .result) _ _
+    (ap₂ (λ (x y : Option Machine). machinesDiffer (a .direction) (a .glyphs) x y) (of-some (a .one .now) (a .glyphs) (a .first) (c .before .before .before .before .before .if1 .left)) (of-some (a .other .now) (a .glyphs) (a .second) (c .before .before .before .before .if3 .left))) (p .ensures .0) in
+    (e, p .ensures .1)
 
 pub put-machines-spec : {M : Type 1} → statement M
 put-machines-spec =
@@ -79,8 +79,8 @@ put-machines-spec =
     put-sizes-requires-2
     same-length-2
     returns-3
-    add-put-both
-    add-put-both-2
+    add-t18
+    add-t19
     put-both-requires
     same-length-3
     returns-4)

@@ -2,34 +2,30 @@
 use Rattle.diff_machine.proofs.Laws.{row-whole}
 use Rattle.diff_machine.specs.Machines.{cellBy}
 use Rattle.diff_rule.specs.declared.Aspect.the-variants.{Cell}
-use Rattle.diff_rule.proofs.Filled.{Filled, filled-none, filled-more, filled-length, through-one}
-use Rattle.diff_rule.specs.Order.{stored}
-use Rattle.diff_rule.specs.Differences.{noted, markSeen}
-use Rattle.diff_rule.specs.declared.Difference.{Difference}
+use Rattle.diff_rule.proofs.Filled.{Filled, filled-none, filled-next, filled-all, filled-length}
+use Rattle.diff_rule.proofs.Stored.{stores-other}
+use Rattle.diff_rule.specs.Differences.{noted}
 use Rattle.diff_rule.specs.declared.Mark.{Mark}
-use Prim.Native.Nat.{ℕ, _+_, _-_, _*_, _≤_, _<_}
-use lib.Seq.{sets}
-use lib.ListN.{length}
+use Prim.Native.Nat.{_+_, _-_, _*_, _≤_}
 use native.Mathlib.Omega.{arith}
 use mathlib.Core.Option.{Option}
-use mathlib.Core.List.{List}
-use mathlib.Core.Path.{_≡_, sym, ap, _∙_, subst}
+use mathlib.Core.Path.{_≡_, ap}
 use borrow.Author.Needs.{needs}
 use Rattle.diff_machine.proofs.put_row.Statement.{statement}
 use Rattle.diff_machine.proofs.put_row.Tie as tie
 
 abbrev Inv-loop : tie.InvT-loop
-Inv-loop one other here there classes row direction list₀ to class₀ at₀ list class at =
-    (class ≤ classes) × (at ≤ to + 6 * class) × Filled (cellBy direction one other here there row) list₀ list to at 0 class
+Inv-loop one other machines classes row list₀ to class₀ at₀ list class at =
+    (class ≤ classes) × (at ≤ to + 6 * class) × Filled (cellBy one other machines row) list₀ list to at 0 class
 
 abbrev μ-loop : tie.MeasureT-loop
-μ-loop one other here there classes row direction list₀ to class₀ at₀ list class at = classes - class
+μ-loop one other machines classes row list₀ to class₀ at₀ list class at = classes - class
 
 loop-holds : tie.Need-loop-holds Inv-loop μ-loop
-loop-holds c = let a = c .before .before .before .args in (omega arith, omega arith, filled-none (cellBy (a .direction) (a .one .now) (a .other .now) (a .here) (a .there) (a .row)) (a .list .now) (a .to) 0)
+loop-holds c = let a = c .before .before .before .args in (omega arith, omega arith, filled-none (cellBy (a .one .now) (a .other .now) (a .machines) (a .row)) (a .list .now) (a .to) 0)
 
 compare-cells-requires : tie.Need-compare-cells-requires Inv-loop μ-loop
-compare-cells-requires c κs = let p = c .before .before .before .before .before .pre in (p .0, p .1, p .2, omega (arith, p .3), p .4, p .5)
+compare-cells-requires c κs = let p = c .before .before .before .before .before .pre in (p .0 .first, p .0 .second, p .2, omega (arith, p .1), p .0 .ones, p .0 .others)
 
 cast-put-noted : tie.Need-cast-put-noted Inv-loop μ-loop
 cast-put-noted c = search needs
@@ -38,7 +34,7 @@ cast-put-noted-2 : tie.Need-cast-put-noted-2 Inv-loop μ-loop
 cast-put-noted-2 c = search needs
 
 put-noted-requires : tie.Need-put-noted-requires Inv-loop μ-loop
-put-noted-requires c κs = omega (arith, c .before .before .before .loop .inv .1, c .before .before .before .loop .inv .0, c .before .before .before .before .before .before .before .pre .3, c .before .before .before .before .before .before .before .pre .6)
+put-noted-requires c κs = omega (arith, c .before .before .before .loop .inv .1, c .before .before .before .loop .inv .0, c .before .before .before .before .before .before .before .pre .1, c .before .before .before .before .before .before .before .pre .3)
 
 add-class : tie.Need-add-class Inv-loop μ-loop
 add-class c = search needs
@@ -51,31 +47,28 @@ loop-again c =
     let a = c .before .before .before .before .before .before .before .before .before .before .args in
     let l = c .before .before .before .before .before .before .loop in
     let p = c .before .before .put-noted in
-    let f : ℕ → List Difference = cellBy (a .direction) (a .one .now) (a .other .now) (a .here) (a .there) (a .row) in
-    let g : ℕ = l .class in
-    let h : g < a .classes = omega arith in
-    let o : g + 1 - g ≡ 1 = omega arith in (
+    let e = c .before .before .before .before .compare-cells .ensures in (
       omega arith,
-      omega (arith, l .inv .1, p .ensures .2),
-      filled-more f (a .list .now) (l .list) (p .last .0) (a .to) (l .at) (p .result) 0 g (g + 1) (noted (a .direction) Cell (a .row) g (markSeen (c .before .before .before .before .compare-cells .result))) (omega arith) (omega arith)
-          (ap (λ (m : Option Mark). noted (a .direction) Cell (a .row) g m) (c .before .before .before .before .compare-cells .ensures) ∙ sym (through-one f (g + 1 - g) g o)) (l .inv .2) (p .ensures .0) (p .ensures .1),
+      omega (arith, l .inv .1, p .ensures .1),
+      filled-next (cellBy (a .one .now) (a .other .now) (a .machines) (a .row)) (a .list .now) (l .list) (p .last .0) (a .to) (l .at) (p .result) 0 (l .class) (omega arith) (l .inv .2)
+          (stores-other (l .list) (p .last .0) (l .at) (p .result) _ _ (ap (λ (m : Option Mark). noted (a .machines .direction) Cell (a .row) (l .class) m) e) (p .ensures .0)),
     )
 
 same-length : tie.Need-same-length Inv-loop μ-loop
 same-length c =
     let a = c .before .before .before .before .before .args in
     let l = c .before .loop in
-    filled-length (cellBy (a .direction) (a .one .now) (a .other .now) (a .here) (a .there) (a .row)) (a .list .now) (l .list) (a .to) (l .at) 0 (l .class) (l .inv .2)
+    filled-length (cellBy (a .one .now) (a .other .now) (a .machines) (a .row)) (a .list .now) (l .list) (a .to) (l .at) 0 (l .class) (l .inv .2)
 
 returns : tie.Need-returns Inv-loop μ-loop
 returns c =
     let a = c .before .before .before .before .before .args in
     let l = c .before .loop in
-    let f : ℕ → List Difference = cellBy (a .direction) (a .one .now) (a .other .now) (a .here) (a .there) (a .row) in
     let e : l .class ≡ a .classes = omega (arith, l .inv .0) in
-    let w = subst (λ (k : ℕ). Filled f (a .list .now) (l .list) (a .to) (l .at) 0 k) e (l .inv .2) in
-    let whole = row-whole (a .direction) (a .one .now) (a .other .now) (a .here) (a .there) (a .classes) (a .row) in
-    (w .list ∙ ap (λ (x : List Difference). sets (a .list .now) (a .to) (stored x)) whole, w .ends ∙ ap (λ (x : List Difference). a .to + length (stored x)) whole, omega (arith, l .inv .1, l .inv .0, c .before .before .before .before .before .pre .3))
+    let whole = row-whole (a .one .now) (a .other .now) (a .machines) (a .classes) (a .row) in (
+      filled-all (cellBy (a .one .now) (a .other .now) (a .machines) (a .row)) (a .list .now) (l .list) (a .to) (l .at) 0 (l .class) (a .classes) _ e whole (l .inv .2),
+      omega (arith, l .inv .1, l .inv .0, c .before .before .before .before .before .pre .1),
+    )
 
 pub put-row-spec : {M : Type 1} → statement M
 put-row-spec =

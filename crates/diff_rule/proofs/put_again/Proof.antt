@@ -46,14 +46,14 @@ mul-mark c = omega (arith, c .before .before .before .loop .inv .0, c .before .b
 shared-slice-read-mark : tie.Need-shared-slice-read-mark Inv-loop μ-loop
 shared-slice-read-mark c = omega (arith, c .before .before .before .before .loop .inv .0, c .before .before .before .before .before .before .before .pre .0, c .before .before .before .before .before .before .before .pre .1)
 
-add-two : tie.Need-add-two Inv-loop μ-loop
-add-two c = omega (arith, c .before .before .before .before .loop .inv .0, c .before .before .before .before .before .before .before .pre .0, c .before .before .before .before .before .before .before .pre .1)
+add-class : tie.Need-add-class Inv-loop μ-loop
+add-class c = omega (arith, c .before .before .before .before .loop .inv .0, c .before .before .before .before .before .before .before .pre .0, c .before .before .before .before .before .before .before .pre .1)
 
-mul-two : tie.Need-mul-two Inv-loop μ-loop
-mul-two c = omega (arith, c .before .before .before .before .loop .inv .0, c .before .before .before .before .before .before .before .pre .0, c .before .before .before .before .before .before .before .pre .1)
+mul-class : tie.Need-mul-class Inv-loop μ-loop
+mul-class c = omega (arith, c .before .before .before .before .loop .inv .0, c .before .before .before .before .before .before .before .pre .0, c .before .before .before .before .before .before .before .pre .1)
 
-shared-slice-read-two : tie.Need-shared-slice-read-two Inv-loop μ-loop
-shared-slice-read-two c = omega (arith, c .before .before .before .before .before .loop .inv .0, c .before .before .before .before .before .before .before .before .pre .0, c .before .before .before .before .before .before .before .before .pre .1)
+shared-slice-read-class : tie.Need-shared-slice-read-class Inv-loop μ-loop
+shared-slice-read-class c = omega (arith, c .before .before .before .before .before .loop .inv .0, c .before .before .before .before .before .before .before .before .pre .0, c .before .before .before .before .before .before .before .before .pre .1)
 
 put-five-requires : tie.Need-put-five-requires Inv-loop μ-loop
 put-five-requires c κs = omega (arith, c .before .before .before .before .before .before .loop .inv .0, c .before .before .before .before .before .before .loop .inv .1, c .before .before .before .before .before .before .before .before .before .pre .1, c .before .before .before .before .before .before .before .before .before .pre .2)
@@ -111,9 +111,9 @@ put-again-spec =
     add-mark
     mul-mark
     shared-slice-read-mark
-    add-two
-    mul-two
-    shared-slice-read-two
+    add-class
+    mul-class
+    shared-slice-read-class
     put-five-requires
     add-p
     add-at

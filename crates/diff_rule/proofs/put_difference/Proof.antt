@@ -28,7 +28,7 @@ returns c =
     let x = c .before .before .before .before .before .before .before .before .args in
     let d = x .difference in
     c .before .before .put-five .ensures
-    ∙ (λ i. sets (x .list .now) (x .at) (c .before .before .before .before .before .before .direction-number .ensures i ∷ c .before .before .before .before .before .aspect-number .ensures i ∷ c .before .before .before .before .mark-number .ensures i ∷ d .one ∷ d .two ∷ []))
+    ∙ (λ i. sets (x .list .now) (x .at) (c .before .before .before .before .before .before .direction-number .ensures i ∷ c .before .before .before .before .before .aspect-number .ensures i ∷ c .before .before .before .before .mark-number .ensures i ∷ d .subject ∷ d .class ∷ []))
 
 pub put-difference-spec : {M : Type 1} → statement M
 put-difference-spec =

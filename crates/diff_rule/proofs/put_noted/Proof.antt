@@ -4,8 +4,8 @@ use borrow.Author.Needs.{needs}
 use Rattle.diff_rule.proofs.put_noted.Statement.{statement}
 use Rattle.diff_rule.proofs.put_noted.Tie as tie
 
-enum-known-outcome : tie.Need-enum-known-outcome
-enum-known-outcome c = search needs
+enum-known-comparison : tie.Need-enum-known-comparison
+enum-known-comparison c = search needs
 
 enum-told : tie.Need-enum-told
 enum-told c = search needs
@@ -13,7 +13,7 @@ enum-told c = search needs
 returns : tie.Need-returns
 returns c =
     let a = c .before .before .before .args in
-    put-same (a .direction) (a .aspect) (a .one) (a .two) (a .list .now) (a .at) (a .outcome) (c .enum-told .given .1)
+    put-same (a .direction) (a .aspect) (a .subject) (a .class) (a .list .now) (a .at) (a .comparison) (c .enum-told .given .1)
 
 put-difference-requires : tie.Need-put-difference-requires
 put-difference-requires c κs = search needs
@@ -27,13 +27,13 @@ same-length c = search needs
 returns-2 : tie.Need-returns-2
 returns-2 c =
     let a = c .before .before .before .before .before .before .before .before .args in
-    put-differs (a .direction) (a .aspect) (a .one) (a .two) (a .list .now) (a .at) (a .outcome) (c .before .before .before .before .before .outcome .given .0 .0) (c .before .before .put-difference .last .0) (c .before .before .before .before .before .outcome .given .1) (c .before .before .put-difference .ensures)
+    put-differs (a .direction) (a .aspect) (a .subject) (a .class) (a .list .now) (a .at) (a .comparison) (c .before .before .before .before .before .comparison .given .0 .0) (c .before .before .put-difference .last .0) (c .before .before .before .before .before .comparison .given .1) (c .before .before .put-difference .ensures)
 
 pub put-noted-spec : {M : Type 1} → statement M
 put-noted-spec =
     tie.close
     (tie.spec
-    enum-known-outcome
+    enum-known-comparison
     enum-told
     returns
     put-difference-requires

@@ -30,22 +30,25 @@ place-of-requires : tie.Need-place-of-requires
 place-of-requires c κs =
     let a = c .before .before .before .before .before .before .before .before .args in
     let p = c .before .before .before .before .before .before .before .before .pre in
-    (base-near (a .one .now) (a .glyphs) (a .source) (p .1 .0 .0), omega (arith, p .0 .2, p .0 .3), c .before .before .before .before .before .onward .ensures .0 .near)
+    (base-near (a .one .now) (a .sources .glyphs) (a .sources .first) (p .0 .first), omega (arith, p .0 .few, p .2), c .before .before .before .before .before .onward .ensures .0 .near)
 
 place-of-requires-2 : tie.Need-place-of-requires-2
 place-of-requires-2 c κs =
     let a = c .before .before .before .before .before .before .before .before .before .args in
     let p = c .before .before .before .before .before .before .before .before .before .pre in
-    (base-near (a .other .now) (a .glyphs) (a .beside) (p .1 .0 .1), omega (arith, p .0 .2, p .0 .3), c .before .before .before .before .before .onward2 .ensures .0 .near)
+    (base-near (a .other .now) (a .sources .glyphs) (a .sources .second) (p .0 .second), omega (arith, p .0 .few, p .2), c .before .before .before .before .before .onward2 .ensures .0 .near)
 
 returns : tie.Need-returns
 returns c =
     let a = c .before .before .before .before .before .before .before .before .before .before .args in
     let p = c .before .before .before .before .before .before .before .before .before .before .pre in
-    let s : Stretch = record { end = c .before .before .lower2 .result; first = c .before .place-of .result; second = c .place-of2 .result; ones = c .before .before .before .before .before .before .before .onward .result; others = c .before .before .before .before .before .before .onward2 .result } in
-    splits (a .kind) (a .one .now) (a .other .now) (a .glyphs) (a .source) (a .beside) (a .glyph) s (c .before .before .before .before .before .even-end .result) (c .before .before .before .before .even-end2 .result) (p .0 .3)
-    (c .before .before .before .before .before .before .before .onward .ensures .0) (c .before .before .before .before .before .before .onward2 .ensures .0) (c .before .before .before .before .before .even-end .ensures) (c .before .before .before .before .even-end2 .ensures)
-    (c .before .before .lower2 .ensures ∙ ap (λ (k : ℕ). min k (a .glyphs)) (c .before .before .before .lower .ensures)) (c .before .place-of .ensures) (c .place-of2 .ensures)
+    let x = c .before .before .before .before .before .before .before .onward in
+    let y = c .before .before .before .before .before .before .onward2 in
+    let ea = c .before .before .before .before .before .even-end in
+    let eb = c .before .before .before .before .even-end2 in
+    let s : Stretch = record { end = c .before .before .lower2 .result; places = record { first = c .before .place-of .result; second = c .place-of2 .result }; runs = record { first = x .result; second = y .result } } in
+    splits (a .one .now) (a .other .now) (a .sources) (a .glyph) s (record { first = x .ensures .0; second = y .ensures .0 }) (ea .result) (eb .result) (p .2) (ea .ensures) (eb .ensures)
+    (c .before .before .lower2 .ensures ∙ ap (λ (k : ℕ). min k (a .sources .glyphs)) (c .before .before .before .lower .ensures)) (c .before .place-of .ensures) (c .place-of2 .ensures)
 
 pub next-stretch-spec : {M : Type 1} → statement M
 next-stretch-spec =

@@ -15,7 +15,7 @@ use Rattle.table.specs.Table.{tableFault}
 use Rattle.table.specs.Means.{meaningOf}
 use Rattle.diff_rule.specs.declared.Difference.{Difference}
 use Rattle.diff_rule.specs.Differences.{differences}
-use Rattle.diff_rule.specs.Order.{stored}
+use Rattle.diff_rule.specs.Order.{allNumbers}
 
 -- what differs between two tables
 unfoldable pub differencesOf : List ℕ → List ℕ → ℕ → List Difference
@@ -23,28 +23,28 @@ differencesOf t u n = differences (meaningOf t n) (meaningOf u n)
 
 -- ---- how many
 
-unfoldable pub tablesFault : List ℕ → List ℕ → ℕ → Fault
-tablesFault t u n = tableFault t n then tableFault u n
+unfoldable pub eitherFault : List ℕ → List ℕ → ℕ → Fault
+eitherFault t u n = tableFault t n then tableFault u n
 
-unfoldable pub counted : List ℕ → List ℕ → ℕ → Reply
-counted t u n = unlessBad (tablesFault t u n) (number (length (differencesOf t u n)))
+unfoldable pub differencesCounted : List ℕ → List ℕ → ℕ → Reply
+differencesCounted t u n = unlessBad (eitherFault t u n) (number (length (differencesOf t u n)))
 
 -- ---- the list: what is answered, and what the room holds afterwards. A difference takes five numbers of the room.
 
 unfoldable pub listingFault : List ℕ → List ℕ → ℕ → ℕ → Fault
-listingFault t u n room = tablesFault t u n then rule (leb (length (differencesOf t u n)) (room / 5)) ShortRoom 0
+listingFault t u n room = eitherFault t u n then rule (leb (length (differencesOf t u n)) (room / 5)) ShortRoom 0
 
-pub record Listing : Type 0 where
+pub record ListAnswer : Type 0 where
   pub said : Reply
   pub room : List ℕ
 
 -- the list from the room's start on, unless there is a fault
 abbrev pub storedUnless : Fault → List Difference → List ℕ → List ℕ
-storedUnless Clear found room = sets room 0 (stored found)
+storedUnless Clear found room = sets room 0 (allNumbers found)
 storedUnless (Bad r at) found room = room
 
-unfoldable pub listed : List ℕ → List ℕ → ℕ → List ℕ → Listing
-listed t u n room =
+unfoldable pub differencesListed : List ℕ → List ℕ → ℕ → List ℕ → ListAnswer
+differencesListed t u n room =
     record {
       said = unlessBad (listingFault t u n (length room)) (number (length (differencesOf t u n)));
       room = storedUnless (listingFault t u n (length room)) (differencesOf t u n) room;

@@ -2,8 +2,8 @@
 use Rattle.diff_call.proofs.Laws.{first-bad, first-clear}
 use mathlib.Core.Path.{sym, _∙_}
 use borrow.Author.Needs.{needs}
-use Rattle.diff_call.proofs.tables_fault.Statement.{statement}
-use Rattle.diff_call.proofs.tables_fault.Tie as tie
+use Rattle.diff_call.proofs.either_fault.Statement.{statement}
+use Rattle.diff_call.proofs.either_fault.Tie as tie
 
 table-fault-requires : tie.Need-table-fault-requires
 table-fault-requires c κs = search needs
@@ -28,8 +28,8 @@ returns-2 c =
     let a = c .before .before .before .before .before .before .args in
     c .table-fault2 .ensures ∙ first-clear (a .one .now) (a .other .now) (a .count) (sym (c .before .before .before .table-fault .ensures) ∙ c .before .enum-told2 .given .1)
 
-pub tables-fault-spec : {M : Type 1} → statement M
-tables-fault-spec =
+pub either-fault-spec : {M : Type 1} → statement M
+either-fault-spec =
     tie.close
     (tie.spec
     table-fault-requires
