@@ -49,10 +49,6 @@ sizesGiven (entry e) = noSizes 0 0
 sizesGiven (pair p) = noSizes 0 0
 sizesGiven (act a) = noSizes 0 0
 
-abbrev pub sizesIn : Reply → JustSizes
-sizesIn (refused n at) = noSizes at n
-sizesIn (given a) = sizesGiven a
-
 abbrev pub noClass : ℕ → ℕ → JustClass
 noClass at n = record { refusal = n; offset = at; found = false; class = 0 }
 
@@ -63,10 +59,6 @@ classGiven (both s c) = noClass 0 0
 classGiven (entry e) = noClass 0 0
 classGiven (pair p) = noClass 0 0
 classGiven (act a) = noClass 0 0
-
-abbrev pub classIn : Reply → JustClass
-classIn (refused n at) = noClass at n
-classIn (given a) = classGiven a
 
 abbrev pub noEntry : Entry
 noEntry = record { row = 0; flags = 0 }
@@ -81,10 +73,6 @@ cellGiven (number n) = noCell 0 0
 cellGiven (both s c) = noCell 0 0
 cellGiven (pair p) = noCell 0 0
 cellGiven (act a) = noCell 0 0
-
-abbrev pub cellIn : Reply → JustCell
-cellIn (refused n at) = noCell at n
-cellIn (given a) = cellGiven a
 
 abbrev pub noPair : Pair
 noPair =
@@ -106,10 +94,6 @@ recordGiven (both s c) = noRecord 0 0
 recordGiven (entry e) = noRecord 0 0
 recordGiven (act a) = noRecord 0 0
 
-abbrev pub recordIn : Reply → JustRecord
-recordIn (refused n at) = noRecord at n
-recordIn (given a) = recordGiven a
-
 abbrev pub noHeld : ℕ → ℕ → JustAction
 noHeld at n = record { refusal = n; offset = at; found = false; action = noAction }
 
@@ -121,9 +105,25 @@ actionGiven (both s c) = noHeld 0 0
 actionGiven (entry e) = noHeld 0 0
 actionGiven (pair p) = noHeld 0 0
 
+-- an answer as `out` has it, or zeros beside a refusal
+abbrev pub replyIn : {A : Type 0} → (ℕ → ℕ → A) → (Answer → A) → Reply → A
+replyIn none out (refused n at) = none at n
+replyIn none out (given a) = out a
+
+abbrev pub sizesIn : Reply → JustSizes
+sizesIn = replyIn noSizes sizesGiven
+
+abbrev pub classIn : Reply → JustClass
+classIn = replyIn noClass classGiven
+
+abbrev pub cellIn : Reply → JustCell
+cellIn = replyIn noCell cellGiven
+
+abbrev pub recordIn : Reply → JustRecord
+recordIn = replyIn noRecord recordGiven
+
 abbrev pub actionIn : Reply → JustAction
-actionIn (refused n at) = noHeld at n
-actionIn (given a) = actionGiven a
+actionIn = replyIn noHeld actionGiven
 
 -- an action's answer with its room, as it was found or not
 abbrev pub actionOut : Sought → HeldAction → JustAction

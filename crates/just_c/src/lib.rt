@@ -265,20 +265,22 @@ fn action_out(answer: ActionAnswer) -> JustAction
     }
 }
 
+fn length_by(refusal: u32, at: usize, length: u32) -> JustLength
+    ensures { λ r. ⌜ r ≡ record { refusal = refusal; offset = at; length = length } ⌝ }
+{
+    JustLength {
+        refusal,
+        offset: at as u64,
+        length,
+    }
+}
+
 fn length_out(answer: LengthAnswer) -> JustLength
     ensures { λ r. ⌜ r ≡ lengthIn (saysLength answer) ⌝ }
 {
     match answer {
-        LengthAnswer::Length(length) => JustLength {
-            refusal: 0,
-            offset: 0,
-            length,
-        },
-        LengthAnswer::Refused { refusal, at } => JustLength {
-            refusal: fields::number_of(refusal),
-            offset: at as u64,
-            length: 0,
-        },
+        LengthAnswer::Length(length) => length_by(0, 0, length),
+        LengthAnswer::Refused { refusal, at } => length_by(fields::number_of(refusal), at, 0),
     }
 }
 
@@ -286,16 +288,8 @@ fn written_out(answer: WriteAnswer) -> JustLength
     ensures { λ r. ⌜ r ≡ lengthIn (saysWritten answer) ⌝ }
 {
     match answer {
-        WriteAnswer::Written(written) => JustLength {
-            refusal: 0,
-            offset: 0,
-            length: written,
-        },
-        WriteAnswer::Refused { refusal, at } => JustLength {
-            refusal: fields::number_of(refusal),
-            offset: at as u64,
-            length: 0,
-        },
+        WriteAnswer::Written(length) => length_by(0, 0, length),
+        WriteAnswer::Refused { refusal, at } => length_by(fields::number_of(refusal), at, 0),
     }
 }
 

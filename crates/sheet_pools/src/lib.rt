@@ -88,83 +88,30 @@ fn read_by_offsets(
     }
 }
 
-fn read_few(bytes: &[u8], at: usize, sort: Sort, glyphs: usize) -> Read
-    requires { ⌜ (glyphs < 2 ^ 16) × (u32At (now bytes) at ≤ 64) ⌝ }
-    ensures { λ r. ⌜ Parses (counted (itemCode sort)) (Items (item-discrete sort) (SomeItem sort glyphs) glyphs) (now (bytes .entry)) at r ⌝ }
-{
-    let mut offsets = [0usize; 65];
-    let mut numbers = [0u16; 64];
-    let mut firsts = [0u16; 256];
-    read_by_offsets(
-        bytes,
-        at,
-        sort,
-        glyphs,
-        &mut offsets,
-        &mut numbers,
-        &mut firsts,
-    )
-}
-
-fn read_many(bytes: &[u8], at: usize, sort: Sort, glyphs: usize) -> Read
-    requires { ⌜ (glyphs < 2 ^ 16) × (u32At (now bytes) at ≤ 2048) ⌝ }
-    ensures { λ r. ⌜ Parses (counted (itemCode sort)) (Items (item-discrete sort) (SomeItem sort glyphs) glyphs) (now (bytes .entry)) at r ⌝ }
-{
-    let mut offsets = [0usize; 2049];
-    let mut numbers = [0u16; 2048];
-    let mut firsts = [0u16; 8192];
-    read_by_offsets(
-        bytes,
-        at,
-        sort,
-        glyphs,
-        &mut offsets,
-        &mut numbers,
-        &mut firsts,
-    )
-}
-
+// In rooms for any count.
 fn read_any(bytes: &[u8], at: usize, sort: Sort, glyphs: usize) -> Read
     requires { ⌜ glyphs < 2 ^ 16 ⌝ }
     ensures { λ r. ⌜ Parses (counted (itemCode sort)) (Items (item-discrete sort) (SomeItem sort glyphs) glyphs) (now (bytes .entry)) at r ⌝ }
 {
-    let mut offsets = [0usize; 65536];
-    let mut numbers = [0u16; 65536];
+    let mut starts = [0usize; 65536];
+    let mut nums = [0u16; 65536];
     let mut firsts = [0u16; 131072];
-    read_by_offsets(
-        bytes,
-        at,
-        sort,
-        glyphs,
-        &mut offsets,
-        &mut numbers,
-        &mut firsts,
-    )
+    read_by_offsets(bytes, at, sort, glyphs, &mut starts, &mut nums, &mut firsts)
 }
 
-// In larger rooms. It has two callers, so that the compiler leaves it a function of its own: where it is not called, its
-// stack is not touched.
+// In rooms for 2,048 items if they are large enough. It has two callers, so that the compiler leaves it a function of its own: where
+// it is not called, its stack is not touched.
 fn read_more(bytes: &[u8], at: usize, sort: Sort, glyphs: usize) -> Read
     requires { ⌜ glyphs < 2 ^ 16 ⌝ }
     ensures { λ r. ⌜ Parses (counted (itemCode sort)) (Items (item-discrete sort) (SomeItem sort glyphs) glyphs) (now (bytes .entry)) at r ⌝ }
 {
-    let count = fields::u32_at(bytes, at);
-    if count <= 2048 {
-        return read_many(bytes, at, sort, glyphs);
+    if 2048 < fields::u32_at(bytes, at) {
+        return read_any(bytes, at, sort, glyphs);
     }
-    read_any(bytes, at, sort, glyphs)
-}
-
-// In small rooms if they are large enough.
-fn read_short(bytes: &[u8], at: usize, sort: Sort, glyphs: usize) -> Read
-    requires { ⌜ glyphs < 2 ^ 16 ⌝ }
-    ensures { λ r. ⌜ Parses (counted (itemCode sort)) (Items (item-discrete sort) (SomeItem sort glyphs) glyphs) (now (bytes .entry)) at r ⌝ }
-{
-    let count = fields::u32_at(bytes, at);
-    if count <= 64 {
-        return read_few(bytes, at, sort, glyphs);
-    }
-    read_more(bytes, at, sort, glyphs)
+    let mut starts = [0usize; 2049];
+    let mut nums = [0u16; 2048];
+    let mut firsts = [0u16; 8192];
+    read_by_offsets(bytes, at, sort, glyphs, &mut starts, &mut nums, &mut firsts)
 }
 
 // Section 5 or 7: at most as many distinct items as there are glyphs. In rooms as long as the count needs: clearing
@@ -178,6 +125,20 @@ fn read_distinct(bytes: &[u8], at: usize, sort: Sort, glyphs: usize) -> Read
         return read_more(bytes, at, sort, glyphs);
     }
     read_short(bytes, at, sort, glyphs)
+}
+
+// In rooms for 64 items if they are large enough.
+fn read_short(bytes: &[u8], at: usize, sort: Sort, glyphs: usize) -> Read
+    requires { ⌜ glyphs < 2 ^ 16 ⌝ }
+    ensures { λ r. ⌜ Parses (counted (itemCode sort)) (Items (item-discrete sort) (SomeItem sort glyphs) glyphs) (now (bytes .entry)) at r ⌝ }
+{
+    if 64 < fields::u32_at(bytes, at) {
+        return read_more(bytes, at, sort, glyphs);
+    }
+    let mut starts = [0usize; 65];
+    let mut nums = [0u16; 64];
+    let mut firsts = [0u16; 256];
+    read_by_offsets(bytes, at, sort, glyphs, &mut starts, &mut nums, &mut firsts)
 }
 
 // Sections 5 and 6, or 7 and 8: the clusters, or the action lists, of `glyphs` glyphs.

@@ -14,7 +14,7 @@ ghost use Rattle.encoding.specs.Dictionary.{Before, Apart};
 ghost use Rattle.encoding.specs.Tests.{Says};
 ghost use Rattle.cluster.specs.Pairs.{pairAt, pairsAt, clusterAt};
 ghost use Rattle.write_cluster.specs.Hash.{limitsAt, flagsAt, limitsHash, pairHash, clusterHash};
-ghost use Rattle.write_cluster.specs.Words.{limitsWords, flagsWords, afterWords, pairWords, clusterWords};
+ghost use Rattle.write_cluster.specs.Words.{limitsWords, flagsWords, afterWords, pairWords};
 use encoding::Front;
 use types::Flags;
 use types::Limits;
@@ -82,15 +82,8 @@ pub fn same_pair<'a>(one: &'a [u8], other: &'a [u8], a: usize, b: usize) -> bool
     true
 }
 
-// Past the pairs that are the same, of `count` from `first` of one table on and from `second` of the
-// other on.
-fn apart_from<'a>(
-    one: &'a [u8],
-    other: &'a [u8],
-    first: usize,
-    second: usize,
-    count: usize,
-) -> Front
+// Past the pairs that are the same, of `count` from `first` of one table on and from `second` of the other on.
+fn past_same<'a>(one: &'a [u8], other: &'a [u8], first: usize, second: usize, count: usize) -> Front
     requires { ⌜ (first + 24 * count < 2 ^ 60) × (second + 24 * count < 2 ^ 60) ⌝ }
     ensures { λ r. ⌜ (r .a < 2 ^ 61) × (r .b < 2 ^ 61) × Apart pairWords (pairAt (now (one .entry))) (pairAt (now (other .entry))) (pairsAt (now (one .entry)) count first) (pairsAt (now (other .entry)) count second) (r .left) (r .a) (r .b) ⌝ }
 {
@@ -114,25 +107,11 @@ fn same_pairs<'a>(one: &'a [u8], other: &'a [u8], first: usize, second: usize, c
     requires { ⌜ (first + 24 * count < 2 ^ 60) × (second + 24 * count < 2 ^ 60) ⌝ }
     ensures { λ r. ⌜ Says r (pairsAt (now (one .entry)) count first ≡ pairsAt (now (other .entry)) count second) ⌝ }
 {
-    let front = apart_from(one, other, first, second, count);
+    let front = past_same(one, other, first, second, count);
     if front.left == 0 {
         return true;
     }
     false
-}
-
-// Whether positions of two tables hold the same cluster.
-pub fn same_cluster<'a>(one: &'a [u8], other: &'a [u8], first: u16, second: u16) -> bool
-    ensures { λ r. ⌜ Says r (clusterAt (now (one .entry)) first ≡ clusterAt (now (other .entry)) second) ⌝ }
-{
-    let a = first as usize;
-    let b = second as usize;
-    let count = fields::u32_at(one, a);
-    if count == fields::u32_at(other, b) {
-        same_pairs(one, other, a + 4, b + 4, count)
-    } else {
-        false
-    }
 }
 
 fn earlier_limits(a: Limits, b: Limits) -> bool
@@ -187,29 +166,29 @@ fn earlier_pair(table: &[u8], a: usize, b: usize) -> bool
 }
 
 // Whether the `count` pairs from `first` on come before those from `second` on: the first two that differ tell it.
-fn earlier_pairs(table: &[u8], first: usize, second: usize, count: usize) -> bool
+pub fn earlier_pairs(table: &[u8], first: usize, second: usize, count: usize) -> bool
     requires { ⌜ (first + 24 * count < 2 ^ 60) × (second + 24 * count < 2 ^ 60) ⌝ }
     ensures { λ r. ⌜ Says r (Before (many pairWords (pairsAt (now (table .entry)) count first)) (many pairWords (pairsAt (now (table .entry)) count second))) ⌝ }
 {
-    let front = apart_from(table, table, first, second, count);
+    let front = past_same(table, table, first, second, count);
     if front.left == 0 {
         return false;
     }
     earlier_pair(table, front.a, front.b)
 }
 
-// Whether the first of two positions holds the cluster that comes earlier, as words in a dictionary.
-pub fn earlier_cluster(table: &[u8], first: u16, second: u16) -> bool
-    ensures { λ r. ⌜ Says r (Before (clusterWords (clusterAt (now (table .entry)) first)) (clusterWords (clusterAt (now (table .entry)) second))) ⌝ }
+// Whether positions of two tables hold the same cluster.
+pub fn same_cluster<'a>(one: &'a [u8], other: &'a [u8], first: u16, second: u16) -> bool
+    ensures { λ r. ⌜ Says r (clusterAt (now (one .entry)) first ≡ clusterAt (now (other .entry)) second) ⌝ }
 {
     let a = first as usize;
     let b = second as usize;
-    let count = fields::u32_at(table, a);
-    let other = fields::u32_at(table, b);
-    if count != other {
-        return count < other;
+    let count = fields::u32_at(one, a);
+    if count == fields::u32_at(other, b) {
+        same_pairs(one, other, a + 4, b + 4, count)
+    } else {
+        false
     }
-    earlier_pairs(table, a + 4, b + 4, count)
 }
 
 fn limits_hash(limits: Limits) -> usize

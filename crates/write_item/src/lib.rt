@@ -31,14 +31,22 @@ pub fn same_item(table: &[u8], kind: Kind, first: u16, second: u16) -> bool
     }
 }
 
-// Whether the first of two positions holds the item that comes earlier, as words in a dictionary.
+// Whether the first of two positions holds the item that comes earlier, as words in a dictionary: the count is the first word of
+// both kinds.
 pub fn is_earlier(table: &[u8], kind: Kind, first: u16, second: u16) -> bool
     requires { ⌜ length (now table) ≤ 2 ^ 15 ⌝ }
     ensures { λ r. ⌜ Says r (Earlier kind (itemAt kind (now (table .entry)) first) (itemAt kind (now (table .entry)) second)) ⌝ }
 {
+    let a = first as usize;
+    let b = second as usize;
+    let count = fields::u32_at(table, a);
+    let other = fields::u32_at(table, b);
+    if count != other {
+        return count < other;
+    }
     match kind {
-        Kind::Clusters => write_cluster::earlier_cluster(table, first, second),
-        Kind::Lists => write_list::earlier_list(table, first, second),
+        Kind::Clusters => write_cluster::earlier_pairs(table, a + 4, b + 4, count),
+        Kind::Lists => write_list::earlier_actions(table, a + 4, b + 4, count),
     }
 }
 

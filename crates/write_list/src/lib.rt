@@ -12,7 +12,7 @@ ghost use Rattle.encoding.specs.Dictionary.{Before, Apart, listed};
 ghost use Rattle.encoding.specs.Sections.{byte};
 ghost use Rattle.encoding.specs.Tests.{Says};
 ghost use Rattle.write_list.specs.Hash.{weight, actionHash, listHash};
-ghost use Rattle.write_list.specs.Words.{actionWords, listWords};
+ghost use Rattle.write_list.specs.Words.{actionWords};
 ghost use Rattle.actions.specs.Actions.{bytesAt, contentAt, actionAt, actionsAt, listAt};
 use encoding::Front;
 
@@ -27,27 +27,8 @@ fn content_size(table: &[u8], at: usize, ty: usize) -> usize
     actions::data_size(ty)
 }
 
-// Whether the `count` bytes from `first` of one table on are the same as those from `second` of the other on, one at a time.
-fn same_each<'a>(one: &'a [u8], other: &'a [u8], first: usize, second: usize, count: usize) -> bool
-    requires { ⌜ (first + count < 2 ^ 62) × (second + count < 2 ^ 62) ⌝ }
-    ensures { λ r. ⌜ Says r (bytesAt (now (one .entry)) first count ≡ bytesAt (now (other .entry)) second count) ⌝ }
-{
-    let mut a = first;
-    let mut b = second;
-    let mut left = count;
-    while 0 < left {
-        if fields::u8_at(one, a) == fields::u8_at(other, b) {
-            a += 1;
-            b += 1;
-            left -= 1;
-        } else {
-            return false;
-        }
-    }
-    true
-}
-
-// The same, four at a time while four are left.
+// Whether the `count` bytes from `first` of one table on are the same as those from `second` of the other on, four at a time
+// while four are left.
 fn same_bytes<'a>(one: &'a [u8], other: &'a [u8], first: usize, second: usize, count: usize) -> bool
     requires { ⌜ (first + count < 2 ^ 62) × (second + count < 2 ^ 62) ⌝ }
     ensures { λ r. ⌜ Says r (bytesAt (now (one .entry)) first count ≡ bytesAt (now (other .entry)) second count) ⌝ }
@@ -65,6 +46,26 @@ fn same_bytes<'a>(one: &'a [u8], other: &'a [u8], first: usize, second: usize, c
         }
     }
     same_each(one, other, a, b, left)
+}
+
+// The same, one at a time.
+fn same_each<'a>(one: &'a [u8], other: &'a [u8], first: usize, second: usize, count: usize) -> bool
+    requires { ⌜ (first + count < 2 ^ 62) × (second + count < 2 ^ 62) ⌝ }
+    ensures { λ r. ⌜ Says r (bytesAt (now (one .entry)) first count ≡ bytesAt (now (other .entry)) second count) ⌝ }
+{
+    let mut a = first;
+    let mut b = second;
+    let mut left = count;
+    while 0 < left {
+        if fields::u8_at(one, a) == fields::u8_at(other, b) {
+            a += 1;
+            b += 1;
+            left -= 1;
+        } else {
+            return false;
+        }
+    }
+    true
 }
 
 // Whether two actions of one type, in two tables or one lent twice, have the same data.
@@ -102,13 +103,7 @@ fn same_action<'a>(one: &'a [u8], other: &'a [u8], first: usize, second: usize) 
 
 // Past the actions that are the same, of `count` from `first` on and from `second` on. Past the table an action's length is
 // 0, so no action stands much further on.
-fn apart_from<'a>(
-    one: &'a [u8],
-    other: &'a [u8],
-    first: usize,
-    second: usize,
-    count: usize,
-) -> Front
+fn past_same<'a>(one: &'a [u8], other: &'a [u8], first: usize, second: usize, count: usize) -> Front
     requires { ⌜ (length (now one) ≤ 2 ^ 15) × (length (now other) ≤ 2 ^ 15) × ((first < 2 ^ 33) × (second < 2 ^ 33)) ⌝ }
     ensures { λ r. ⌜ (r .a < 2 ^ 60) × (r .b < 2 ^ 60) × Apart actionWords (actionAt (now (one .entry))) (actionAt (now (other .entry))) (actionsAt (now (one .entry)) count first) (actionsAt (now (other .entry)) count second) (r .left) (r .a) (r .b) ⌝ }
 {
@@ -138,7 +133,7 @@ fn same_actions<'a>(
     requires { ⌜ (length (now one) ≤ 2 ^ 15) × (length (now other) ≤ 2 ^ 15) × ((first < 2 ^ 33) × (second < 2 ^ 33)) ⌝ }
     ensures { λ r. ⌜ Says r (actionsAt (now (one .entry)) count first ≡ actionsAt (now (other .entry)) count second) ⌝ }
 {
-    let front = apart_from(one, other, first, second, count);
+    let front = past_same(one, other, first, second, count);
     if front.left == 0 {
         return true;
     }
@@ -218,30 +213,15 @@ fn earlier_action(table: &[u8], first: usize, second: usize) -> bool
 }
 
 // Whether the `count` actions from `first` on come before those from `second` on: the first two that differ tell it.
-fn earlier_actions(table: &[u8], first: usize, second: usize, count: usize) -> bool
+pub fn earlier_actions(table: &[u8], first: usize, second: usize, count: usize) -> bool
     requires { ⌜ (length (now table) ≤ 2 ^ 15) × ((first < 2 ^ 33) × (second < 2 ^ 33)) ⌝ }
     ensures { λ r. ⌜ Says r (Before (many actionWords (actionsAt (now (table .entry)) count first)) (many actionWords (actionsAt (now (table .entry)) count second))) ⌝ }
 {
-    let front = apart_from(table, table, first, second, count);
+    let front = past_same(table, table, first, second, count);
     if front.left == 0 {
         return false;
     }
     earlier_action(table, front.a, front.b)
-}
-
-// Whether the first of two positions holds the list that comes earlier, as words in a dictionary.
-pub fn earlier_list(table: &[u8], first: u16, second: u16) -> bool
-    requires { ⌜ length (now table) ≤ 2 ^ 15 ⌝ }
-    ensures { λ r. ⌜ Says r (Before (listWords (listAt (now (table .entry)) first)) (listWords (listAt (now (table .entry)) second))) ⌝ }
-{
-    let a = first as usize;
-    let b = second as usize;
-    let count = fields::u32_at(table, a);
-    let other = fields::u32_at(table, b);
-    if count != other {
-        return count < other;
-    }
-    earlier_actions(table, a + 4, b + 4, count)
 }
 
 // The running sums of `count` bytes, added up.

@@ -55,14 +55,22 @@ fn put_sections(
     write_runs::put_runs(ends, nums, out, end)
 }
 
-// Stores the two sections for the lookup at `at`, and answers where they end; or, where the rooms do not hold all
-// stretches of glyphs that have the same, stores nothing and answers 0.
-fn put_with(
-    table: &[u8],
+// What is stored: the sections of a kind for `glyphs` glyphs, by the lookup at `at` whose values are offsets from `base`; and
+// from where on.
+struct Pool {
     glyphs: usize,
     kind: Kind,
     at: usize,
     base: usize,
+    to: usize,
+}
+
+// Stores the two sections, and answers where they end; or, where the rooms do not hold all stretches of glyphs that have the
+// same, stores nothing and answers 0. The first four rooms have an element for each stretch, `slots` for each hash, `seen` and
+// `alike` for each position.
+fn put_with(
+    table: &[u8],
+    pool: Pool,
     ends: &mut [u16],
     nums: &mut [u16],
     firsts: &mut [u16],
@@ -71,18 +79,18 @@ fn put_with(
     seen: &mut [u16],
     alike: &mut [u8],
     out: &mut [u8],
-    to: usize,
 ) -> usize
-    requires { ⌜ Numberable kind (now table) glyphs (Source.Lookup at base) × (to < 2 ^ 38) ⌝ }
+    requires { ⌜ Numberable (pool .kind) (now table) (pool .glyphs) (Source.Lookup (pool .at) (pool .base)) × (pool .to < 2 ^ 38) ⌝ }
     requires { ⌜ Rooms (length (now ends)) (length (now nums)) (length (now firsts)) (length (now others)) (length (now slots)) × (Blank (now others) × (Blank (now slots) × (Blank (now seen) × Blank (now alike)))) ⌝ }
-    ensures { λ r. ⌜ Tried kind (now (table .entry)) glyphs (Source.Lookup at base) (length (now (ends .entry))) (now (out .entry)) (now (out .exit)) to r ⌝ }
+    ensures { λ r. ⌜ Tried (pool .kind) (now (table .entry)) (pool .glyphs) (Source.Lookup (pool .at) (pool .base)) (length (now (ends .entry))) (now (out .entry)) (now (out .exit)) (pool .to) r ⌝ }
 {
+    let kind = pool.kind;
     let pass = write_glyphs::number_glyphs(
         table,
-        glyphs,
+        pool.glyphs,
         kind,
-        at,
-        base,
+        pool.at,
+        pool.base,
         ends,
         nums,
         firsts,
@@ -91,147 +99,69 @@ fn put_with(
         seen,
         alike,
     );
-    if pass.glyph < glyphs {
+    if pass.glyph < pool.glyphs {
         return 0;
     }
     let k = pass.items;
     let m = pass.stretches;
-    put_sections(table, kind, &firsts[..k], &ends[..m], &nums[..m], out, to)
-}
-
-// The same with rooms for few stretches, and for a table of at most 512 bytes.
-fn put_small(
-    table: &[u8],
-    glyphs: usize,
-    kind: Kind,
-    at: usize,
-    base: usize,
-    out: &mut [u8],
-    to: usize,
-) -> usize
-    requires { ⌜ Numberable kind (now table) glyphs (Source.Lookup at base) × (to < 2 ^ 38) ⌝ }
-    ensures { λ r. ⌜ Tried kind (now (table .entry)) glyphs (Source.Lookup at base) 128 (now (out .entry)) (now (out .exit)) to r ⌝ }
-{
-    let mut ends = [0u16; 128];
-    let mut nums = [0u16; 128];
-    let mut firsts = [0u16; 128];
-    let mut others = [0u16; 128];
-    let mut slots = [0u16; 251];
-    let mut seen = [0u16; 512];
-    let mut alike = [0u8; 512];
-    put_with(
+    put_sections(
         table,
-        glyphs,
         kind,
-        at,
-        base,
-        &mut ends,
-        &mut nums,
-        &mut firsts,
-        &mut others,
-        &mut slots,
-        &mut seen,
-        &mut alike,
+        &firsts[..k],
+        &ends[..m],
+        &nums[..m],
         out,
-        to,
+        pool.to,
     )
 }
 
-// With rooms for 4,096 stretches, and for any table.
-fn put_medium(
-    table: &[u8],
-    glyphs: usize,
-    kind: Kind,
-    at: usize,
-    base: usize,
-    alike: &mut [u8],
-    out: &mut [u8],
-    to: usize,
-) -> usize
-    requires { ⌜ Numberable kind (now table) glyphs (Source.Lookup at base) × (to < 2 ^ 38) ⌝ }
+// The same with rooms for 4,096 stretches, and for any table.
+fn put_medium(table: &[u8], pool: Pool, alike: &mut [u8], out: &mut [u8]) -> usize
+    requires { ⌜ Numberable (pool .kind) (now table) (pool .glyphs) (Source.Lookup (pool .at) (pool .base)) × (pool .to < 2 ^ 38) ⌝ }
     requires { ⌜ Blank (now alike) ⌝ }
-    ensures { λ r. ⌜ Tried kind (now (table .entry)) glyphs (Source.Lookup at base) 4096 (now (out .entry)) (now (out .exit)) to r ⌝ }
+    ensures { λ r. ⌜ Tried (pool .kind) (now (table .entry)) (pool .glyphs) (Source.Lookup (pool .at) (pool .base)) 4096 (now (out .entry)) (now (out .exit)) (pool .to) r ⌝ }
 {
-    let mut ends = [0u16; 4096];
-    let mut nums = [0u16; 4096];
-    let mut firsts = [0u16; 4096];
-    let mut others = [0u16; 4096];
-    let mut slots = [0u16; 8191];
-    let mut seen = [0u16; 32768];
     put_with(
         table,
-        glyphs,
-        kind,
-        at,
-        base,
-        &mut ends,
-        &mut nums,
-        &mut firsts,
-        &mut others,
-        &mut slots,
-        &mut seen,
+        pool,
+        &mut [0u16; 4096],
+        &mut [0u16; 4096],
+        &mut [0u16; 4096],
+        &mut [0u16; 4096],
+        &mut [0u16; 8191],
+        &mut [0u16; 32768],
         alike,
         out,
-        to,
     )
 }
 
 // With medium rooms. Only units of format 4 can share values, of which is noted what they have in common.
-fn put_by_format(
-    table: &[u8],
-    glyphs: usize,
-    kind: Kind,
-    at: usize,
-    base: usize,
-    out: &mut [u8],
-    to: usize,
-) -> usize
-    requires { ⌜ Numberable kind (now table) glyphs (Source.Lookup at base) × (to < 2 ^ 38) ⌝ }
-    ensures { λ r. ⌜ Tried kind (now (table .entry)) glyphs (Source.Lookup at base) 4096 (now (out .entry)) (now (out .exit)) to r ⌝ }
+fn put_by_format(table: &[u8], pool: Pool, out: &mut [u8]) -> usize
+    requires { ⌜ Numberable (pool .kind) (now table) (pool .glyphs) (Source.Lookup (pool .at) (pool .base)) × (pool .to < 2 ^ 38) ⌝ }
+    ensures { λ r. ⌜ Tried (pool .kind) (now (table .entry)) (pool .glyphs) (Source.Lookup (pool .at) (pool .base)) 4096 (now (out .entry)) (now (out .exit)) (pool .to) r ⌝ }
 {
-    if fields::u16_at(table, at) == 4 {
-        let mut alike = [0u8; 32768];
-        return put_medium(table, glyphs, kind, at, base, &mut alike, out, to);
+    if fields::u16_at(table, pool.at) == 4 {
+        return put_medium(table, pool, &mut [0u8; 32768], out);
     }
-    let mut none = [0u8; 0];
-    put_medium(table, glyphs, kind, at, base, &mut none, out, to)
+    put_medium(table, pool, &mut [0u8; 0], out)
 }
 
 // With rooms for a stretch of each glyph.
-fn put_large(
-    table: &[u8],
-    glyphs: usize,
-    kind: Kind,
-    at: usize,
-    base: usize,
-    out: &mut [u8],
-    to: usize,
-) -> usize
-    requires { ⌜ Numberable kind (now table) glyphs (Source.Lookup at base) × (to < 2 ^ 38) ⌝ }
-    ensures { λ r. ⌜ Tried kind (now (table .entry)) glyphs (Source.Lookup at base) 65536 (now (out .entry)) (now (out .exit)) to r ⌝ }
+fn put_large(table: &[u8], pool: Pool, out: &mut [u8]) -> usize
+    requires { ⌜ Numberable (pool .kind) (now table) (pool .glyphs) (Source.Lookup (pool .at) (pool .base)) × (pool .to < 2 ^ 38) ⌝ }
+    ensures { λ r. ⌜ Tried (pool .kind) (now (table .entry)) (pool .glyphs) (Source.Lookup (pool .at) (pool .base)) 65536 (now (out .entry)) (now (out .exit)) (pool .to) r ⌝ }
 {
-    let mut ends = [0u16; 65536];
-    let mut nums = [0u16; 65536];
-    let mut firsts = [0u16; 65536];
-    let mut others = [0u16; 65536];
-    let mut slots = [0u16; 8191];
-    let mut seen = [0u16; 32768];
-    let mut alike = [0u8; 32768];
     put_with(
         table,
-        glyphs,
-        kind,
-        at,
-        base,
-        &mut ends,
-        &mut nums,
-        &mut firsts,
-        &mut others,
-        &mut slots,
-        &mut seen,
-        &mut alike,
+        pool,
+        &mut [0u16; 65536],
+        &mut [0u16; 65536],
+        &mut [0u16; 65536],
+        &mut [0u16; 65536],
+        &mut [0u16; 8191],
+        &mut [0u16; 32768],
+        &mut [0u8; 32768],
         out,
-        to,
     )
 }
 
@@ -250,46 +180,41 @@ fn has_many_units(table: &[u8], at: usize) -> bool
 }
 
 // With medium rooms if they are large enough.
-fn put_looked(
-    table: &[u8],
-    glyphs: usize,
-    kind: Kind,
-    at: usize,
-    base: usize,
-    out: &mut [u8],
-    to: usize,
-) -> usize
-    requires { ⌜ Numberable kind (now table) glyphs (Source.Lookup at base) × (to < 2 ^ 38) ⌝ }
-    ensures { λ r. ⌜ Placed kind (now (table .entry)) glyphs (Source.Lookup at base) (now (out .entry)) (now (out .exit)) to r ⌝ }
+fn put_looked(table: &[u8], pool: Pool, out: &mut [u8]) -> usize
+    requires { ⌜ Numberable (pool .kind) (now table) (pool .glyphs) (Source.Lookup (pool .at) (pool .base)) × (pool .to < 2 ^ 38) ⌝ }
+    ensures { λ r. ⌜ Placed (pool .kind) (now (table .entry)) (pool .glyphs) (Source.Lookup (pool .at) (pool .base)) (now (out .entry)) (now (out .exit)) (pool .to) r ⌝ }
 {
-    if has_many_units(table, at) {
-        return put_large(table, glyphs, kind, at, base, out, to);
+    if has_many_units(table, pool.at) {
+        return put_large(table, pool, out);
     }
-    let end = put_by_format(table, glyphs, kind, at, base, out, to);
+    let end = put_by_format(table, pool, out);
     if 0 < end {
         return end;
     }
-    put_large(table, glyphs, kind, at, base, out, to)
+    put_large(table, pool, out)
 }
 
-// With small rooms if they are large enough.
-fn put_lookup(
-    table: &[u8],
-    glyphs: usize,
-    kind: Kind,
-    at: usize,
-    base: usize,
-    out: &mut [u8],
-    to: usize,
-) -> usize
-    requires { ⌜ Numberable kind (now table) glyphs (Source.Lookup at base) × (to < 2 ^ 38) ⌝ }
-    ensures { λ r. ⌜ Placed kind (now (table .entry)) glyphs (Source.Lookup at base) (now (out .entry)) (now (out .exit)) to r ⌝ }
+// With rooms for few stretches, and for a table of at most 512 bytes, if they are large enough.
+fn put_lookup(table: &[u8], pool: Pool, out: &mut [u8]) -> usize
+    requires { ⌜ Numberable (pool .kind) (now table) (pool .glyphs) (Source.Lookup (pool .at) (pool .base)) × (pool .to < 2 ^ 38) ⌝ }
+    ensures { λ r. ⌜ Placed (pool .kind) (now (table .entry)) (pool .glyphs) (Source.Lookup (pool .at) (pool .base)) (now (out .entry)) (now (out .exit)) (pool .to) r ⌝ }
 {
-    let end = put_small(table, glyphs, kind, at, base, out, to);
+    let end = put_with(
+        table,
+        pool,
+        &mut [0u16; 128],
+        &mut [0u16; 128],
+        &mut [0u16; 128],
+        &mut [0u16; 128],
+        &mut [0u16; 251],
+        &mut [0u16; 512],
+        &mut [0u8; 512],
+        out,
+    );
     if 0 < end {
         return end;
     }
-    put_looked(table, glyphs, kind, at, base, out, to)
+    put_looked(table, pool, out)
 }
 
 // Stores two counts of 0.
@@ -317,8 +242,15 @@ pub fn put_pool(
         put_none(out, to);
         return to + 8;
     };
+    let pool = Pool {
+        glyphs,
+        kind,
+        at,
+        base,
+        to,
+    };
     if 512 < table.len() {
-        return put_looked(table, glyphs, kind, at, base, out, to);
+        return put_looked(table, pool, out);
     }
-    put_lookup(table, glyphs, kind, at, base, out, to)
+    put_lookup(table, pool, out)
 }

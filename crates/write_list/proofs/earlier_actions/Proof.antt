@@ -6,18 +6,18 @@ use borrow.Author.Needs.{needs}
 use Rattle.write_list.proofs.earlier_actions.Statement.{statement}
 use Rattle.write_list.proofs.earlier_actions.Tie as tie
 
-apart-from-requires : tie.Need-apart-from-requires
-apart-from-requires c κs = search needs
+past-same-requires : tie.Need-past-same-requires
+past-same-requires c κs = search needs
 
 returns : tie.Need-returns
-returns c = none-before actionWords (c .before .before .apart-from .ensures .2 .same (c .if1 .taken))
+returns c = none-before actionWords (c .before .before .past-same .ensures .2 .same (c .if1 .taken))
 
 earlier-action-requires : tie.Need-earlier-action-requires
 earlier-action-requires c κs = search needs
 
 returns-2 : tie.Need-returns-2
-returns-2 c = c .before .before .before .apart-from .ensures .2 .tells (omega (arith, c .before .if1 .left)) (c .earlier-action .result) (c .earlier-action .ensures)
+returns-2 c = c .before .before .before .past-same .ensures .2 .tells (omega (arith, c .before .if1 .left)) (c .earlier-action .result) (c .earlier-action .ensures)
 
 pub earlier-actions-spec : {M : Type 1} → statement M
 earlier-actions-spec =
-    tie.close (tie.spec apart-from-requires returns earlier-action-requires returns-2)
+    tie.close (tie.spec past-same-requires returns earlier-action-requires returns-2)

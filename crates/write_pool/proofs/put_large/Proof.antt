@@ -28,7 +28,8 @@ slice-aggregate-put-with-7 : tie.Need-slice-aggregate-put-with-7
 slice-aggregate-put-with-7 c = search needs
 
 put-with-requires : tie.Need-put-with-requires
-put-with-requires c κs = ((c .before .before .before .before .before .before .before .before .before .before .pre), (fresh 65536 8191 (omega arith), (getD-zeros 65536, (getD-zeros 8191, (getD-zeros 32768, getD-zeros 32768)))))
+put-with-requires c κs =
+    (c .before .before .before .before .before .before .before .before .before .before .pre, (fresh 65536 8191 (omega arith), (getD-zeros 65536, (getD-zeros 8191, (getD-zeros 32768, getD-zeros 32768)))))
 
 same-length : tie.Need-same-length
 same-length c = search needs

@@ -27,7 +27,7 @@ returns : tie.Need-returns
 returns c =
     let a = c .before .before .before .before .before .before .before .before .args in
     let l = c .before .before .put-large in
-    tried-all (a .kind) (a .table .now) (a .glyphs) (Lookup (a .at) (a .base)) (a .out .now) (l .last .1 .1 .1 .1 .1 .0) (a .to) (l .result) (c .before .before .before .before .before .before .before .before .pre .0 .few) (l .ensures)
+    tried-all (a .pool .kind) (a .table .now) (a .pool .glyphs) (Lookup (a .pool .at) (a .pool .base)) (a .out .now) (l .last .1 .1 .0) (a .pool .to) (l .result) (c .before .before .before .before .before .before .before .before .pre .0 .few) (l .ensures)
 
 -- src/lib.rt:275:9
 put-by-format-requires : tie.Need-put-by-format-requires
@@ -55,8 +55,8 @@ returns-3 c =
     let a = c .before .before .before .before .before .before .before .before .before .before .before .before .before .args in
     let m = c .before .before .before .before .before .before .before .put-by-format in
     let l = c .before .before .put-large2 in
-    tried-again (a .kind) (a .table .now) (a .glyphs) (Lookup (a .at) (a .base)) 4096 (a .out .now) (m .last .1 .1 .1 .1 .1 .0) (l .last .1 .1 .1 .1 .1 .0) (a .to) (m .result) (l .result) (c .before .before .before .before .if2 .left) (m .ensures)
-    (tried-all (a .kind) (a .table .now) (a .glyphs) (Lookup (a .at) (a .base)) (m .last .1 .1 .1 .1 .1 .0) (l .last .1 .1 .1 .1 .1 .0) (a .to) (l .result) (c .before .before .before .before .before .before .before .before .before .before .before .before .before .pre .0 .few) (l .ensures))
+    tried-again (a .pool .kind) (a .table .now) (a .pool .glyphs) (Lookup (a .pool .at) (a .pool .base)) 4096 (a .out .now) (m .last .1 .1 .0) (l .last .1 .1 .0) (a .pool .to) (m .result) (l .result) (c .before .before .before .before .if2 .left) (m .ensures)
+    (tried-all (a .pool .kind) (a .table .now) (a .pool .glyphs) (Lookup (a .pool .at) (a .pool .base)) (m .last .1 .1 .0) (l .last .1 .1 .0) (a .pool .to) (l .result) (c .before .before .before .before .before .before .before .before .before .before .before .before .before .pre .0 .few) (l .ensures))
 
 pub put-looked-spec : {M : Type 1} → statement M
 put-looked-spec =

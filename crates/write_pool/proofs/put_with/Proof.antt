@@ -38,23 +38,6 @@ same-length-7 c = search needs
 
 returns : tie.Need-returns
 returns c =
-    let a = (c .before .before .before .before .before .before .before .before .before .before .before .before .before .before .before .before .before .before .before .before .before .before .before .before .before .before .before .before .before .before .before .before .before .args) in
-    let t = a .table .now in
-    let nb = (c .before .before .before .before .before .before .before .before .before .before .before .before .before .before .before .before .number-glyphs) in
-    let es = nb .last .1 .1 .1 .1 .1 .0 in
-    let ns = nb .last .1 .1 .1 .1 .1 .1 .0 in
-    let fs = nb .last .1 .1 .1 .1 .1 .1 .1 .0 in
-    let g = (c .before .before .before .before .before .before .before .before .before .before .before .before .before .before .before .before .before .before .before .before .before .before .before .before .before .before .before .before .before .before .before .before .before .pre) .0 .0 in
-    let o = (c .before .before .before .before .before .before .before .before .before .before .before .before .before .before .before .before .before .before .before .before .before .before .before .before .before .before .before .before .before .before .before .before .before .pre) .1 .0 in
-    tried-full (a .kind) t (a .glyphs) (a .at) (a .base) es ns fs (nb .result) (length (a .ends .now)) (a .out .now) (a .out .now) (a .to) (nb .ensures) ((c .if1) .taken) (omega (arith, nb .kept)) refl
-
-slice-reshare-prefix-put-sections : tie.Need-slice-reshare-prefix-put-sections
-slice-reshare-prefix-put-sections c =
-    let nb = (c .before .before .before .before .before .before .before .before .before .before .before .before .before .before .before .before .number-glyphs) in
-    omega (arith, nb .ensures .few, nb .ensures .fits, nb .kept, (c .before .before .before .before .before .before .before .before .before .before .before .before .before .before .before .before .before .before .before .before .before .before .before .before .before .before .before .before .before .before .before .before .before .pre) .1 .0 .distinct)
-
-slice-aggregate-put-sections : tie.Need-slice-aggregate-put-sections
-slice-aggregate-put-sections c =
     let a = (c .before .before .before .before .before .before .before .before .before .before .before .before .before .before .before .before .before .before .before .before .before .before .before .before .before .before .before .before .before .before .before .before .before .before .args) in
     let t = a .table .now in
     let nb = (c .before .before .before .before .before .before .before .before .before .before .before .before .before .before .before .before .before .number-glyphs) in
@@ -63,13 +46,15 @@ slice-aggregate-put-sections c =
     let fs = nb .last .1 .1 .1 .1 .1 .1 .1 .0 in
     let g = (c .before .before .before .before .before .before .before .before .before .before .before .before .before .before .before .before .before .before .before .before .before .before .before .before .before .before .before .before .before .before .before .before .before .before .pre) .0 .0 in
     let o = (c .before .before .before .before .before .before .before .before .before .before .before .before .before .before .before .before .before .before .before .before .before .before .before .before .before .before .before .before .before .before .before .before .before .before .pre) .1 .0 in
-    sym (length-take-le (nb .result .items) fs (omega (arith, nb .ensures .few, nb .ensures .fits, nb .kept, o .distinct)))
+    tried-full (a .pool .kind) t (a .pool .glyphs) (a .pool .at) (a .pool .base) es ns fs (nb .result) (length (a .ends .now)) (a .out .now) (a .out .now) (a .pool .to) (nb .ensures) ((c .if1) .taken) (omega (arith, nb .kept)) refl
 
-slice-reshare-prefix-put-sections-2 : tie.Need-slice-reshare-prefix-put-sections-2
-slice-reshare-prefix-put-sections-2 c = omega (arith, (c .before .before .before .before .before .before .before .before .before .before .before .before .before .before .before .before .before .number-glyphs) .ensures .fits)
+slice-reshare-prefix-put-sections : tie.Need-slice-reshare-prefix-put-sections
+slice-reshare-prefix-put-sections c =
+    let nb = (c .before .before .before .before .before .before .before .before .before .before .before .before .before .before .before .before .before .number-glyphs) in
+    omega (arith, nb .ensures .few, nb .ensures .fits, nb .kept, (c .before .before .before .before .before .before .before .before .before .before .before .before .before .before .before .before .before .before .before .before .before .before .before .before .before .before .before .before .before .before .before .before .before .before .pre) .1 .0 .distinct)
 
-slice-aggregate-put-sections-2 : tie.Need-slice-aggregate-put-sections-2
-slice-aggregate-put-sections-2 c =
+slice-aggregate-put-sections : tie.Need-slice-aggregate-put-sections
+slice-aggregate-put-sections c =
     let a = (c .before .before .before .before .before .before .before .before .before .before .before .before .before .before .before .before .before .before .before .before .before .before .before .before .before .before .before .before .before .before .before .before .before .before .before .args) in
     let t = a .table .now in
     let nb = (c .before .before .before .before .before .before .before .before .before .before .before .before .before .before .before .before .before .before .number-glyphs) in
@@ -78,15 +63,13 @@ slice-aggregate-put-sections-2 c =
     let fs = nb .last .1 .1 .1 .1 .1 .1 .1 .0 in
     let g = (c .before .before .before .before .before .before .before .before .before .before .before .before .before .before .before .before .before .before .before .before .before .before .before .before .before .before .before .before .before .before .before .before .before .before .before .pre) .0 .0 in
     let o = (c .before .before .before .before .before .before .before .before .before .before .before .before .before .before .before .before .before .before .before .before .before .before .before .before .before .before .before .before .before .before .before .before .before .before .before .pre) .1 .0 in
-    sym (length-take-le (nb .result .stretches) es (nb .ensures .fits))
+    sym (length-take-le (nb .result .items) fs (omega (arith, nb .ensures .few, nb .ensures .fits, nb .kept, o .distinct)))
 
-slice-reshare-prefix-put-sections-3 : tie.Need-slice-reshare-prefix-put-sections-3
-slice-reshare-prefix-put-sections-3 c =
-    let nb = (c .before .before .before .before .before .before .before .before .before .before .before .before .before .before .before .before .before .before .number-glyphs) in
-    omega (arith, nb .ensures .fits, nb .kept, (c .before .before .before .before .before .before .before .before .before .before .before .before .before .before .before .before .before .before .before .before .before .before .before .before .before .before .before .before .before .before .before .before .before .before .before .pre) .1 .0 .each)
+slice-reshare-prefix-put-sections-2 : tie.Need-slice-reshare-prefix-put-sections-2
+slice-reshare-prefix-put-sections-2 c = omega (arith, (c .before .before .before .before .before .before .before .before .before .before .before .before .before .before .before .before .before .before .number-glyphs) .ensures .fits)
 
-slice-aggregate-put-sections-3 : tie.Need-slice-aggregate-put-sections-3
-slice-aggregate-put-sections-3 c =
+slice-aggregate-put-sections-2 : tie.Need-slice-aggregate-put-sections-2
+slice-aggregate-put-sections-2 c =
     let a = (c .before .before .before .before .before .before .before .before .before .before .before .before .before .before .before .before .before .before .before .before .before .before .before .before .before .before .before .before .before .before .before .before .before .before .before .before .args) in
     let t = a .table .now in
     let nb = (c .before .before .before .before .before .before .before .before .before .before .before .before .before .before .before .before .before .before .before .number-glyphs) in
@@ -95,10 +78,15 @@ slice-aggregate-put-sections-3 c =
     let fs = nb .last .1 .1 .1 .1 .1 .1 .1 .0 in
     let g = (c .before .before .before .before .before .before .before .before .before .before .before .before .before .before .before .before .before .before .before .before .before .before .before .before .before .before .before .before .before .before .before .before .before .before .before .before .pre) .0 .0 in
     let o = (c .before .before .before .before .before .before .before .before .before .before .before .before .before .before .before .before .before .before .before .before .before .before .before .before .before .before .before .before .before .before .before .before .before .before .before .before .pre) .1 .0 in
-    sym (length-take-le (nb .result .stretches) ns (omega (arith, nb .ensures .fits, nb .kept, o .each)))
+    sym (length-take-le (nb .result .stretches) es (nb .ensures .fits))
 
-put-sections-requires : tie.Need-put-sections-requires
-put-sections-requires c κs =
+slice-reshare-prefix-put-sections-3 : tie.Need-slice-reshare-prefix-put-sections-3
+slice-reshare-prefix-put-sections-3 c =
+    let nb = (c .before .before .before .before .before .before .before .before .before .before .before .before .before .before .before .before .before .before .before .number-glyphs) in
+    omega (arith, nb .ensures .fits, nb .kept, (c .before .before .before .before .before .before .before .before .before .before .before .before .before .before .before .before .before .before .before .before .before .before .before .before .before .before .before .before .before .before .before .before .before .before .before .before .pre) .1 .0 .each)
+
+slice-aggregate-put-sections-3 : tie.Need-slice-aggregate-put-sections-3
+slice-aggregate-put-sections-3 c =
     let a = (c .before .before .before .before .before .before .before .before .before .before .before .before .before .before .before .before .before .before .before .before .before .before .before .before .before .before .before .before .before .before .before .before .before .before .before .before .before .args) in
     let t = a .table .now in
     let nb = (c .before .before .before .before .before .before .before .before .before .before .before .before .before .before .before .before .before .before .before .before .number-glyphs) in
@@ -107,9 +95,21 @@ put-sections-requires c κs =
     let fs = nb .last .1 .1 .1 .1 .1 .1 .1 .0 in
     let g = (c .before .before .before .before .before .before .before .before .before .before .before .before .before .before .before .before .before .before .before .before .before .before .before .before .before .before .before .before .before .before .before .before .before .before .before .before .before .pre) .0 .0 in
     let o = (c .before .before .before .before .before .before .before .before .before .before .before .before .before .before .before .before .before .before .before .before .before .before .before .before .before .before .before .before .before .before .before .before .before .before .before .before .before .pre) .1 .0 in
-    let all : a .glyphs ≤ nb .result .glyph = omega (arith, (c .before .before .before .before .if1) .left) in
+    sym (length-take-le (nb .result .stretches) ns (omega (arith, nb .ensures .fits, nb .kept, o .each)))
+
+put-sections-requires : tie.Need-put-sections-requires
+put-sections-requires c κs =
+    let a = (c .before .before .before .before .before .before .before .before .before .before .before .before .before .before .before .before .before .before .before .before .before .before .before .before .before .before .before .before .before .before .before .before .before .before .before .before .before .before .args) in
+    let t = a .table .now in
+    let nb = (c .before .before .before .before .before .before .before .before .before .before .before .before .before .before .before .before .before .before .before .before .before .number-glyphs) in
+    let es = nb .last .1 .1 .1 .1 .1 .0 in
+    let ns = nb .last .1 .1 .1 .1 .1 .1 .0 in
+    let fs = nb .last .1 .1 .1 .1 .1 .1 .1 .0 in
+    let g = (c .before .before .before .before .before .before .before .before .before .before .before .before .before .before .before .before .before .before .before .before .before .before .before .before .before .before .before .before .before .before .before .before .before .before .before .before .before .before .pre) .0 .0 in
+    let o = (c .before .before .before .before .before .before .before .before .before .before .before .before .before .before .before .before .before .before .before .before .before .before .before .before .before .before .before .before .before .before .before .before .before .before .before .before .before .before .pre) .1 .0 in
+    let all : a .pool .glyphs ≤ nb .result .glyph = omega (arith, (c .before .before .before .before .if1) .left) in
     let few = length-take-le (nb .result .items) fs (omega (arith, nb .ensures .few, nb .ensures .fits, nb .kept, o .distinct)) in
-    ((g .bytes, (omega (arith, few, nb .ensures .few, pass-few (a .kind) t (a .glyphs) (a .at) (a .base) es ns fs (nb .result) (g .few) (g .short) (nb .ensures) all), pass-short (a .kind) t (a .glyphs) (a .at) (a .base) es ns fs (nb .result) (g .few) (g .short) (nb .ensures) all)), (pass-stretches (a .kind) t (a .glyphs) (a .at) (a .base) es ns fs (nb .result) (g .few) (g .short) (nb .ensures) all (omega (arith, nb .kept, o .each)), (c .before .before .before .before .before .before .before .before .before .before .before .before .before .before .before .before .before .before .before .before .before .before .before .before .before .before .before .before .before .before .before .before .before .before .before .before .before .pre) .0 .1))
+    ((g .bytes, (omega (arith, few, nb .ensures .few, pass-few (a .pool .kind) t (a .pool .glyphs) (a .pool .at) (a .pool .base) es ns fs (nb .result) (g .few) (g .short) (nb .ensures) all), pass-short (a .pool .kind) t (a .pool .glyphs) (a .pool .at) (a .pool .base) es ns fs (nb .result) (g .few) (g .short) (nb .ensures) all)), (pass-stretches (a .pool .kind) t (a .pool .glyphs) (a .pool .at) (a .pool .base) es ns fs (nb .result) (g .few) (g .short) (nb .ensures) all (omega (arith, nb .kept, o .each)), (c .before .before .before .before .before .before .before .before .before .before .before .before .before .before .before .before .before .before .before .before .before .before .before .before .before .before .before .before .before .before .before .before .before .before .before .before .before .before .pre) .0 .1))
 
 same-length-8 : tie.Need-same-length-8
 same-length-8 c = search needs
@@ -137,18 +137,18 @@ same-length-15 c = search needs
 
 returns-2 : tie.Need-returns-2
 returns-2 c =
-    let a = (c .before .before .before .before .before .before .before .before .before .before .before .before .before .before .before .before .before .before .before .before .before .before .before .before .before .before .before .before .before .before .before .before .before .before .before .before .before .before .before .before .args) in
+    let a = (c .before .before .before .before .before .before .before .before .before .before .before .before .before .before .before .before .before .before .before .before .before .before .before .before .before .before .before .before .before .before .before .before .before .before .before .before .before .before .before .before .before .args) in
     let t = a .table .now in
-    let nb = (c .before .before .before .before .before .before .before .before .before .before .before .before .before .before .before .before .before .before .before .before .before .before .before .number-glyphs) in
+    let nb = (c .before .before .before .before .before .before .before .before .before .before .before .before .before .before .before .before .before .before .before .before .before .before .before .before .number-glyphs) in
     let es = nb .last .1 .1 .1 .1 .1 .0 in
     let ns = nb .last .1 .1 .1 .1 .1 .1 .0 in
     let fs = nb .last .1 .1 .1 .1 .1 .1 .1 .0 in
-    let g = (c .before .before .before .before .before .before .before .before .before .before .before .before .before .before .before .before .before .before .before .before .before .before .before .before .before .before .before .before .before .before .before .before .before .before .before .before .before .before .before .before .pre) .0 .0 in
-    let o = (c .before .before .before .before .before .before .before .before .before .before .before .before .before .before .before .before .before .before .before .before .before .before .before .before .before .before .before .before .before .before .before .before .before .before .before .before .before .before .before .before .pre) .1 .0 in
-    let all : a .glyphs ≤ nb .result .glyph = omega (arith, (c .before .before .before .before .before .before .before .if1) .left) in
+    let g = (c .before .before .before .before .before .before .before .before .before .before .before .before .before .before .before .before .before .before .before .before .before .before .before .before .before .before .before .before .before .before .before .before .before .before .before .before .before .before .before .before .before .pre) .0 .0 in
+    let o = (c .before .before .before .before .before .before .before .before .before .before .before .before .before .before .before .before .before .before .before .before .before .before .before .before .before .before .before .before .before .before .before .before .before .before .before .before .before .before .before .before .before .pre) .1 .0 in
+    let all : a .pool .glyphs ≤ nb .result .glyph = omega (arith, (c .before .before .before .before .before .before .before .if1) .left) in
     let w = (c .before .before .put-sections) .ensures in
-    tried-done (a .kind) t (a .glyphs) (Lookup (a .at) (a .base)) (length (a .ends .now)) (a .out .now) ((c .before .before .put-sections) .last .1 .1 .1 .1 .1 .0) (a .to) ((c .before .before .put-sections) .result) (take (nb .result .items) fs) (take (nb .result .stretches) es) (take (nb .result .stretches) ns)
-    (pass-sections (a .kind) t (a .glyphs) (a .at) (a .base) es ns fs (nb .result) (g .few) (g .short) (nb .ensures) all) (w .0) (w .1) (w .2)
+    tried-done (a .pool .kind) t (a .pool .glyphs) (Lookup (a .pool .at) (a .pool .base)) (length (a .ends .now)) (a .out .now) ((c .before .before .put-sections) .last .1 .1 .1 .1 .1 .0) (a .pool .to) ((c .before .before .put-sections) .result) (take (nb .result .items) fs) (take (nb .result .stretches) es) (take (nb .result .stretches) ns)
+    (pass-sections (a .pool .kind) t (a .pool .glyphs) (a .pool .at) (a .pool .base) es ns fs (nb .result) (g .few) (g .short) (nb .ensures) all) (w .0) (w .1) (w .2)
 
 pub put-with-spec : {M : Type 1} → statement M
 put-with-spec =

@@ -1,4 +1,4 @@
--- `write_list::apart_from` meets its contract.
+-- `write_list::past_same` meets its contract.
 use borrow.Author.Needs.{needs}
 use Rattle.write_list.proofs.Laws.{near, same-next, next-same, first-same, actions-cons, actions-read, actions-none}
 use Rattle.write_list.proofs.WordLaws.{action-free}
@@ -12,8 +12,8 @@ use native.Mathlib.Omega.{arith}
 use mathlib.Core.Bool.{Bool}
 use mathlib.Core.Path.{_≡_, sym, _∙_, subst}
 use Prim.Native.Nat.{_<_, _^_}
-use Rattle.write_list.proofs.apart_from.Statement.{statement}
-use Rattle.write_list.proofs.apart_from.Tie as tie
+use Rattle.write_list.proofs.past_same.Statement.{statement}
+use Rattle.write_list.proofs.past_same.Tie as tie
 
 abbrev Inv-loop : tie.InvT-loop
 Inv-loop one other first second count a₀ b₀ left₀ a b left =
@@ -100,8 +100,8 @@ returns-2 c =
       },
     )
 
-pub apart-from-spec : {M : Type 1} → statement M
-apart-from-spec =
+pub past-same-spec : {M : Type 1} → statement M
+past-same-spec =
     tie.close
     (tie.spec
     Inv-loop

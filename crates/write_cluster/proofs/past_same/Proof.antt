@@ -1,4 +1,4 @@
--- `write_cluster::apart_from` meets its contract.
+-- `write_cluster::past_same` meets its contract.
 use borrow.Author.Needs.{needs}
 use Prim.Native.Nat.{_+_, _*_, _<_, _^_}
 use mathlib.Core.Path.{_≡_, sym, _∙_, subst}
@@ -12,8 +12,8 @@ use Rattle.cluster.specs.Pairs.{pairAt, pairsAt}
 use Rattle.write_cluster.specs.Words.{pairWords}
 use Rattle.write_cluster.proofs.Laws.{pairs-cons, pairs-none, same-next, next-same}
 use Rattle.write_cluster.proofs.WordLaws.{pair-free}
-use Rattle.write_cluster.proofs.apart_from.Statement.{statement}
-use Rattle.write_cluster.proofs.apart_from.Tie as tie
+use Rattle.write_cluster.proofs.past_same.Statement.{statement}
+use Rattle.write_cluster.proofs.past_same.Tie as tie
 
 abbrev Inv-loop : tie.InvT-loop
 Inv-loop one other first second count a₀ b₀ left₀ a b left =
@@ -88,8 +88,8 @@ returns-2 c =
       },
     )
 
-pub apart-from-spec : {M : Type 1} → statement M
-apart-from-spec =
+pub past-same-spec : {M : Type 1} → statement M
+past-same-spec =
     tie.close
     (tie.spec
     Inv-loop
