@@ -16,7 +16,7 @@ use Rattle.fields.specs.Laws.{then-assoc, then-clear}
 use Rattle.encoding.specs.Codes.{All}
 use Rattle.table.specs.Table.{tableFault}
 use Rattle.table_laws.specs.Order.{First, Free}
-use Rattle.table_laws.proofs.Faults.{clear-not-bad, rule-bad, chain, chain-first, first-chain, chain-free, free-chain}
+use Rattle.table_laws.proofs.Faults.{rule-bad, chain, chain-first, first-chain, chain-free, free-chain}
 use Rattle.table_laws.proofs.Numbers.{table-number}
 use Rattle.line_rule.specs.Line.{Line}
 use Rattle.fields.specs.Refusals.{numberOf, one-number}
@@ -27,9 +27,6 @@ use Rattle.line_laws.specs.Bars.{sideFor, lineParts}
 
 abbrev pub Spares : Refusal → Fault → Type 0
 Spares r f = (at : ℕ) → f ≡ Bad r at → ⊥
-
-pub clear-spares : {r : Refusal} {f : Fault} → f ≡ Clear → Spares r f
-clear-spares {r} {f} e at q = clear-not-bad e q
 
 -- a table is refused with 1 to 8 alone
 pub table-spares : (t : List ℕ) (n : ℕ) {r : Refusal} → 8 < numberOf r → Spares r (tableFault t n)

@@ -1,4 +1,4 @@
--- Refusal 14 and the class walk (document 01, "The class walk"): a line of an accepted table that nothing before bars is refused with 14 exactly when its walk never
+-- Refusal 14 and the class walk (document 01, "The class walk"): a line is refused with 14 exactly when its table is accepted, nothing before bars it and its walk never
 -- ends; a line that is answered has a walk that ends, with the classes and the count that are answered.
 use Prim.Native.Nat.{ℕ}
 use mathlib.Core.Path.{_≡_, refl, sym, ap, subst}
@@ -9,6 +9,7 @@ use mathlib.Core.List.{List, [], _∷_}
 use lib.Dec.{leb}
 use lib.IntN.{ℤ}
 use lib.ListN.{length}
+use native.Mathlib.Omega.{arith}
 use borrow.Author.Tests.{leb-true, le-leb}
 use Rattle.fields.specs.declared.Refusal.the-variants.{UnequalLengths, LongLine, UnknownEdition, PointSize, Advances, UnknownGlyph, EndlessWalk, StageTotal, ShortRoom}
 use Rattle.fields.specs.declared.Fault.{Fault}
@@ -35,7 +36,7 @@ use Rattle.line_call.specs.Justified.{Lent, lengthsOf, equalLengths, goodSizes,
 use Rattle.line_call.proofs.Theorems.{answered, cleared, walk-ends, walk-never}
 use Rattle.line_laws.specs.Bars.{sideFor, walkLine, NeverEnds, EndsWith, Walkable}
 use Rattle.line_laws.proofs.Tests.{lengths-are, edition-is, sizes-are, advances-are, glyphs-are}
-use Rattle.line_laws.proofs.Refusals.{Spares, clear-spares, rule-spares, only-first, first-after, call-refused}
+use Rattle.line_laws.proofs.Refusals.{Spares, table-spares, rule-spares, only-first, first-after, call-refused}
 
 module _ (t : List ℕ) (n : ℕ) (l : Line) (b : Lent) (bytes : Bytes t) where
   side-machine : Accepted t n → OkMaybe n (sideFor t n l .machine)
@@ -61,12 +62,12 @@ module _ (t : List ℕ) (n : ℕ) (l : Line) (b : Lent) (bytes : Bytes t) where
   of-never none never = absurd never
   of-never (some m) never = ap hasStopped (never-walked (walkMachine m) (walkLine m l) never .1)
 
-  -- REFUSAL 14 exactly when nothing before it bars the line and the walk never ends
-  pub endless : Accepted t n → (justified t n l b .answer ≡ refuses 14 0) ↔ (Walkable n l b × NeverEnds (sideFor t n l .machine) l)
+  -- REFUSAL 14 exactly when the table is accepted, nothing else before it bars the line, and the walk never ends
+  pub endless : (justified t n l b .answer ≡ refuses 14 0) ↔ (Accepted t n × Walkable n l b × NeverEnds (sideFor t n l .machine) l)
   unfolding Accepted
-  endless ok = (
+  endless = (
     λ e. refused (only-first ahead walks behind spared spared-behind (call-refused t n l b EndlessWalk 0 .0 e)),
-    λ h. call-refused t n l b EndlessWalk 0 .1 (first-after ahead walks behind (free (h .0)) (rule-fails EndlessWalk 0 (of-never machine (h .1)))),
+    λ h. call-refused t n l b EndlessWalk 0 .1 (first-after ahead walks behind (free (h .0) (h .1)) (rule-fails EndlessWalk 0 (of-never machine (h .2)))),
   )
     where
       machine : Option Machine
@@ -90,13 +91,13 @@ module _ (t : List ℕ) (n : ℕ) (l : Line) (b : Lent) (bytes : Bytes t) where
       behind = rule (lineFits (partsFor (sideFor t n l) l)) StageTotal 0 ∷ roomTest (sideFor t n l) l (length (b .verdicts)) ∷ []
 
       spared : All (Spares EndlessWalk) ahead
-      spared = (clear-spares ok, (rule-spares UnequalLengths _ refl, (rule-spares LongLine _ refl, (rule-spares UnknownEdition _ refl, (rule-spares PointSize _ refl, (rule-spares Advances _ refl, (rule-spares UnknownGlyph _ refl, tt)))))))
+      spared = (table-spares t n (omega arith), (rule-spares UnequalLengths _ refl, (rule-spares LongLine _ refl, (rule-spares UnknownEdition _ refl, (rule-spares PointSize _ refl, (rule-spares Advances _ refl, (rule-spares UnknownGlyph _ refl, tt)))))))
 
       spared-behind : All (Spares EndlessWalk) behind
       spared-behind = (rule-spares StageTotal _ refl, (rule-spares ShortRoom _ refl, tt))
 
-      free : Walkable n l b → Free ahead
-      free h = (
+      free : Accepted t n → Walkable n l b → Free ahead
+      free ok h = (
         ok,
         (
           rule-clear UnequalLengths 0 (lengths-are l b .1 (h .lengths)),
@@ -113,9 +114,10 @@ module _ (t : List ℕ) (n : ℕ) (l : Line) (b : Lent) (bytes : Bytes t) where
         ),
       )
 
-      refused : Free ahead × (walks ≡ Bad EndlessWalk 0) → Walkable n l b × NeverEnds machine l
-      refused ((_, (p9, (p10, (p18, (p11, (p12, (p13, _))))))), q) =
+      refused : Free ahead × (walks ≡ Bad EndlessWalk 0) → Accepted t n × Walkable n l b × NeverEnds machine l
+      refused ((ok, (p9, (p10, (p18, (p11, (p12, (p13, _))))))), q) =
           let known = glyphs-are n (l .glyphs) .0 (rule-holds _ UnknownGlyph 0 p13) in (
+            ok,
             record {
               lengths = lengths-are l b .0 (rule-holds _ UnequalLengths 0 p9);
               short = leb-true _ _ (rule-holds _ LongLine 0 p10);
