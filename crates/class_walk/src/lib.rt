@@ -117,7 +117,8 @@ fn stops(flags: u16, place: usize, glyphs: usize) -> bool
 
 // The walk of a line by the machine, which stores the glyphs' classes as it gives them. A row is known by where it
 // stands, a marked glyph by its place; the end position is no glyph's place, so a mark there is none. Once 256 entries
-// have stayed at one place, a row was met there twice, since there are no more rows, so the walk never leaves the place.
+// have stayed at one place, the row that comes next was met there before, since there are no more rows, so the walk never
+// leaves the place.
 pub fn walk_line(
     table: &[u8],
     here: usize,

@@ -58,14 +58,14 @@ abbrev pub workedBy : Fault → Side → Line → Worked
 workedBy Clear s l = worked.Done (record { shrink = shrinks l; remainder = remainderOf s l; entries = entriesOf (walkOf (s .machine) l) })
 workedBy (Bad r at) s l = worked.Bad r at
 
--- the sizes of a line's movements, none of which is above that of the widest gap, nor are those of one side together
+-- a line's movements without their sign, none of which is above that of the widest gap, nor are those of one side together
 pub record MovesOf (s : Side) (l : Line) (bs fs : List ℕ) : Type 0 where
   pub before : map (signedOf (shrinks l)) bs ≡ beforeOf s l
   pub after : map (signedOf (shrinks l)) fs ≡ afterOf s l
   pub low-before : total bs ≤ 1073741823
   pub low-after : total fs ≤ 1073741823
 
--- the answer, and what the rooms of the classes and of the movements' sizes hold where nothing bars the line
+-- the answer, and what the rooms of the classes and of the movements hold where nothing bars the line
 pub record WorkedOut (s : Side) (n : ℕ) (l : Line) (answer : Worked) (cs bs fs : List ℕ) : Type 0 where
   pub says : answer ≡ workedBy (workFault s n l) s l
   pub classes : workFault s n l ≡ Clear → cs ≡ classesOf (walkOf (s .machine) l)

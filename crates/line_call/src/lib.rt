@@ -250,8 +250,8 @@ fn barred(refusal: Refusal) -> Worked
     Worked::Bad { refusal, at: 0 }
 }
 
-// Refusals 12 to 15; where nothing bars the line, `held` gets its classes, `befores` and `afters` its movements. `first`
-// and `second` are room for the factors of its sides.
+// Refusals 12 to 15; where nothing bars the line, `held` gets its classes, `befores` and `afters` its movements without
+// their sign. `first` and `second` are room for the factors of its sides.
 fn work_out(
     table: &[u8],
     count: u32,

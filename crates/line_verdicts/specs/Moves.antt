@@ -16,7 +16,7 @@ pub record Moved : Type 0 where
   pub before : List ℤ
   pub after : List ℤ
 
--- the movements given as their sizes, of a line that shrinks or not
+-- the movements given without their sign, of a line that shrinks or not
 abbrev pub moved : Bool → List ℕ → List ℕ → List ℕ → List ℕ → Moved
 moved shrink sizes classes before after =
     record { sizes = sizes; classes = classes; before = map (signedOf shrink) before; after = map (signedOf shrink) after }

@@ -75,7 +75,7 @@ fn fires_here(table: &[u8], at: usize, class: u8, growth: Units, size: u32) -> u
     own_fires(table, at, growth, size)
 }
 
-// What a glyph grows by: its two movements, given as their sizes.
+// What a glyph grows by: its two movements, given without their sign.
 fn growth_at(shrink: bool, before: &[u64], after: &[u64], place: usize) -> Units
     requires { ⌜ (place < length (now before)) × (place < length (now after)) ⌝ }
     requires { ⌜ (getD (now before) place 0 ≤ 1073741823) × (getD (now after) place 0 ≤ 1073741823) ⌝ }
@@ -178,7 +178,7 @@ fn keep_glyph(
     )
 }
 
-// How many verdicts a line has, whose movements are given as their sizes; of each glyph `fired` gets the actions that
+// How many verdicts a line has, whose movements are given without their sign; of each glyph `fired` gets the actions that
 // fire and `substituted` those that substitute, as bits. Where the line has none, both may be left as they were.
 pub fn keep_verdicts<'a, 'b>(
     table: &'a [u8],
