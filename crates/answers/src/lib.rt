@@ -19,16 +19,16 @@ pub enum CountAnswer {
     Refused { refusal: Refusal, at: usize },
 }
 
-// The row count S and the class count of a machine.
-pub enum SizesAnswer {
-    Sizes { rows: u16, classes: u16 },
+// The class of a glyph.
+pub enum ClassAnswer {
+    Class(u8),
     Nothing,
     Refused { refusal: Refusal, at: usize },
 }
 
-// The class of a glyph.
-pub enum ClassAnswer {
-    Class(u8),
+// The row count S and the class count of a machine.
+pub enum SizesAnswer {
+    Sizes { rows: u16, classes: u16 },
     Nothing,
     Refused { refusal: Refusal, at: usize },
 }

@@ -35,7 +35,7 @@ use Rattle.diff_rule.proofs.Through.{through-same, from-start}
 use Rattle.diff_rule.proofs.Filled.{through-within}
 use Rattle.diff_machine.specs.declared.Machines.{Machines}
 use Rattle.diff_machine.specs.declared.Span.{Span}
-use Rattle.diff_machine.specs.Machines.{Spans, classBy, classesBy, cellBy, rowBy, cellsBy, machinesBy}
+use Rattle.diff_machine.specs.Machines.{SizesAt, Spans, classBy, classesBy, cellBy, rowBy, cellsBy, machinesBy}
 
 module _ (t u : List ℕ) (m : Machines) where
   class-equal : (x : ℕ) → classAt t (m .first) x ≡ 1 → classAt u (m .second) x ≡ 1 → classBy t u m x ≡ []
@@ -52,13 +52,13 @@ module _ (t u : List ℕ) (m : Machines) where
       (class-after t (m .first) x (omega (arith, w .first, s .high x l k .0)) (omega (arith, w .first, w .count, s .high x l k .0)))
       (class-after u (m .second) x (omega (arith, v .first, s .high x l k .1)) (omega (arith, v .first, v .count, s .high x l k .1)))))
 
-  pub row-whole : (classes r : ℕ) → through (cellBy t u m r) (classes - 0) 0 ≡ rowBy t u m classes r
+  pub row-whole : (r : ℕ) → through (cellBy t u m r) (m .classes - 0) 0 ≡ rowBy t u m r
   unfolding rowBy
-  row-whole classes r = from-start (cellBy t u m r) classes
+  row-whole r = from-start (cellBy t u m r) (m .classes)
 
-  pub cells-whole : (classes rows : ℕ) → through (rowBy t u m classes) (rows - 0) 0 ≡ cellsBy t u m classes rows
+  pub cells-whole : through (rowBy t u m) (m .rows - 0) 0 ≡ cellsBy t u m
   unfolding cellsBy
-  cells-whole classes rows = from-start (rowBy t u m classes) rows
+  cells-whole = from-start (rowBy t u m) (m .rows)
 
 -- ---- machines of tables
 
@@ -106,40 +106,46 @@ module _ (t u : List ℕ) (m : Machines) where
       (classBy t u m) (m .glyphs) 0
       (λ g h l. ap₂ (λ (x y : Option ℕ). noted (m .direction) Class g 0 (markOf ℕ-discrete x y)) (elem-upto (classAt t (m .first)) (m .glyphs) g (omega arith)) (elem-upto (classAt u (m .second)) (m .glyphs) g (omega arith)))
 
-  module _ (er : rows ≡ rowCount u (m .second)) (ec : classes ≡ classCount u (m .second)) where
-    cell-differs : (r c : ℕ) → r < rows → c < classes → noted (m .direction) Cell r c (markOf Entry-discrete (cellOf one r c) (cellOf other r c)) ≡ cellBy t u m r c
-    cell-differs r c h k =
-        ap₂ (λ (x y : Option Entry). noted (m .direction) Cell r c (markOf Entry-discrete x y)) (cell-read t (m .glyphs) (m .first) r c h k) (cell-read u (m .glyphs) (m .second) r c (omega arith) (omega arith))
-
-    row-differs : (r : ℕ) → r < rows → through (λ c. noted (m .direction) Cell r c (markOf Entry-discrete (cellOf one r c) (cellOf other r c))) classes 0 ≡ rowBy t u m classes r
-    unfolding rowBy
-    row-differs r h =
-        through-same (λ c. noted (m .direction) Cell r c (markOf Entry-discrete (cellOf one r c) (cellOf other r c))) (cellBy t u m r) classes 0
-        (λ c a l. cell-differs r c h (omega arith))
-
-    cells-differ : cellsDiffer (m .direction) one other ≡ cellsBy t u m classes rows
-    unfolding cellsDiffer cellsBy machineAt
-    cells-differ =
-        through-same (λ r. through (λ c. noted (m .direction) Cell r c (markOf Entry-discrete (cellOf one r c) (cellOf other r c))) classes 0)
-        (rowBy t u m classes) rows 0 (λ r a l. row-differs r (omega arith))
-
-    pub both-same : (r c : ℕ) → r ≡ rows → c ≡ classes → classesBy t u m ++ cellsBy t u m c r ≡ machinesBy t u m
-    unfolding machineAt
-    both-same r c qr qc =
-        let b : (same-rows && same-classes) ≡ true = ap₂ (λ (x y : Bool). x && y) (eq-eqb rows (rowCount u (m .second)) er) (eq-eqb classes (classCount u (m .second)) ec) in
-        ap₂ (λ (x y : ℕ). classesBy t u m ++ cellsBy t u m y x) qr qc
-        ∙ ap₂ (λ (x y : List Difference). x ++ y) (sym classes-differ) (sym cells-differ)
-        ∙ ap (λ (x : Bool). cond x parts (noted (m .direction) Sizes 0 0 (some Changed))) (sym b)
-
   sizes-apart : (same-rows && same-classes) ≡ false → noted (m .direction) Sizes 0 0 (some Changed) ≡ machinesBy t u m
   unfolding machineAt
   sizes-apart b = ap (λ (x : Bool). cond x parts (noted (m .direction) Sizes 0 0 (some Changed))) (sym b)
 
-  pub rows-apart : (rows ≡ rowCount u (m .second) → ⊥) → noted (m .direction) Sizes 0 0 (some Changed) ≡ machinesBy t u m
-  rows-apart h = sizes-apart (ap (λ (x : Bool). x && same-classes) (ne-eqb rows (rowCount u (m .second)) h))
+  module _ (s : SizesAt t m) where
+    pub rows-apart : (m .rows ≡ rowCount u (m .second) → ⊥) → noted (m .direction) Sizes 0 0 (some Changed) ≡ machinesBy t u m
+    rows-apart h = sizes-apart (ap (λ (x : Bool). x && same-classes) (ne-eqb rows (rowCount u (m .second)) (λ q. h (s .rows ∙ q))))
 
-  pub classes-apart : rows ≡ rowCount u (m .second) → (classes ≡ classCount u (m .second) → ⊥) → noted (m .direction) Sizes 0 0 (some Changed) ≡ machinesBy t u m
-  classes-apart e h = sizes-apart (ap₂ (λ (x y : Bool). x && y) (eq-eqb rows (rowCount u (m .second)) e) (ne-eqb classes (classCount u (m .second)) h))
+    module _ (er : m .rows ≡ rowCount u (m .second)) where
+      rows-same : same-rows ≡ true
+      rows-same = eq-eqb rows (rowCount u (m .second)) (sym (s .rows) ∙ er)
+
+      pub classes-apart : (m .classes ≡ classCount u (m .second) → ⊥) → noted (m .direction) Sizes 0 0 (some Changed) ≡ machinesBy t u m
+      classes-apart h = sizes-apart (ap₂ (λ (x y : Bool). x && y) rows-same (ne-eqb classes (classCount u (m .second)) (λ q. h (s .classes ∙ q))))
+
+      module _ (ec : m .classes ≡ classCount u (m .second)) where
+        cell-differs : (r c : ℕ) → r < m .rows → c < m .classes → noted (m .direction) Cell r c (markOf Entry-discrete (cellOf one r c) (cellOf other r c)) ≡ cellBy t u m r c
+        cell-differs r c h k =
+            ap₂ (λ (x y : Option Entry). noted (m .direction) Cell r c (markOf Entry-discrete x y))
+            (cell-read t (m .glyphs) (m .first) r c (omega (arith, s .rows)) (omega (arith, s .classes))) (cell-read u (m .glyphs) (m .second) r c (omega arith) (omega arith))
+
+        row-differs : (r : ℕ) → r < m .rows → through (λ c. noted (m .direction) Cell r c (markOf Entry-discrete (cellOf one r c) (cellOf other r c))) (m .classes) 0 ≡ rowBy t u m r
+        unfolding rowBy
+        row-differs r h =
+            through-same (λ c. noted (m .direction) Cell r c (markOf Entry-discrete (cellOf one r c) (cellOf other r c))) (cellBy t u m r) (m .classes) 0
+            (λ c a l. cell-differs r c h (omega arith))
+
+        cells-differ : cellsDiffer (m .direction) one other ≡ cellsBy t u m
+        unfolding cellsDiffer cellsBy machineAt
+        cells-differ =
+            ap₂ (λ (x y : ℕ). through (λ r. through (λ c. noted (m .direction) Cell r c (markOf Entry-discrete (cellOf one r c) (cellOf other r c))) y 0) x 0) (sym (s .rows)) (sym (s .classes))
+            ∙ through-same (λ r. through (λ c. noted (m .direction) Cell r c (markOf Entry-discrete (cellOf one r c) (cellOf other r c))) (m .classes) 0)
+            (rowBy t u m) (m .rows) 0 (λ r a l. row-differs r (omega arith))
+
+        pub both-same : classesBy t u m ++ cellsBy t u m ≡ machinesBy t u m
+        unfolding machineAt
+        both-same =
+            let b : (same-rows && same-classes) ≡ true = ap₂ (λ (x y : Bool). x && y) rows-same (eq-eqb classes (classCount u (m .second)) (sym (s .classes) ∙ ec)) in
+            ap₂ (λ (x y : List Difference). x ++ y) (sym classes-differ) (sym cells-differ)
+            ∙ ap (λ (x : Bool). cond x parts (noted (m .direction) Sizes 0 0 (some Changed))) (sym b)
 
 -- ---- a machine, or none
 

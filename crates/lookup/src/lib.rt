@@ -178,6 +178,22 @@ fn units_fault(table: &[u8], format: usize, count: usize, start: usize) -> Fault
     Fault::Clear
 }
 
+// unitSize, nUnits and the counted units of formats 2, 4 and 6.
+fn counted_fault(table: &[u8], format: usize, at: usize) -> Fault
+    requires { ⌜ at < 2 ^ 32 ⌝ }
+    ensures { λ r. ⌜ r ≡ countedFault (now (table .entry)) format at ⌝ }
+{
+    let size_in = fields::in_table(table, at + 2, 2);
+    let sized = fields::ruled(
+        fields::u16_at(table, at + 2) == unit_size(format),
+        Refusal::BadLookup,
+        at + 2,
+    );
+    let count_in = fields::in_table(table, at + 4, 2);
+    let units = units_fault(table, format, fields::u16_at(table, at + 4), at + 12);
+    fields::then(size_in, fields::then(sized, fields::then(count_in, units)))
+}
+
 // An array of values needs no walk: the first value that is not inside stands past as many as there is room for.
 fn array_fault(table: &[u8], count: usize, start: usize) -> Fault
     requires { ⌜ start < 2 ^ 40 ⌝ }
@@ -214,22 +230,6 @@ fn arrays_fault(table: &[u8], glyphs: usize, at: usize, count: usize, start: usi
         left -= 1;
     }
     Fault::Clear
-}
-
-// unitSize, nUnits and the counted units of formats 2, 4 and 6.
-fn counted_fault(table: &[u8], format: usize, at: usize) -> Fault
-    requires { ⌜ at < 2 ^ 32 ⌝ }
-    ensures { λ r. ⌜ r ≡ countedFault (now (table .entry)) format at ⌝ }
-{
-    let size_in = fields::in_table(table, at + 2, 2);
-    let sized = fields::ruled(
-        fields::u16_at(table, at + 2) == unit_size(format),
-        Refusal::BadLookup,
-        at + 2,
-    );
-    let count_in = fields::in_table(table, at + 4, 2);
-    let units = units_fault(table, format, fields::u16_at(table, at + 4), at + 12);
-    fields::then(size_in, fields::then(sized, fields::then(count_in, units)))
 }
 
 // Format 4.

@@ -27,6 +27,9 @@ pub struct ClassTable {
     pub count: usize,
 }
 
+// The bytes at a machine's offset that are not read; past them stands `here`, its class count, from which its offsets are.
+pub const UNREAD: usize = 8;
+
 // Where the offsets of class table, state array and entry table stand, after the class count.
 const CLASS_TABLE: usize = 2;
 

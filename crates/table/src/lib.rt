@@ -74,7 +74,7 @@ fn machine_part(table: &[u8], glyphs: usize, offset: usize) -> Fault
     if offset == 0 {
         return Fault::Clear;
     }
-    machine::machine_fault(table, glyphs, offset + 8)
+    machine::machine_fault(table, glyphs, offset + machine::UNREAD)
 }
 
 // The lookup of a source, and the clusters or lists that its values lead to.

@@ -49,8 +49,8 @@ fn sizes_of(table: &[u8], count: u32, direction: Direction) -> SizesAnswer
     if offset == 0 {
         return SizesAnswer::Nothing;
     }
-    let rows = machine::row_count(table, offset + 8);
-    let classes = machine::class_count(table, offset + 8);
+    let rows = machine::row_count(table, offset + machine::UNREAD);
+    let classes = machine::class_count(table, offset + machine::UNREAD);
     SizesAnswer::Sizes {
         rows: rows as u16,
         classes: classes as u16,
@@ -68,7 +68,7 @@ fn class_of(table: &[u8], count: u32, direction: Direction, glyph: u16) -> Class
     if offset == 0 {
         return ClassAnswer::Nothing;
     }
-    ClassAnswer::Class(machine::class_of(table, offset + 8, glyph))
+    ClassAnswer::Class(machine::class_of(table, offset + machine::UNREAD, glyph))
 }
 
 // What the cell of a row and a class holds in a direction.
@@ -79,13 +79,18 @@ fn cell_of(table: &[u8], count: u32, direction: Direction, row: u16, class: u16)
     if offset == 0 {
         return CellAnswer::Nothing;
     }
-    if machine::row_count(table, offset + 8) <= row as usize {
+    if machine::row_count(table, offset + machine::UNREAD) <= row as usize {
         return CellAnswer::Nothing;
     }
-    if machine::class_count(table, offset + 8) <= class as usize {
+    if machine::class_count(table, offset + machine::UNREAD) <= class as usize {
         return CellAnswer::Nothing;
     }
-    CellAnswer::Cell(machine::cell(table, offset + 8, row as usize, class as usize))
+    CellAnswer::Cell(machine::cell(
+        table,
+        offset + machine::UNREAD,
+        row as usize,
+        class as usize,
+    ))
 }
 
 // A direction's lookup of a kind.

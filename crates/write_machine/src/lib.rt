@@ -144,5 +144,5 @@ pub fn put_machine(table: &[u8], glyphs: usize, offset: usize, out: &mut [u8], t
         put_none(out, to);
         return to + 16;
     }
-    put_at(table, glyphs, offset + 8, out, to)
+    put_at(table, glyphs, offset + machine::UNREAD, out, to)
 }

@@ -10,17 +10,17 @@ use Rattle.diff_machine.proofs.put_cells.Statement.{statement}
 use Rattle.diff_machine.proofs.put_cells.Tie as tie
 
 abbrev Inv-loop : tie.InvT-loop
-Inv-loop one other machines classes rows list₀ to row₀ at₀ list row at =
-    (row ≤ rows) × (at ≤ to + 2 ^ 20 * row) × Filled (rowBy one other machines classes) list₀ list to at 0 row
+Inv-loop one other machines list₀ to row₀ at₀ list row at =
+    (row ≤ machines .rows) × (at ≤ to + 2 ^ 20 * row) × Filled (rowBy one other machines) list₀ list to at 0 row
 
 abbrev μ-loop : tie.MeasureT-loop
-μ-loop one other machines classes rows list₀ to row₀ at₀ list row at = rows - row
+μ-loop one other machines list₀ to row₀ at₀ list row at = machines .rows - row
 
 loop-holds : tie.Need-loop-holds Inv-loop μ-loop
-loop-holds c = let a = c .before .before .before .args in (omega arith, omega arith, filled-none (rowBy (a .one .now) (a .other .now) (a .machines) (a .classes)) (a .list .now) (a .to) 0)
+loop-holds c = let a = c .before .before .before .args in (omega arith, omega arith, filled-none (rowBy (a .one .now) (a .other .now) (a .machines)) (a .list .now) (a .to) 0)
 
 put-row-requires : tie.Need-put-row-requires Inv-loop μ-loop
-put-row-requires c κs = let p = c .before .before .before .before .before .before .pre in let l = c .before .before .loop in (p .0, p .1, omega (arith, p .2), omega (arith, l .inv .1, l .inv .0, p .2, p .3))
+put-row-requires c κs = let p = c .before .before .before .before .before .before .before .pre in let l = c .before .before .before .loop in (p .0, omega (arith, p .0 .rows), omega (arith, l .inv .1, l .inv .0, p .0 .rows, p .1))
 
 add-row : tie.Need-add-row Inv-loop μ-loop
 add-row c = search needs
@@ -30,28 +30,28 @@ loop-less c = search needs
 
 loop-again : tie.Need-loop-again Inv-loop μ-loop
 loop-again c =
-    let a = c .before .before .before .before .before .before .before .before .before .args in
-    let l = c .before .before .before .before .before .loop in
+    let a = c .before .before .before .before .before .before .before .before .before .before .args in
+    let l = c .before .before .before .before .before .before .loop in
     let p = c .before .before .put-row in (
       omega arith,
       omega (arith, l .inv .1, p .ensures .1),
-      filled-next (rowBy (a .one .now) (a .other .now) (a .machines) (a .classes)) (a .list .now) (l .list) (p .last .1 .1 .1 .1 .1 .0) (a .to) (l .at) (p .result) 0 (l .row) (omega arith) (l .inv .2) (p .ensures .0),
+      filled-next (rowBy (a .one .now) (a .other .now) (a .machines)) (a .list .now) (l .list) (p .last .1 .1 .1 .1 .0) (a .to) (l .at) (p .result) 0 (l .row) (omega arith) (l .inv .2) (p .ensures .0),
     )
 
 same-length : tie.Need-same-length Inv-loop μ-loop
 same-length c =
-    let a = c .before .before .before .before .before .args in
-    let l = c .before .loop in
-    filled-length (rowBy (a .one .now) (a .other .now) (a .machines) (a .classes)) (a .list .now) (l .list) (a .to) (l .at) 0 (l .row) (l .inv .2)
+    let a = c .before .before .before .before .before .before .args in
+    let l = c .before .before .loop in
+    filled-length (rowBy (a .one .now) (a .other .now) (a .machines)) (a .list .now) (l .list) (a .to) (l .at) 0 (l .row) (l .inv .2)
 
 returns : tie.Need-returns Inv-loop μ-loop
 returns c =
-    let a = c .before .before .before .before .before .args in
-    let l = c .before .loop in
-    let e : l .row ≡ a .rows = omega (arith, l .inv .0) in
-    let whole = cells-whole (a .one .now) (a .other .now) (a .machines) (a .classes) (a .rows) in (
-      filled-all (rowBy (a .one .now) (a .other .now) (a .machines) (a .classes)) (a .list .now) (l .list) (a .to) (l .at) 0 (l .row) (a .rows) _ e whole (l .inv .2),
-      omega (arith, l .inv .1, l .inv .0, c .before .before .before .before .before .pre .2),
+    let a = c .before .before .before .before .before .before .args in
+    let l = c .before .before .loop in
+    let e : l .row ≡ a .machines .rows = omega (arith, l .inv .0) in
+    let whole = cells-whole (a .one .now) (a .other .now) (a .machines) in (
+      filled-all (rowBy (a .one .now) (a .other .now) (a .machines)) (a .list .now) (l .list) (a .to) (l .at) 0 (l .row) (a .machines .rows) _ e whole (l .inv .2),
+      omega (arith, l .inv .1, l .inv .0, c .before .before .before .before .before .before .pre .0 .rows),
     )
 
 pub put-cells-spec : {M : Type 1} → statement M

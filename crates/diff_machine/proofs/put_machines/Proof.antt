@@ -45,27 +45,40 @@ returns-3 c =
     (ap₂ (λ (x y : Option Machine). machinesDiffer (a .direction) (a .glyphs) x y) (of-some (a .one .now) (a .glyphs) (a .first) (c .before .before .before .before .before .if1 .left)) (of-none (a .other .now) (a .glyphs) (a .second) (c .before .before .before .before .if3 .taken))) (p .ensures .0) in
     (e, p .ensures .1)
 
-add-t18 : tie.Need-add-t18
-add-t18 c = search needs
+add-here : tie.Need-add-here
+add-here c = search needs
 
 add-t19 : tie.Need-add-t19
 add-t19 c = search needs
 
+row-count-requires : tie.Need-row-count-requires
+row-count-requires c κs = search needs
+
+class-count-requires : tie.Need-class-count-requires
+class-count-requires c κs = search needs
+
 put-both-requires : tie.Need-put-both-requires
 put-both-requires c κs =
-    let a = c .before .before .before .before .before .before .args in
-    let p = c .before .before .before .before .before .before .pre in
-    (omega (arith, p .0), omega (arith, p .1), p .2, p .3, part-some (a .one .now) (a .glyphs) (a .first) (c .before .before .if1 .left) (p .4), part-some (a .other .now) (a .glyphs) (a .second) (c .before .if3 .left) (p .5))
+    let a = c .before .before .before .before .before .before .before .before .args in
+    let p = c .before .before .before .before .before .before .before .before .pre in (
+      omega (arith, p .0),
+      omega (arith, p .1),
+      p .2,
+      p .3,
+      part-some (a .one .now) (a .glyphs) (a .first) (c .before .before .before .before .if1 .left) (p .4),
+      part-some (a .other .now) (a .glyphs) (a .second) (c .before .before .before .if3 .left) (p .5),
+      record { rows = c .before .before .row-count .ensures; classes = c .before .class-count .ensures .0 },
+    )
 
 same-length-3 : tie.Need-same-length-3
 same-length-3 c = search needs
 
 returns-4 : tie.Need-returns-4
 returns-4 c =
-    let a = c .before .before .before .before .before .before .before .before .before .args in
+    let a = c .before .before .before .before .before .before .before .before .before .before .before .args in
     let p = c .before .before .put-both in
     let e = stores-other (a .list .now) (p .last .1 .1 .1 .0) (a .to) (p .result) _ _
-    (ap₂ (λ (x y : Option Machine). machinesDiffer (a .direction) (a .glyphs) x y) (of-some (a .one .now) (a .glyphs) (a .first) (c .before .before .before .before .before .if1 .left)) (of-some (a .other .now) (a .glyphs) (a .second) (c .before .before .before .before .if3 .left))) (p .ensures .0) in
+    (ap₂ (λ (x y : Option Machine). machinesDiffer (a .direction) (a .glyphs) x y) (of-some (a .one .now) (a .glyphs) (a .first) (c .before .before .before .before .before .before .before .if1 .left)) (of-some (a .other .now) (a .glyphs) (a .second) (c .before .before .before .before .before .before .if3 .left))) (p .ensures .0) in
     (e, p .ensures .1)
 
 pub put-machines-spec : {M : Type 1} → statement M
@@ -79,8 +92,10 @@ put-machines-spec =
     put-sizes-requires-2
     same-length-2
     returns-3
-    add-t18
+    add-here
     add-t19
+    row-count-requires
+    class-count-requires
     put-both-requires
     same-length-3
     returns-4)

@@ -7,10 +7,10 @@ use Rattle.diff_machine.proofs.put_parts.Statement.{statement}
 use Rattle.diff_machine.proofs.put_parts.Tie as tie
 
 put-classes-requires : tie.Need-put-classes-requires
-put-classes-requires c κs = let p = c .before .before .before .before .pre in (p .0, omega (arith, p .3))
+put-classes-requires c κs = let p = c .before .before .before .before .pre in (p .0, omega (arith, p .1))
 
 put-cells-requires : tie.Need-put-cells-requires
-put-cells-requires c κs = let p = c .before .before .before .before .before .before .before .before .pre in (p .0, p .1, p .2, omega (arith, p .3, c .before .before .before .put-classes .ensures .1))
+put-cells-requires c κs = let p = c .before .before .before .before .before .before .before .before .pre in (p .0, omega (arith, p .1, c .before .before .before .put-classes .ensures .1))
 
 same-length : tie.Need-same-length
 same-length c = search needs
@@ -20,8 +20,8 @@ returns c =
     let a = c .before .before .before .before .before .before .before .before .before .before .before .args in
     let x = c .before .before .before .before .before .before .put-classes in
     let y = c .before .before .put-cells in (
-      stores-two (classesBy (a .one .now) (a .other .now) (a .machines)) (cellsBy (a .one .now) (a .other .now) (a .machines) (a .classes) (a .rows))
-          (a .list .now) (x .last .1 .1 .1 .0) (y .last .1 .1 .1 .1 .1 .0) (a .to) (x .result) (y .result) (x .ensures .0) (y .ensures .0),
+      stores-two (classesBy (a .one .now) (a .other .now) (a .machines)) (cellsBy (a .one .now) (a .other .now) (a .machines))
+          (a .list .now) (x .last .1 .1 .1 .0) (y .last .1 .1 .1 .0) (a .to) (x .result) (y .result) (x .ensures .0) (y .ensures .0),
       omega (arith, x .ensures .1, y .ensures .1),
     )
 

@@ -15,17 +15,17 @@ use Rattle.diff_machine.proofs.put_row.Statement.{statement}
 use Rattle.diff_machine.proofs.put_row.Tie as tie
 
 abbrev Inv-loop : tie.InvT-loop
-Inv-loop one other machines classes row list₀ to class₀ at₀ list class at =
-    (class ≤ classes) × (at ≤ to + 6 * class) × Filled (cellBy one other machines row) list₀ list to at 0 class
+Inv-loop one other machines row list₀ to class₀ at₀ list class at =
+    (class ≤ machines .classes) × (at ≤ to + 6 * class) × Filled (cellBy one other machines row) list₀ list to at 0 class
 
 abbrev μ-loop : tie.MeasureT-loop
-μ-loop one other machines classes row list₀ to class₀ at₀ list class at = classes - class
+μ-loop one other machines row list₀ to class₀ at₀ list class at = machines .classes - class
 
 loop-holds : tie.Need-loop-holds Inv-loop μ-loop
 loop-holds c = let a = c .before .before .before .args in (omega arith, omega arith, filled-none (cellBy (a .one .now) (a .other .now) (a .machines) (a .row)) (a .list .now) (a .to) 0)
 
 compare-cells-requires : tie.Need-compare-cells-requires Inv-loop μ-loop
-compare-cells-requires c κs = let p = c .before .before .before .before .before .pre in (p .0 .first, p .0 .second, p .2, omega (arith, p .1), p .0 .ones, p .0 .others)
+compare-cells-requires c κs = let p = c .before .before .before .before .before .before .pre in (p .0 .first, p .0 .second, p .1, omega (arith, p .0 .classes), p .0 .ones, p .0 .others)
 
 cast-put-noted : tie.Need-cast-put-noted Inv-loop μ-loop
 cast-put-noted c = search needs
@@ -34,7 +34,7 @@ cast-put-noted-2 : tie.Need-cast-put-noted-2 Inv-loop μ-loop
 cast-put-noted-2 c = search needs
 
 put-noted-requires : tie.Need-put-noted-requires Inv-loop μ-loop
-put-noted-requires c κs = omega (arith, c .before .before .before .loop .inv .1, c .before .before .before .loop .inv .0, c .before .before .before .before .before .before .before .pre .1, c .before .before .before .before .before .before .before .pre .3)
+put-noted-requires c κs = omega (arith, c .before .before .before .before .loop .inv .1, c .before .before .before .before .loop .inv .0, c .before .before .before .before .before .before .before .before .pre .0 .classes, c .before .before .before .before .before .before .before .before .pre .2)
 
 add-class : tie.Need-add-class Inv-loop μ-loop
 add-class c = search needs
@@ -44,8 +44,8 @@ loop-less c = search needs
 
 loop-again : tie.Need-loop-again Inv-loop μ-loop
 loop-again c =
-    let a = c .before .before .before .before .before .before .before .before .before .before .args in
-    let l = c .before .before .before .before .before .before .loop in
+    let a = c .before .before .before .before .before .before .before .before .before .before .before .args in
+    let l = c .before .before .before .before .before .before .before .loop in
     let p = c .before .before .put-noted in
     let e = c .before .before .before .before .compare-cells .ensures in (
       omega arith,
@@ -56,18 +56,18 @@ loop-again c =
 
 same-length : tie.Need-same-length Inv-loop μ-loop
 same-length c =
-    let a = c .before .before .before .before .before .args in
-    let l = c .before .loop in
+    let a = c .before .before .before .before .before .before .args in
+    let l = c .before .before .loop in
     filled-length (cellBy (a .one .now) (a .other .now) (a .machines) (a .row)) (a .list .now) (l .list) (a .to) (l .at) 0 (l .class) (l .inv .2)
 
 returns : tie.Need-returns Inv-loop μ-loop
 returns c =
-    let a = c .before .before .before .before .before .args in
-    let l = c .before .loop in
-    let e : l .class ≡ a .classes = omega (arith, l .inv .0) in
-    let whole = row-whole (a .one .now) (a .other .now) (a .machines) (a .classes) (a .row) in (
-      filled-all (cellBy (a .one .now) (a .other .now) (a .machines) (a .row)) (a .list .now) (l .list) (a .to) (l .at) 0 (l .class) (a .classes) _ e whole (l .inv .2),
-      omega (arith, l .inv .1, l .inv .0, c .before .before .before .before .before .pre .1),
+    let a = c .before .before .before .before .before .before .args in
+    let l = c .before .before .loop in
+    let e : l .class ≡ a .machines .classes = omega (arith, l .inv .0) in
+    let whole = row-whole (a .one .now) (a .other .now) (a .machines) (a .row) in (
+      filled-all (cellBy (a .one .now) (a .other .now) (a .machines) (a .row)) (a .list .now) (l .list) (a .to) (l .at) 0 (l .class) (a .machines .classes) _ e whole (l .inv .2),
+      omega (arith, l .inv .1, l .inv .0, c .before .before .before .before .before .before .pre .0 .classes),
     )
 
 pub put-row-spec : {M : Type 1} → statement M
