@@ -1,211 +1,215 @@
 -- From the stretches of a line's call to the whole: what bars it, and what is settled.
-use Prim.Native.Nat.{ℕ, zero, suc, _≤_, _<_}
+use Prim.Native.Nat.{ℕ, zero, suc, _*_, _≤_, _<_}
 use mathlib.Core.Path.{_≡_, refl, sym, ap, ap₂, _∙_, subst}
-use mathlib.Core.Bool.{Bool, true, false, cond}
+use mathlib.Core.Bool.{Bool}
 use mathlib.Core.List.{List, [], _∷_, _++_, map}
 use native.Mathlib.Omega.{arith}
-use lib.Dec.{leb}
 use lib.IntN.{ℤ}
-use lib.ListN.{length, take, drop, replicate, length-append, length-drop, length-map, length-replicate}
-use lib.Seq.{take-append-le, take-append-seam}
+use lib.ListN.{length, take, getD, replicate, length-append, length-replicate}
+use lib.Seq.{take-append-le, take-at}
 use borrow.Author.Tests.{le-leb, lt-leb, leb-true}
 use Rattle.fields.specs.declared.Refusal.{Refusal}
 use Rattle.fields.specs.declared.Refusal.the-variants.{UnequalLengths, LongLine, PointSize, ShortRoom}
 use Rattle.fields.specs.declared.Fault.{Fault}
 use Rattle.fields.specs.declared.Fault.the-variants.{Clear, Bad}
-use Rattle.fields.specs.Faults.{_then_, rule}
+use Rattle.fields.specs.Faults.{_then_}
 use Rattle.fields.specs.Laws.{then-assoc, then-first, then-second, then-stop, then-go, rule-holds, rule-clear, rule-fails}
 use Rattle.types.specs.declared.Verdict.{Verdict}
 use Rattle.meaning.specs.Meaning.{Side}
 use Rattle.meaning.specs.Ask.{sideOf}
-use Rattle.table.specs.Table.{tableFault}
 use Rattle.table.specs.Means.{meaningOf}
-use Rattle.share.specs.Share.{total}
-use Rattle.share.specs.Line.{signedOf}
+use Rattle.share.specs.Line.{evens, odds, signedOf}
 use Rattle.share.proofs.Lists.{getD-le-total}
 use Rattle.line_rule.specs.Line.{Line, shrinks, walkOf, classesOf, entriesOf, beforeOf, afterOf, remainderOf, verdictsFrom, verdictsOf}
-use Rattle.line_moves.specs.Parts.{SmallSizes}
 use Rattle.line_verdicts.specs.Bits.{told}
-use Rattle.line_verdicts.specs.Moves.{Small, HasMoves}
+use Rattle.line_verdicts.specs.Moves.{moved, HasMoves}
+use Rattle.line_verdicts.specs.Lines.{verdictsIn, KeepsLine}
 use Rattle.line_verdicts.proofs.Told.{told-begins}
-use Rattle.line_call.specs.declared.LineAnswer.the-variants.{Justified, Refused}
+use Rattle.line_verdicts.proofs.Laws.{verdicts-few}
 use Rattle.line_call.specs.declared.Settled.{Settled}
 use Rattle.line_call.specs.declared.Tally.{Tally}
 use Rattle.line_call.specs.declared.Worked.{Worked}
 use Rattle.line_call.specs.declared.Worked.the-variants as worked
 use Rattle.line_call.specs.Justified.{justifies, roomTest, workedFault, lineFault, settled, justified}
-use Rattle.line_call.specs.Settle.{lentBy, settlementIs, settlementIn, Rooms, Tells}
-use Rattle.line_call.specs.Steps.{inputFault, workFault, workedBy, MovesOf, WorkedOut, Finished, SettledIn}
+use Rattle.line_call.specs.Settle.{lentBy, settlementIs, settlementIn, Room, Tells}
+use Rattle.line_call.specs.Steps.{inputFault, Judged, workFault, restFault, workedBy, MovesOf, WorkedOut, Counted, LineRoom, refusedBy, Deliverable, Delivered, SettledIn}
 use Rattle.line_call.proofs.Tests.{lengths-hold, sizes-small}
+use Rattle.line_call.proofs.Work.{barred}
 
--- ---- the verdicts that two rooms tell
+-- ---- the verdicts that a room tells
 
-pub tells-none : (vs : List Verdict) (xs ys : List ℕ) → Tells 0 vs xs ys
-tells-none vs xs ys = record { most = omega arith; begins = refl }
+tells-none : (vs : List Verdict) (work : List ℕ) → Tells 0 vs work
+tells-none vs work = record { most = omega arith; begins = refl }
+
+-- a refusal stores none
+pub tells-refused : {r : Refusal} {at : ℕ} {answer : Settled} (vs : List Verdict) (work : List ℕ) → answer ≡ refusedBy r at → Tells (answer .stored) vs work
+tells-refused vs work a = subst (λ (x : Settled). Tells (x .stored) vs work) (sym a) (tells-none vs work)
 
 -- all of them; of none nothing is told
-tells-all : (n : ℕ) (vs : List Verdict) (xs ys : List ℕ) → n ≡ length vs → (0 < n → told xs ys ≡ vs) → Tells n vs xs ys
-tells-all zero vs xs ys e h = tells-none vs xs ys
-tells-all (suc n) vs xs ys e h =
+tells-all : (n : ℕ) (vs : List Verdict) (work : List ℕ) → n ≡ length vs → (0 < n → told work ≡ vs) → Tells n vs work
+tells-all zero vs work e h = tells-none vs work
+tells-all (suc n) vs work e h =
     let q = h (omega arith) in
     record { most = omega (arith, ap (λ (l : List Verdict). length l) q); begins = ap (take (suc n)) q }
 
--- rooms of which these are the first parts tell them too
-pub tells-longer : {k : ℕ} {vs : List Verdict} (n : ℕ) (xs ys first second : List ℕ) → length second ≡ length first → length ys ≡ length xs
-    → Tells k vs xs ys → Tells k vs (xs ++ drop n first) (ys ++ drop n second)
-tells-longer {k} {vs} n xs ys first second even e w =
+-- a room that begins with another tells what that tells
+pub tells-longer : {k : ℕ} {vs : List Verdict} (n : ℕ) (work rest : List ℕ) → length work ≡ 2 * n → Tells k vs work → Tells k vs (work ++ rest)
+tells-longer {k} {vs} n work rest e w =
     record {
-      most = omega (arith, w .most, ap (λ (l : List Verdict). length l) whole, length-append (told xs ys) (cut .0));
-      begins = ap (take k) whole ∙ take-append-le k (told xs ys) (cut .0) (w .most) ∙ w .begins;
+      most = omega (arith, w .most, ap (λ (l : List Verdict). length l) whole, length-append (told work) (cut .0));
+      begins = ap (take k) whole ∙ take-append-le k (told work) (cut .0) (w .most) ∙ w .begins;
     }
   where
-    long : length (ys ++ drop n second) ≡ length (xs ++ drop n first)
-    long = omega (arith, length-append xs (drop n first), length-append ys (drop n second), length-drop n first, length-drop n second)
+    cut : (vs : List Verdict) × (told (work ++ rest) ≡ told (take (2 * n) (work ++ rest)) ++ vs)
+    cut = told-begins n (work ++ rest)
 
-    cut : (rest : List Verdict) × (told (xs ++ drop n first) (ys ++ drop n second) ≡ told (take (length xs) (xs ++ drop n first)) (take (length xs) (ys ++ drop n second)) ++ rest)
-    cut = told-begins (length xs) (xs ++ drop n first) (ys ++ drop n second) long
+    whole : told (work ++ rest) ≡ told work ++ cut .0
+    whole = cut .1 ∙ ap (λ (xs : List ℕ). told xs ++ cut .0) (take-at work rest (2 * n) e)
 
-    whole : told (xs ++ drop n first) (ys ++ drop n second) ≡ told xs ys ++ cut .0
-    whole =
-        cut .1
-        ∙ ap₂ (λ (fs ss : List ℕ). told fs ss ++ cut .0) (take-append-seam xs (drop n first))
-        (ap (λ (m : ℕ). take m (ys ++ drop n second)) (sym e) ∙ take-append-seam ys (drop n second))
+-- ---- what an answer says
+
+module _ {f : Fault} {v : ℕ} {s : Side} {l : Line} {w : Worked} {cs ms : List ℕ} (o : WorkedOut f v s l w cs ms) where
+  worked-bad : (r : Refusal) (at : ℕ) → w ≡ worked.Bad r at → f ≡ Bad r at
+  worked-bad r at q = go f (sym q ∙ o .says)
+    where
+      go : (f : Fault) → worked.Bad r at ≡ workedBy f v s l → f ≡ Bad r at
+      go Clear e = let z : _≡_ {A = ℕ} 0 1 = cc in absurd (omega arith)
+      go (Bad q p) e = let g : q ≡ r = cc in let k : p ≡ at = cc in ap₂ Bad g k
+
+  -- a line that nothing bars, and what is worked out of it
+  record WorkedClear (tally : Tally) : Type 0 where
+    clear : f ≡ Clear
+    signs : tally .shrink ≡ shrinks l
+    left : tally .remainder ≡ remainderOf s l
+    count : tally .entries ≡ entriesOf (walkOf (s .machine) l)
+    verdicts : tally .verdicts ≡ v
+    classes : cs ≡ classesOf (walkOf (s .machine) l)
+    before : map (signedOf (tally .shrink)) (evens ms) ≡ beforeOf s l
+    after : map (signedOf (tally .shrink)) (odds ms) ≡ afterOf s l
+    moves : MovesOf s l ms
+
+  worked-clear : (tally : Tally) → w ≡ worked.Done tally → WorkedClear tally
+  worked-clear tally q = go f refl (sym q ∙ o .says)
+    where
+      go : (g : Fault) → f ≡ g → worked.Done tally ≡ workedBy g v s l → WorkedClear tally
+      go Clear c e =
+          let h : tally ≡ record { shrink = shrinks l; remainder = remainderOf s l; entries = entriesOf (walkOf (s .machine) l); verdicts = v } = cc in
+          let b = ap (λ (x : Tally). x .shrink) h in
+          record {
+            clear = c;
+            signs = b;
+            left = ap (λ (x : Tally). x .remainder) h;
+            count = ap (λ (x : Tally). x .entries) h;
+            verdicts = ap (λ (x : Tally). x .verdicts) h;
+            classes = o .classes c;
+            before = ap (λ (t : Bool). map (signedOf t) (evens ms)) b ∙ o .moves c .before;
+            after = ap (λ (t : Bool). map (signedOf t) (odds ms)) b ∙ o .moves c .after;
+            moves = o .moves c;
+          }
+      go (Bad r at) c e = let z : _≡_ {A = ℕ} 0 1 = cc in absurd (omega arith)
 
 -- ---- 16
 
-module _ {room : ℕ} {vs : List Verdict} (tally : Tally) (held cs : List ℕ) (moved bs moves fs : List ℤ) where
-  pub finished-short : {xs ys : List ℕ} → room < length vs
-      → Finished room vs tally held cs cs moved bs bs moves fs fs xs ys (record { answer = Refused ShortRoom 0; stored = 0 })
-  finished-short {xs} {ys} h =
-      let e : leb (length vs) room ≡ false = lt-leb (length vs) room h in
-      record { says = sym (rw e); classes = sym (rw e); before = sym (rw e); after = sym (rw e); tells = tells-none vs xs ys }
+module _ (s : Side) (n : ℕ) (l : Line) (room : ℕ) where
+  counted-barred : {w : Worked} {cs ms work : List ℕ} (r : Refusal) (at : ℕ) → w ≡ worked.Bad r at → restFault s n l room ≡ Bad r at
+      → Counted s n l room w cs ms work
+  counted-barred r at q e = record { out = barred s l r at q e; tells = λ c. let z : _≡_ {A = ℕ} 0 1 = cc in absurd (omega arith) }
 
-  pub finished-done : {z : ℤ} {v : ℕ} {cs′ : List ℕ} {bs′ fs′ : List ℤ} {xs ys : List ℕ} → v ≤ room → z ≡ tally .remainder
-      → (v ≡ length vs) × (0 < v → told xs ys ≡ vs) → cs′ ≡ held → bs′ ≡ moved → fs′ ≡ moves
-      → Finished room vs tally held cs cs′ moved bs bs′ moves fs fs′ xs ys (record { answer = Justified z (tally .entries) v; stored = v })
-  finished-done {z} {v} {cs′} {bs′} {fs′} {xs} {ys} h ez (ev, et) ec eb ef =
-      let e : leb (length vs) room ≡ true = le-leb (length vs) room (omega arith) in
-      record {
-        says = ap₂ (λ (x : ℤ) (y : ℕ). record { answer = Justified x (tally .entries) y; stored = y }) ez ev ∙ sym (rw e);
-        classes = ec ∙ sym (rw e);
-        before = eb ∙ sym (rw e);
-        after = ef ∙ sym (rw e);
-        tells = tells-all v vs xs ys ev et;
-      }
+  module _ {w : Worked} {cs ms : List ℕ} (o : WorkedOut (workFault s n l) 0 s l w cs ms) where
+    -- what bars the line before bars it still
+    pub counted-bad : {work : List ℕ} (r : Refusal) (at : ℕ) → w ≡ worked.Bad r at → Counted s n l room w cs ms work
+    counted-bad {work} r at q =
+        let e = worked-bad o r at q in
+        counted-barred r at q (then-stop (roomTest s l room) e ∙ e)
+
+    module _ (tally : Tally) (q : w ≡ worked.Done tally) where
+      -- what the verdicts are asked of
+      pub has-moves : {t : List ℕ} {m : ℕ} (sizes glyphs : List ℕ) → Judged t m sizes glyphs → length cs ≡ length glyphs → length ms ≡ 2 * length glyphs
+          → HasMoves t m sizes cs ms glyphs
+      has-moves {t} {m} sizes glyphs j ec em =
+          let low = worked-clear o tally q .moves .low in
+          record {
+            accepted = j .accepted;
+            fits = record { few = j .short; sizes = j .sizes; classes = ec; moves = em; small = λ side. omega (arith, low, getD-le-total ms side) };
+          }
+
+      fault : restFault s n l room ≡ roomTest s l room
+      fault = then-go (roomTest s l room) (worked-clear o tally q .clear)
+
+      verdicts-are : verdictsIn s (l .glyphs) (moved (tally .shrink) (l .sizes) cs ms) ≡ verdictsOf s l
+      unfolding verdictsOf
+      verdicts-are =
+          let c = worked-clear o tally q in
+          λ i. verdictsFrom s 0 (l .sizes) (l .glyphs) (c .classes i) (c .before i) (c .after i)
+
+      module _ {v : ℕ} {work : List ℕ} (k : KeepsLine s (l .glyphs) (moved (tally .shrink) (l .sizes) cs ms) v work) where
+        counted-all : v ≡ length (verdictsOf s l)
+        counted-all = k .counted ∙ ap (λ (vs : List Verdict). length vs) verdicts-are
+
+        pub counted-short : {a : Worked} {xs ys : List ℕ} → room < v → a ≡ worked.Bad ShortRoom 0 → Counted s n l room a xs ys work
+        counted-short {a} {xs} {ys} h b =
+            counted-barred ShortRoom 0 b (fault ∙ rule-fails ShortRoom 0 (lt-leb (length (verdictsOf s l)) room (omega (arith, counted-all))))
+
+        pub counted-done : {b : Bool} {z : ℤ} {m : ℕ} → v ≤ room → b ≡ tally .shrink → z ≡ tally .remainder → m ≡ tally .entries
+            → Counted s n l room (worked.Done (record { shrink = b; remainder = z; entries = m; verdicts = v })) cs ms work
+        counted-done {b} {z} {m} h eb ez em =
+            let c = worked-clear o tally q in
+            let e : restFault s n l room ≡ Clear = fault ∙ rule-clear ShortRoom 0 (le-leb (length (verdictsOf s l)) room (omega (arith, counted-all))) in
+            record {
+              out =
+                  record {
+                    says =
+                        (λ i. worked.Done (record { shrink = (eb ∙ c .signs) i; remainder = (ez ∙ c .left) i; entries = (em ∙ c .count) i; verdicts = counted-all i }))
+                        ∙ ap (λ (f : Fault). workedBy f (length (verdictsOf s l)) s l) (sym e);
+                    classes = λ f. c .classes;
+                    moves = λ f. c .moves;
+                  };
+              tells = λ f. subst (λ (j : ℕ). Tells j (verdictsOf s l) work) counted-all (tells-all v (verdictsOf s l) work counted-all (λ p. k .tells p ∙ verdicts-are));
+            }
 
 -- ---- 12 to 16
 
 module _ (s : Side) (n : ℕ) (l : Line) (room : ℕ) (cs : List ℕ) (bs fs : List ℤ) where
-  last : Fault
-  last = roomTest s l room
-
   -- a fault bars the line and changes nothing
-  outcome-bad : {f : Fault} (r : Refusal) (at : ℕ) → f ≡ Bad r at → (verdicts : List Verdict)
-      → settlementIs (record { answer = Refused r at; stored = 0 }) cs bs fs ≡ settlementIn (settled f s l (lentBy cs bs fs verdicts))
-  outcome-bad {f} r at e verdicts = ap (λ (f : Fault). settlementIn (settled f s l (lentBy cs bs fs verdicts))) (sym e)
+  outcome-bad : {f : Fault} {answer : Settled} (r : Refusal) (at : ℕ) → f ≡ Bad r at → answer ≡ refusedBy r at → (verdicts : List Verdict)
+      → settlementIs answer cs bs fs ≡ settlementIn (settled f s l (lentBy cs bs fs verdicts))
+  outcome-bad {f} {answer} r at e a verdicts =
+      ap (λ (x : Settled). settlementIs x cs bs fs) a ∙ ap (λ (f : Fault). settlementIn (settled f s l (lentBy cs bs fs verdicts))) (sym e)
 
-  worked-bad : (f : Fault) (r : Refusal) (at : ℕ) → worked.Bad r at ≡ workedBy f s l → f ≡ Bad r at
-  worked-bad Clear r at e = let z : _≡_ {A = ℕ} 0 1 = cc in absurd (omega arith)
-  worked-bad (Bad q p) r at e = let g : q ≡ r = cc in let k : p ≡ at = cc in ap₂ Bad g k
+  pub settled-bad : {w : Worked} {held ms work : List ℕ} {answer : Settled} (r : Refusal) (at : ℕ) → w ≡ worked.Bad r at → Counted s n l room w held ms work → answer ≡ refusedBy r at
+      → SettledIn s n l room cs bs fs answer cs bs fs work
+  settled-bad {w} {held} {ms} {work} {answer} r at q o a =
+      record { settles = outcome-bad r at (worked-bad (o .out) r at q) a; tells = tells-refused (verdictsOf s l) work a }
 
-  pub settled-bad : {w : Worked} (r : Refusal) (at : ℕ) {xs ys : List ℕ} → w ≡ worked.Bad r at → w ≡ workedBy (workFault s n l) s l
-      → SettledIn s n l room cs bs fs (record { answer = Refused r at; stored = 0 }) cs bs fs xs ys
-  unfolding last
-  settled-bad {w} r at {xs} {ys} q e =
-      let f = worked-bad (workFault s n l) r at (sym q ∙ e) in
-      record { settles = outcome-bad r at (then-stop last f ∙ f); tells = tells-none (verdictsOf s l) xs ys }
+  module _ {w : Worked} {held ms work : List ℕ} (o : Counted s n l room w held ms work) (tally : Tally) (q : w ≡ worked.Done tally) where
+    pub settled-done : {answer : Settled} {cs′ : List ℕ} {bs′ fs′ : List ℤ} → Delivered tally held ms answer cs′ bs′ fs′
+        → SettledIn s n l room cs bs fs answer cs′ bs′ fs′ work
+    settled-done {answer} {cs′} {bs′} {fs′} d =
+        let c = worked-clear (o .out) tally q in
+        record {
+          settles = λ verdicts.
+              (λ i. settlementIs (d .says i) (d .classes i) (d .before i) (d .after i))
+              ∙ (λ i. record { answer = justifies (c .left i) (c .count i) (c .verdicts i); stored = c .verdicts i; classes = c .classes i; before = c .before i; after = c .after i })
+              ∙ ap (λ (f : Fault). settlementIn (settled f s l (lentBy cs bs fs verdicts))) (sym (c .clear));
+          tells = subst (λ (k : ℕ). Tells k (verdictsOf s l) work) (sym (ap (λ (x : Settled). x .stored) (d .says) ∙ c .verdicts)) (o .tells (c .clear));
+        }
 
-  record WorkedClear (tally : Tally) : Type 0 where
-    clear : workFault s n l ≡ Clear
-    signs : tally .shrink ≡ shrinks l
-    left : tally .remainder ≡ remainderOf s l
-    count : tally .entries ≡ entriesOf (walkOf (s .machine) l)
-
-  worked-clear : (tally : Tally) → worked.Done tally ≡ workedBy (workFault s n l) s l → WorkedClear tally
-  worked-clear tally e = go (workFault s n l) refl e
-    where
-      go : (f : Fault) → workFault s n l ≡ f → worked.Done tally ≡ workedBy f s l → WorkedClear tally
-      go Clear q e =
-          let h : tally ≡ record { shrink = shrinks l; remainder = remainderOf s l; entries = entriesOf (walkOf (s .machine) l) } = cc in
-          record { clear = q; signs = ap (λ (x : Tally). x .shrink) h; left = ap (λ (x : Tally). x .remainder) h; count = ap (λ (x : Tally). x .entries) h }
-      go (Bad r at) q e = let z : _≡_ {A = ℕ} 0 1 = cc in absurd (omega arith)
-
-  -- nothing bars it: with room for the verdicts, and without
-  outcome-clear : {f : Fault} {z : ℤ} {k v : ℕ} {xs : List ℕ} {ys zs : List ℤ} → f ≡ Clear → z ≡ remainderOf s l → k ≡ entriesOf (walkOf (s .machine) l)
-      → v ≡ length (verdictsOf s l) → xs ≡ classesOf (walkOf (s .machine) l) → ys ≡ beforeOf s l → zs ≡ afterOf s l → (verdicts : List Verdict)
-      → settlementIs (record { answer = Justified z k v; stored = v }) xs ys zs ≡ settlementIn (settled f s l (lentBy cs bs fs verdicts))
-  outcome-clear {f} {z} {k} {v} {xs} {ys} {zs} e ez ek ev ex ey ew verdicts =
-      (λ i. record { answer = justifies (ez i) (ek i) (ev i); stored = ev i; classes = ex i; before = ey i; after = ew i })
-      ∙ ap (λ (f : Fault). settlementIn (settled f s l (lentBy cs bs fs verdicts))) (sym e)
-
-  module _ {w : Worked} {held befores afters : List ℕ} (o : WorkedOut s n l w held befores afters) (tally : Tally) (q : w ≡ worked.Done tally) where
-    abbrev moved : List ℤ
-    moved = map (signedOf (tally .shrink)) befores
-
-    abbrev moves : List ℤ
-    moves = map (signedOf (tally .shrink)) afters
-
-    done : WorkedClear tally
-    done = worked-clear tally (sym q ∙ o .says)
-
-    pub sizes-done : MovesOf s l befores afters
-    sizes-done = o .moves (done .clear)
-
-    before-is : moved ≡ beforeOf s l
-    before-is = ap (λ (b : Bool). map (signedOf b) befores) (done .signs) ∙ sizes-done .before
-
-    after-is : moves ≡ afterOf s l
-    after-is = ap (λ (b : Bool). map (signedOf b) afters) (done .signs) ∙ sizes-done .after
-
-    verdicts-are : verdictsFrom s 0 (l .sizes) (l .glyphs) held moved moves ≡ verdictsOf s l
+    -- there are not more verdicts than 32 bits hold
+    pub deliverable : length (l .glyphs) ≤ 1024 → ((g : ℕ) → length (getD (s .lists) g []) ≤ 64) → length ms ≡ 2 * length held → Deliverable tally held ms
     unfolding verdictsOf
-    verdicts-are =
-        ap (λ (xs : List ℕ). verdictsFrom s 0 (l .sizes) (l .glyphs) xs moved moves) (o .classes (done .clear))
-        ∙ ap₂ (λ (xs ys : List ℤ). verdictsFrom s 0 (l .sizes) (l .glyphs) (classesOf (walkOf (s .machine) l)) xs ys) before-is after-is
-
-    settled-vs : {answer : Settled} {cs′ : List ℕ} {bs′ fs′ : List ℤ} {xs ys : List ℕ}
-        → Finished room (verdictsOf s l) tally held cs cs′ moved bs bs′ moves fs fs′ xs ys answer
-        → SettledIn s n l room cs bs fs answer cs′ bs′ fs′ xs ys
-    unfolding last
-    settled-vs {answer} {cs′} {bs′} {fs′} {xs} {ys} f =
-        record { settles = λ verdicts. go verdicts (leb (length (verdictsOf s l)) room) refl (f .says) (f .classes) (f .before) (f .after); tells = f .tells }
-      where
-        fault : (workFault s n l then last) ≡ rule (leb (length (verdictsOf s l)) room) ShortRoom 0
-        fault = then-go last (done .clear)
-
-        go : (verdicts : List Verdict) (t : Bool) → leb (length (verdictsOf s l)) room ≡ t
-            → answer ≡ cond t (record { answer = Justified (tally .remainder) (tally .entries) (length (verdictsOf s l)); stored = length (verdictsOf s l) }) (record { answer = Refused ShortRoom 0; stored = 0 })
-            → cs′ ≡ cond t held cs → bs′ ≡ cond t moved bs → fs′ ≡ cond t moves fs
-            → settlementIs answer cs′ bs′ fs′ ≡ settlementIn (settled (workFault s n l then last) s l (lentBy cs bs fs verdicts))
-        go verdicts true t a x y w =
-            (λ i. settlementIs (a i) (x i) (y i) (w i))
-            ∙ outcome-clear (fault ∙ rule-clear ShortRoom 0 t) (done .left) (done .count) refl (o .classes (done .clear)) before-is after-is verdicts
-        go verdicts false t a x y w = (λ i. settlementIs (a i) (x i) (y i) (w i)) ∙ outcome-bad ShortRoom 0 (fault ∙ rule-fails ShortRoom 0 t) verdicts
-
-    pub settled-done : {answer : Settled} {cs′ : List ℕ} {bs′ fs′ : List ℤ} {xs ys : List ℕ}
-        → Finished room (verdictsFrom s 0 (l .sizes) (l .glyphs) held moved moves) tally held cs cs′ moved bs bs′ moves fs fs′ xs ys answer
-        → SettledIn s n l room cs bs fs answer cs′ bs′ fs′ xs ys
-    settled-done {answer} {cs′} {bs′} {fs′} {xs} {ys} f =
-        settled-vs (subst (λ (vs : List Verdict). Finished room vs tally held cs cs′ moved bs bs′ moves fs fs′ xs ys answer) verdicts-are f)
-
--- ---- what the verdicts are asked of
-
-small-each : (xs : List ℕ) → total xs ≤ 1073741823 → Small xs
-small-each xs h place = omega (arith, getD-le-total xs place)
-
-pub has-moves : {t : List ℕ} {n : ℕ} {shrink : Bool} {s : Side} {l : Line} (sizes classes befores afters glyphs : List ℕ) → tableFault t n ≡ Clear → length glyphs ≤ 1024
-    → length sizes ≡ length glyphs → length classes ≡ length glyphs → length befores ≡ length glyphs → length afters ≡ length glyphs → MovesOf s l befores afters
-    → HasMoves t n shrink sizes classes befores afters glyphs × (total befores < 2147483648) × (total afters < 2147483648)
-has-moves {t} {n} {shrink} {s} {l} sizes classes befores afters glyphs ok few ez ec eb ef m = (
-  record {
-    accepted = ok;
-    fits = record { few = few; sizes = ez; classes = ec; before = length-map befores (signedOf shrink) ∙ eb; after = length-map afters (signedOf shrink) ∙ ef };
-    small-before = small-each befores (m .low-before);
-    small-after = small-each afters (m .low-after);
-  },
-  omega (arith, m .low-before),
-  omega (arith, m .low-after),
-)
+    deliverable few lists even =
+        let c = worked-clear (o .out) tally q in
+        record {
+          even = even;
+          low = omega (arith, c .moves .low);
+          few =
+              omega (
+                arith,
+                few,
+                c .verdicts,
+                verdicts-few s 0 (l .sizes) (l .glyphs) (classesOf (walkOf (s .machine) l)) (beforeOf s l) (afterOf s l) lists,
+              );
+        }
 
 -- ---- the whole
 
@@ -220,27 +224,21 @@ module _ (t : List ℕ) (n : ℕ) (l : Line) (cs : List ℕ) (bs fs : List ℤ) 
       → ((a then b then c then d then e then f then g then h then i) then j) ≡ ((a then b then c then d then e) then ((f then g then h then i) then j))
   chain a b c d e f g h i j = simp then-assoc
 
-  split : (verdicts : List Verdict)
-      → lineFault t n l (lentBy cs bs fs verdicts) ≡ (input then (workFault s n l then roomTest s l (length verdicts)))
+  split : (verdicts : List Verdict) → lineFault t n l (lentBy cs bs fs verdicts) ≡ (input then restFault s n l (length verdicts))
   unfolding lineFault workedFault inputFault workFault s
   split verdicts = chain _ _ _ _ _ _ _ _ _ _
 
-  pub whole-bad : (r : Refusal) (at : ℕ) {f : Fault} → f ≡ input → f ≡ Bad r at → (verdicts : List Verdict)
-      → settlementIs (record { answer = Refused r at; stored = 0 }) cs bs fs ≡ settlementIn (justified t n l (lentBy cs bs fs verdicts))
+  pub whole-bad : (r : Refusal) (at : ℕ) {f : Fault} {answer : Settled} → f ≡ input → f ≡ Bad r at → answer ≡ refusedBy r at → (verdicts : List Verdict)
+      → settlementIs answer cs bs fs ≡ settlementIn (justified t n l (lentBy cs bs fs verdicts))
   unfolding justified s
-  whole-bad r at {f} e q verdicts =
+  whole-bad r at {f} {answer} e q a verdicts =
       let b : input ≡ Bad r at = sym e ∙ q in
-      outcome-bad s n l (length verdicts) cs bs fs r at (split verdicts ∙ then-stop _ b ∙ b) verdicts
+      outcome-bad s n l (length verdicts) cs bs fs r at (split verdicts ∙ then-stop _ b ∙ b) a verdicts
 
   -- what holds where the table's refusals, 9, 10, 18 and 11 do not bar the line
   pub record Input : Type 0 where
-    pub accepted : tableFault t n ≡ Clear
-    pub short : length (l .glyphs) ≤ 1024
-    pub sizes : length (l .sizes) ≡ length (l .glyphs)
-    pub classes : length cs ≡ length (l .glyphs)
-    pub before : length bs ≡ length (l .glyphs)
-    pub after : length fs ≡ length (l .glyphs)
-    pub small : SmallSizes (l .sizes)
+    pub judged : Judged t n (l .sizes) (l .glyphs)
+    pub room : LineRoom (length (l .glyphs)) cs bs fs
 
   pub input-clear : {f : Fault} → f ≡ input → f ≡ Clear → Input
   unfolding inputFault
@@ -249,29 +247,31 @@ module _ (t : List ℕ) (n : ℕ) (l : Line) (cs : List ℕ) (bs fs : List ℤ) 
       let b = then-second _ _ a in
       let long = lengths-hold (length (l .glyphs)) _ _ _ _ _ (rule-holds _ UnequalLengths 0 (then-first _ _ b)) in
       record {
-        accepted = then-first _ _ a;
-        short = leb-true _ _ (rule-holds _ LongLine 0 (then-first _ _ (then-second _ _ b)));
-        sizes = long .0;
-        classes = long .2;
-        before = long .3;
-        after = long .4;
-        small = sizes-small (l .sizes) (rule-holds _ PointSize 0 (then-second _ _ (then-second _ _ (then-second _ _ b))));
+        judged =
+            record {
+              accepted = then-first _ _ a;
+              short = leb-true _ _ (rule-holds _ LongLine 0 (then-first _ _ (then-second _ _ b)));
+              sizes = long .0;
+              small = sizes-small (l .sizes) (rule-holds _ PointSize 0 (then-second _ _ (then-second _ _ (then-second _ _ b))));
+            };
+        room = record { classes = long .2; before = long .3; after = long .4 };
       }
 
-  pub whole-clear : (answer : Settled) {f : Fault} {room : ℕ} {cs′ : List ℕ} {bs′ fs′ : List ℤ} {xs ys : List ℕ} → f ≡ input → f ≡ Clear
-      → SettledIn (sideOf (l .direction) (meaningOf t n)) n l room cs bs fs answer cs′ bs′ fs′ xs ys → (verdicts : List Verdict) → length verdicts ≡ room
+  pub whole-clear : (answer : Settled) {f : Fault} {room : ℕ} {cs′ : List ℕ} {bs′ fs′ : List ℤ} {work : List ℕ} → f ≡ input → f ≡ Clear
+      → SettledIn (sideOf (l .direction) (meaningOf t n)) n l room cs bs fs answer cs′ bs′ fs′ work → (verdicts : List Verdict) → length verdicts ≡ room
       → settlementIs answer cs′ bs′ fs′ ≡ settlementIn (justified t n l (lentBy cs bs fs verdicts))
   unfolding justified s
-  whole-clear answer {f} {room} {cs′} {bs′} {fs′} {xs} {ys} e q w verdicts h =
+  whole-clear answer {f} {room} {cs′} {bs′} {fs′} {work} e q w verdicts h =
       w .settles verdicts
-      ∙ ap (λ (x : ℕ). settlementIn (settled (workFault s n l then roomTest s l x) s l (lentBy cs bs fs verdicts))) (sym h)
+      ∙ ap (λ (x : ℕ). settlementIn (settled (restFault s n l x) s l (lentBy cs bs fs verdicts))) (sym h)
       ∙ ap (λ (g : Fault). settlementIn (settled g s l (lentBy cs bs fs verdicts))) (sym (split verdicts ∙ then-go _ (sym e ∙ q)))
 
--- what the first of two rooms has enough of, the second has too
-pub second-enough : {n : ℕ} {first second : List ℕ} → Rooms n first second → n ≤ 1024 → n ≤ length second
-second-enough {n} {first} {second} w h = omega (arith, w .enough h, w .even)
+-- ---- slices and local arrays, lent in part
 
--- a slice or a local array, lent in part
+-- room for the glyphs of a line that is not too long
+pub room-enough : {n : ℕ} {work : List ℕ} → Room n work → n ≤ 1024 → 2 * n ≤ length work
+room-enough {n} {work} w h = omega (arith, w .enough h, w .even)
+
 pub part-length : {A : Type 0} (xs : List A) (n : ℕ) → n ≤ length xs → n ≡ length (take n xs)
 part-length xs zero h = refl
 part-length [] (suc n) h = absurd (omega arith)

@@ -17,8 +17,9 @@ use Rattle.fields.specs.Faults.{_then_, rule}
 use Rattle.units.specs.declared.Units.{Units}
 use Rattle.meaning.specs.Meaning.{Side}
 use Rattle.share.specs.Share.{total}
-use Rattle.share.specs.Line.{Glyph, lineFits, lineLeft, beforeMoves, afterMoves, signedOf, sumℤ}
-use Rattle.share.proofs.Lines.{line-small}
+use Rattle.share.specs.Line.{Glyph, evens, odds, lineMoves, lineFits, lineLeft, signedOf, sumℤ}
+use Rattle.share.proofs.Halves.{total-halves}
+use Rattle.share.proofs.Lines.{line-sum}
 use Rattle.line_rule.specs.Line.{Line, goesBack, gapOf, shrinks, gapSize, walkOf, hasStopped, classesOf, entriesOf, partsFor, beforeOf, afterOf, remainderOf}
 use Rattle.line_moves.specs.declared.Shared.{Shared}
 use Rattle.line_moves.specs.declared.Shared.the-variants.{Left, Over}
@@ -28,7 +29,7 @@ use Rattle.line_call.specs.declared.Gap.the-variants as gap
 use Rattle.line_call.specs.declared.Worked.{Worked}
 use Rattle.line_call.specs.declared.Worked.the-variants as worked
 use Rattle.line_call.specs.Justified.{within, noneNegative, goodAdvances, allKnown}
-use Rattle.line_call.specs.Steps.{measuredLine, gapIn, workFault, workedBy, WorkedOut}
+use Rattle.line_call.specs.Steps.{measuredLine, gapIn, workFault, workedBy, MovesOf, WorkedOut}
 use Rattle.line_call.proofs.Tests.{and-left, and-right}
 use Rattle.line_call.proofs.Gaps.{within-most, apart}
 
@@ -76,33 +77,38 @@ module _ (l : Line) {t : ℤ} (r : t ≡ l .target) where
 
 -- ---- what bars it
 
-module _ (s : Side) (n : ℕ) (l : Line) where
-  barred : (r : Refusal) {w : Worked} {cs bs fs : List ℕ} → w ≡ worked.Bad r 0 → workFault s n l ≡ Bad r 0 → WorkedOut s n l w cs bs fs
-  barred r {w} {cs} {bs} {fs} b e =
-      record {
-        says = b ∙ ap (λ (f : Fault). workedBy f s l) (sym e);
-        classes = λ c. let z : _≡_ {A = ℕ} 0 1 = cc in absurd (omega arith);
-        moves = λ c. let z : _≡_ {A = ℕ} 0 1 = cc in absurd (omega arith);
-      }
+-- a fault bars a line, and nothing is said of the rooms
+pub barred : {f : Fault} {v : ℕ} (s : Side) (l : Line) (r : Refusal) (at : ℕ) {w : Worked} {cs ms : List ℕ} → w ≡ worked.Bad r at → f ≡ Bad r at
+    → WorkedOut f v s l w cs ms
+barred {f} {v} s l r at {w} {cs} {ms} b e =
+    record {
+      says = b ∙ ap (λ (g : Fault). workedBy g v s l) (sym e);
+      classes = λ c. let z : _≡_ {A = ℕ} 0 1 = cc in absurd (omega arith);
+      moves = λ c. let z : _≡_ {A = ℕ} 0 1 = cc in absurd (omega arith);
+    }
 
-  pub bad-advances : {w : Worked} {cs bs fs : List ℕ} → w ≡ worked.Bad Advances 0 → goodAdvances l ≡ false → WorkedOut s n l w cs bs fs
+module _ (s : Side) (n : ℕ) (l : Line) where
+  abbrev Out : Worked → List ℕ → List ℕ → Type 0
+  Out = WorkedOut (workFault s n l) 0 s l
+
+  pub bad-advances : {w : Worked} {cs ms : List ℕ} → w ≡ worked.Bad Advances 0 → goodAdvances l ≡ false → Out w cs ms
   unfolding workFault _then_ rule
-  bad-advances b a = barred Advances b (rw a)
+  bad-advances b a = barred s l Advances 0 b (rw a)
 
   module _ (a : goodAdvances l ≡ true) where
-    pub bad-glyph : {w : Worked} {cs bs fs : List ℕ} → w ≡ worked.Bad UnknownGlyph 0 → allKnown n (l .glyphs) ≡ false → WorkedOut s n l w cs bs fs
+    pub bad-glyph : {w : Worked} {cs ms : List ℕ} → w ≡ worked.Bad UnknownGlyph 0 → allKnown n (l .glyphs) ≡ false → Out w cs ms
     unfolding workFault _then_ rule
-    bad-glyph b k = barred UnknownGlyph b (rw (a, k))
+    bad-glyph b k = barred s l UnknownGlyph 0 b (rw (a, k))
 
     module _ (k : allKnown n (l .glyphs) ≡ true) where
-      pub bad-walk : {o : Worked} {cs bs fs : List ℕ} → o ≡ worked.Bad EndlessWalk 0 → hasStopped (walkOf (s .machine) l) ≡ false → WorkedOut s n l o cs bs fs
+      pub bad-walk : {o : Worked} {cs ms : List ℕ} → o ≡ worked.Bad EndlessWalk 0 → hasStopped (walkOf (s .machine) l) ≡ false → Out o cs ms
       unfolding workFault _then_ rule
-      bad-walk b w = barred EndlessWalk b (rw (a, k, w))
+      bad-walk b w = barred s l EndlessWalk 0 b (rw (a, k, w))
 
       module _ (w : hasStopped (walkOf (s .machine) l) ≡ true) where
-        bad-total : {o : Worked} {cs bs fs : List ℕ} → o ≡ worked.Bad StageTotal 0 → lineFits (partsFor s l) ≡ false → WorkedOut s n l o cs bs fs
+        bad-total : {o : Worked} {cs ms : List ℕ} → o ≡ worked.Bad StageTotal 0 → lineFits (partsFor s l) ≡ false → Out o cs ms
         unfolding workFault _then_ rule
-        bad-total b f = barred StageTotal b (rw (a, k, w, f))
+        bad-total b f = barred s l StageTotal 0 b (rw (a, k, w, f))
 
         clear : lineFits (partsFor s l) ≡ true → workFault s n l ≡ Clear
         unfolding workFault _then_ rule
@@ -110,22 +116,21 @@ module _ (s : Side) (n : ℕ) (l : Line) where
 
 -- ---- a gap that was shared
 
-record Done (b back : Bool) (g : ℕ) (ps : List Glyph) (z : ℤ) (bs fs : List ℕ) : Type 0 where
+record Done (b back : Bool) (g : ℕ) (ps : List Glyph) (z : ℤ) (ms : List ℕ) : Type 0 where
   fits : lineFits ps ≡ true
   left : z ≡ signedOf b (lineLeft back ps g)
-  before : bs ≡ beforeMoves back ps g
-  after : fs ≡ afterMoves back ps g
+  moves : ms ≡ lineMoves back ps g
 
-module _ {b back : Bool} {g : ℕ} {ps : List Glyph} {bs fs bs′ fs′ : List ℕ} {sh : Shared} (w : SharedOut b back g ps bs fs sh bs′ fs′) where
-  shared-done : (u : Units) → sh ≡ Left u → Done b back g ps (u .0) bs′ fs′
-  shared-done u e = go (lineFits ps) refl (sym e ∙ w .answer) (w .before) (w .after)
+module _ {b back : Bool} {g : ℕ} {ps : List Glyph} {ms ms′ : List ℕ} {sh : Shared} (w : SharedOut b back g ps ms sh ms′) where
+  shared-done : (u : Units) → sh ≡ Left u → Done b back g ps (u .0) ms′
+  shared-done u e = go (lineFits ps) refl (sym e ∙ w .answer) (w .moves)
     where
-      go : (t : Bool) → lineFits ps ≡ t → Left u ≡ cond t (Left (inUnits (signedOf b (lineLeft back ps g)))) Over → bs′ ≡ cond t (beforeMoves back ps g) bs
-          → fs′ ≡ cond t (afterMoves back ps g) fs → Done b back g ps (u .0) bs′ fs′
-      go true q x y v =
+      go : (t : Bool) → lineFits ps ≡ t → Left u ≡ cond t (Left (inUnits (signedOf b (lineLeft back ps g)))) Over → ms′ ≡ cond t (lineMoves back ps g) ms
+          → Done b back g ps (u .0) ms′
+      go true q x y =
           let z : u ≡ inUnits (signedOf b (lineLeft back ps g)) = cc in
-          record { fits = q; left = ap (λ (w : Units). w .0) z; before = y; after = v }
-      go false q x y v = let z : _≡_ {A = ℕ} 0 1 = cc in absurd (omega arith)
+          record { fits = q; left = ap (λ (w : Units). w .0) z; moves = y }
+      go false q x y = let z : _≡_ {A = ℕ} 0 1 = cc in absurd (omega arith)
 
   shared-over : sh ≡ Over → lineFits ps ≡ false
   shared-over e = go (lineFits ps) refl (sym e ∙ w .answer)
@@ -134,22 +139,26 @@ module _ {b back : Bool} {g : ℕ} {ps : List Glyph} {bs fs bs′ fs′ : List �
       go true q x = let z : _≡_ {A = ℕ} 0 1 = cc in absurd (omega arith)
       go false q x = q
 
+-- all movements together are no more than the gap
+moves-small : (back : Bool) (ps : List Glyph) (gap : ℕ) → total (lineMoves back ps gap) ≤ gap
+moves-small back ps gap = omega (arith, total-halves (lineMoves back ps gap), line-sum back ps gap)
+
 signed-small : (b : Bool) (x : ℕ) → x ≤ 1073741823 → SFits w32 (signedOf b x)
 signed-small false x h = record { sfits = omega arith }
 signed-small true zero h = record { sfits = omega arith }
 signed-small true (suc x) h = record { sfits = omega arith }
 
 module _ (s : Side) (n : ℕ) (l : Line) {g : ℤ} (d : Gapped l g) (k : allKnown n (l .glyphs) ≡ true) (w : hasStopped (walkOf (s .machine) l) ≡ true)
-    {held : List ℕ} (eh : held ≡ classesOf (walkOf (s .machine) l)) {bs fs bs′ fs′ : List ℕ} {sh : Shared}
-    (o : SharedGap g (l .edition) s (l .sizes) (l .glyphs) held bs fs sh bs′ fs′) where
+    {held : List ℕ} (eh : held ≡ classesOf (walkOf (s .machine) l)) {ms ms′ : List ℕ} {sh : Shared}
+    (o : SharedGap g (l .edition) s (l .sizes) (l .glyphs) held ms sh ms′) where
   -- the gap and the classes are the line's
-  out : SharedOut (shrinks l) (goesBack (l .edition)) (gapSize l) (partsFor s l) bs fs sh bs′ fs′
+  out : SharedOut (shrinks l) (goesBack (l .edition)) (gapSize l) (partsFor s l) ms sh ms′
   out =
-      subst (λ (cs : List ℕ). SharedGap (gapOf l) (l .edition) s (l .sizes) (l .glyphs) cs bs fs sh bs′ fs′) eh
-      (subst (λ (z : ℤ). SharedGap z (l .edition) s (l .sizes) (l .glyphs) held bs fs sh bs′ fs′) (sym (d .gap)) o)
+      subst (λ (cs : List ℕ). SharedGap (gapOf l) (l .edition) s (l .sizes) (l .glyphs) cs ms sh ms′) eh
+      (subst (λ (z : ℤ). SharedGap z (l .edition) s (l .sizes) (l .glyphs) held ms sh ms′) (sym (d .gap)) o)
 
-  pub work-over : {v : Worked} {cs xs ys : List ℕ} → v ≡ worked.Bad StageTotal 0 → sh ≡ Over → WorkedOut s n l v cs xs ys
-  work-over {v} {cs} {xs} {ys} b e = bad-total s n l (d .good) k w b (shared-over out e)
+  pub work-over : {v : Worked} {cs xs : List ℕ} → v ≡ worked.Bad StageTotal 0 → sh ≡ Over → WorkedOut (workFault s n l) 0 s l v cs xs
+  work-over {v} {cs} {xs} b e = bad-total s n l (d .good) k w b (shared-over out e)
 
   module _ (u : Units) (e : sh ≡ Left u) where
     -- no more is left than the gap, so that 32 bits hold it
@@ -168,22 +177,24 @@ module _ (s : Side) (n : ℕ) (l : Line) {g : ℤ} (d : Gapped l g) (k : allKnow
     pub narrowed : toZ w32 (ofZ w32 (toZ w64 (ofZ w64 (u .0)))) ≡ u .0
     narrowed = ap (λ (z : ℤ). toZ w32 (ofZ w32 z)) held-wide ∙ toZ-ofZ w32 (u .0) left-fits
 
+    moves-are : MovesOf s l ms′
+    unfolding beforeOf afterOf
+    moves-are =
+        let r = shared-done out u e in
+        record {
+          before = ap (λ (xs : List ℕ). map (signedOf (shrinks l)) (evens xs)) (r .moves);
+          after = ap (λ (xs : List ℕ). map (signedOf (shrinks l)) (odds xs)) (r .moves);
+          low = omega (arith, ap total (r .moves), moves-small (goesBack (l .edition)) (partsFor s l) (gapSize l), gap-small l (d .good));
+        }
+
     pub work-done : {c : Bool} {v : ℤ} {m : ℕ} → c ≡ ltZ g (pos 0) → v ≡ u .0 → m ≡ entriesOf (walkOf (s .machine) l)
-        → WorkedOut s n l (worked.Done (record { shrink = c; remainder = v; entries = m })) held bs′ fs′
-    unfolding remainderOf beforeOf afterOf
+        → WorkedOut (workFault s n l) 0 s l (worked.Done (record { shrink = c; remainder = v; entries = m; verdicts = 0 })) held ms′
+    unfolding remainderOf
     work-done {c} {v} {m} ec ev em =
         let r = shared-done out u e in
-        let h : gapSize l ≤ 1073741823 = gap-small l (d .good) in
-        let low = line-small (goesBack (l .edition)) (partsFor s l) (gapSize l) in
         let clean : workFault s n l ≡ Clear = clear s n l (d .good) k w (r .fits) in
         record {
-          says = (λ i. worked.Done (record { shrink = (ec ∙ ap (λ (z : ℤ). ltZ z (pos 0)) (sym (d .gap))) i; remainder = (ev ∙ r .left) i; entries = em i })) ∙ ap (λ (f : Fault). workedBy f s l) (sym clean);
+          says = (λ i. worked.Done (record { shrink = (ec ∙ ap (λ (z : ℤ). ltZ z (pos 0)) (sym (d .gap))) i; remainder = (ev ∙ r .left) i; entries = em i; verdicts = 0 })) ∙ ap (λ (f : Fault). workedBy f 0 s l) (sym clean);
           classes = λ q. eh;
-          moves = λ q.
-              record {
-                before = ap (map (signedOf (shrinks l))) (r .before);
-                after = ap (map (signedOf (shrinks l))) (r .after);
-                low-before = omega (arith, low .0, ap total (r .before));
-                low-after = omega (arith, low .1, ap total (r .after));
-              };
+          moves = λ q. moves-are;
         }

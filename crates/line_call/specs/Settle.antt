@@ -1,6 +1,6 @@
 -- A line's call from its parameters, and all that it settles before the verdicts are stored (document 01, demand 2): the answer, how many verdicts there are to store,
 -- what the lent classes and movements hold, and where the verdicts are told until then.
-use Prim.Native.Nat.{ℕ, _≤_}
+use Prim.Native.Nat.{ℕ, _*_, _≤_}
 use mathlib.Core.Path.{_≡_}
 use mathlib.Core.List.{List}
 use lib.IntN.{ℤ}
@@ -50,14 +50,15 @@ settlementIn o =
 abbrev pub settlementIs : Settled → List ℕ → List ℤ → List ℤ → Settlement
 settlementIs r classes before after = record { answer = saysLine (r .answer); stored = r .stored; classes = classes; before = before; after = after }
 
--- two rooms of numbers, lent for a line of n glyphs: as long as each other, no longer than the longest line, and with a number for each glyph unless the line is
--- too long. First they hold the factors of the glyphs' sides, then the bits that tell the verdicts.
-pub record Rooms (n : ℕ) (first second : List ℕ) : Type 0 where
-  pub enough : n ≤ 1024 → n ≤ length first
-  pub even : length second ≡ length first
-  pub few : length first ≤ 1024
+-- room for two numbers of each glyph of a line: as many as its glyphs need unless the line is too long, and no more than the longest line needs. First it holds the
+-- factors of the glyphs' sides, then the bits that tell the verdicts.
+pub record Room (n : ℕ) (work : List ℕ) : Type 0 where
+  pub glyphs : ℕ
+  pub even : length work ≡ 2 * glyphs
+  pub few : glyphs ≤ 1024
+  pub enough : n ≤ 1024 → n ≤ glyphs
 
--- the two rooms tell n verdicts or more, the first n of which are the first n of these
-pub record Tells (n : ℕ) (verdicts : List Verdict) (first second : List ℕ) : Type 0 where
-  pub most : n ≤ length (told first second)
-  pub begins : take n (told first second) ≡ take n verdicts
+-- the room tells n verdicts or more, the first n of which are the first n of these
+pub record Tells (n : ℕ) (verdicts : List Verdict) (work : List ℕ) : Type 0 where
+  pub most : n ≤ length (told work)
+  pub begins : take n (told work) ≡ take n verdicts

@@ -1,26 +1,28 @@
--- Names for the contracts of the functions inside the crate: the refusals of a line's call in three stretches (the table's, 9, 10, 18 and 11; 12 to 15; 16), and what each
--- stretch leaves.
-use Prim.Native.Nat.{ℕ, _≤_}
+-- Names for the contracts of the functions inside the crate: the refusals of a line's call in three stretches (the table's, 9, 10, 18 and 11; 12 to 15; 16), what each
+-- stretch leaves, and how it is delivered.
+use Prim.Native.Nat.{ℕ, _*_, _<_, _≤_, _^_}
 use mathlib.Core.Path.{_≡_}
 use mathlib.Core.Bool.{false, cond, _&&_}
 use mathlib.Core.List.{List, [], _∷_, map}
-use lib.Dec.{leb}
 use lib.IntN.{ℤ}
 use lib.ListN.{length, replicate}
-use Rattle.fields.specs.declared.Refusal.the-variants.{ShortRoom}
+use Rattle.fields.specs.declared.Refusal.{Refusal}
 use Rattle.fields.specs.declared.Fault.{Fault}
 use Rattle.fields.specs.declared.Fault.the-variants.{Clear, Bad}
 use Rattle.fields.specs.Faults.{_then_}
 use Rattle.types.specs.declared.Direction.the-variants.{Horizontal}
 use Rattle.types.specs.declared.Verdict.{Verdict}
 use Rattle.meaning.specs.Meaning.{Side}
+use Rattle.meaning.specs.Ask.{sideOf}
 use Rattle.share.specs.Share.{total}
-use Rattle.share.specs.Line.{signedOf, sumℤ}
+use Rattle.share.specs.Line.{evens, odds, signedOf, sumℤ}
 use Rattle.table.specs.Table.{tableFault}
+use Rattle.table.specs.Means.{meaningOf}
 use Rattle.line_rule.specs.Line.{Line, gapOf, shrinks, walkOf, classesOf, entriesOf, beforeOf, afterOf, remainderOf, verdictsOf}
-use Rattle.line_moves.specs.Parts.{inUnits}
+use Rattle.line_moves.specs.Parts.{SmallSizes, inUnits}
 use Rattle.line_call.specs.declared.LineAnswer.the-variants.{Justified, Refused}
 use Rattle.line_call.specs.declared.Settled.{Settled}
+use Rattle.line_call.specs.declared.Call.{Call}
 use Rattle.line_call.specs.declared.Sum.{Sum}
 use Rattle.line_call.specs.declared.Sum.the-variants as sum
 use Rattle.line_call.specs.declared.Gap.{Gap}
@@ -29,7 +31,7 @@ use Rattle.line_call.specs.declared.Tally.{Tally}
 use Rattle.line_call.specs.declared.Worked.{Worked}
 use Rattle.line_call.specs.declared.Worked.the-variants as worked
 use Rattle.line_call.specs.Justified.{within, noneNegative, goodAdvances, inputTests, workTests, roomTest, firstFault, settled}
-use Rattle.line_call.specs.Settle.{lentBy, settlementIs, settlementIn, Tells}
+use Rattle.line_call.specs.Settle.{lineBy, lentBy, settlementIs, settlementIn, Tells}
 
 -- ---- the table's refusals, then 9, 10, 18 and 11
 
@@ -49,35 +51,49 @@ sumIn advances = cond (noneNegative advances && within (sumℤ advances)) (sum.T
 unfoldable pub gapIn : Line → Gap
 gapIn l = cond (goodAdvances l) (gap.Of (inUnits (gapOf l))) gap.Unfit
 
--- ---- 12 to 15
+-- what is known of a table and a line that none of these bars
+pub record Judged (t : List ℕ) (n : ℕ) (zs gs : List ℕ) : Type 0 where
+  pub accepted : tableFault t n ≡ Clear
+  pub short : length gs ≤ 1024
+  pub sizes : length zs ≡ length gs
+  pub small : SmallSizes zs
+
+-- ---- 12 to 15, and 16
 
 unfoldable pub workFault : Side → ℕ → Line → Fault
 workFault s n l = firstFault (workTests s n l)
 
-abbrev pub workedBy : Fault → Side → Line → Worked
-workedBy Clear s l = worked.Done (record { shrink = shrinks l; remainder = remainderOf s l; entries = entriesOf (walkOf (s .machine) l) })
-workedBy (Bad r at) s l = worked.Bad r at
+abbrev pub restFault : Side → ℕ → Line → ℕ → Fault
+restFault s n l room = workFault s n l then roomTest s l room
 
--- a line's movements without their sign, none of which is above that of the widest gap, nor are those of one side together
-pub record MovesOf (s : Side) (l : Line) (bs fs : List ℕ) : Type 0 where
-  pub before : map (signedOf (shrinks l)) bs ≡ beforeOf s l
-  pub after : map (signedOf (shrinks l)) fs ≡ afterOf s l
-  pub low-before : total bs ≤ 1073741823
-  pub low-after : total fs ≤ 1073741823
+-- a line that is worked out, with so many verdicts found; or what bars it
+abbrev pub workedBy : Fault → ℕ → Side → Line → Worked
+workedBy Clear v s l =
+    worked.Done (record { shrink = shrinks l; remainder = remainderOf s l; entries = entriesOf (walkOf (s .machine) l); verdicts = v })
+workedBy (Bad r at) v s l = worked.Bad r at
+
+-- a line's movements without their sign, which together are not above the widest gap
+pub record MovesOf (s : Side) (l : Line) (ms : List ℕ) : Type 0 where
+  pub before : map (signedOf (shrinks l)) (evens ms) ≡ beforeOf s l
+  pub after : map (signedOf (shrinks l)) (odds ms) ≡ afterOf s l
+  pub low : total ms ≤ 1073741823
 
 -- the answer, and what the rooms of the classes and of the movements hold where nothing bars the line
-pub record WorkedOut (s : Side) (n : ℕ) (l : Line) (answer : Worked) (cs bs fs : List ℕ) : Type 0 where
-  pub says : answer ≡ workedBy (workFault s n l) s l
-  pub classes : workFault s n l ≡ Clear → cs ≡ classesOf (walkOf (s .machine) l)
-  pub moves : workFault s n l ≡ Clear → MovesOf s l bs fs
+pub record WorkedOut (fault : Fault) (v : ℕ) (s : Side) (l : Line) (answer : Worked) (cs ms : List ℕ) : Type 0 where
+  pub says : answer ≡ workedBy fault v s l
+  pub classes : fault ≡ Clear → cs ≡ classesOf (walkOf (s .machine) l)
+  pub moves : fault ≡ Clear → MovesOf s l ms
 
--- room to work out n glyphs: zeros for their classes and movements, and two rooms of numbers
-pub record WorkRoom (n : ℕ) (cs bs fs xs ys : List ℕ) : Type 0 where
+-- with 16, and what the room of the verdicts tells
+pub record Counted (s : Side) (n : ℕ) (l : Line) (room : ℕ) (answer : Worked) (cs ms work : List ℕ) : Type 0 where
+  pub out : WorkedOut (restFault s n l room) (length (verdictsOf s l)) s l answer cs ms
+  pub tells : restFault s n l room ≡ Clear → Tells (length (verdictsOf s l)) (verdictsOf s l) work
+
+-- room to work out n glyphs: zeros for their classes and movements, and two numbers for each
+pub record WorkRoom (n : ℕ) (cs ms xs : List ℕ) : Type 0 where
   pub classes : cs ≡ replicate n 0
-  pub before : bs ≡ replicate n 0
-  pub after : fs ≡ replicate n 0
-  pub first : length xs ≡ n
-  pub second : length ys ≡ n
+  pub moves : ms ≡ replicate (2 * n) 0
+  pub work : length xs ≡ 2 * n
 
 -- room for n classes and movements
 pub record LineRoom (n : ℕ) (cs : List ℕ) (bs fs : List ℤ) : Type 0 where
@@ -85,26 +101,39 @@ pub record LineRoom (n : ℕ) (cs : List ℕ) (bs fs : List ℤ) : Type 0 where
   pub before : length bs ≡ n
   pub after : length fs ≡ n
 
--- ---- 16
+-- ---- what is worked out, delivered
 
--- verdicts of this number settle the line unless there is no room for them
-abbrev pub roomed : ℕ → ℕ → Tally → Settled
-roomed room verdicts tally =
-    cond (leb verdicts room)
-    (record { answer = Justified (tally .remainder) (tally .entries) verdicts; stored = verdicts })
-    (record { answer = Refused ShortRoom 0; stored = 0 })
+abbrev pub refusedBy : Refusal → ℕ → Settled
+refusedBy r at = record { answer = Refused r at; stored = 0 }
 
-pub record Finished (room : ℕ) (verdicts : List Verdict) (tally : Tally) (held cs cs′ : List ℕ) (moved bs bs′ moves fs fs′ : List ℤ) (first second : List ℕ) (answer : Settled) : Type 0 where
-  pub says : answer ≡ roomed room (length verdicts) tally
-  pub classes : cs′ ≡ cond (leb (length verdicts) room) held cs
-  pub before : bs′ ≡ cond (leb (length verdicts) room) moved bs
-  pub after : fs′ ≡ cond (leb (length verdicts) room) moves fs
-  pub tells : Tells (answer .stored) verdicts first second
+abbrev pub settledBy : Tally → Settled
+settledBy tally = record { answer = Justified (tally .remainder) (tally .entries) (tally .verdicts); stored = tally .verdicts }
+
+-- classes and movements that may be: two movements for each class, which fit with their sign
+pub record Deliverable (tally : Tally) (held ms : List ℕ) : Type 0 where
+  pub even : length ms ≡ 2 * length held
+  pub low : total ms < 2147483648
+  pub few : tally .verdicts < 2 ^ 32
+
+pub record Delivered (tally : Tally) (held ms : List ℕ) (answer : Settled) (cs : List ℕ) (bs fs : List ℤ) : Type 0 where
+  pub says : answer ≡ settledBy tally
+  pub classes : cs ≡ held
+  pub before : bs ≡ map (signedOf (tally .shrink)) (evens ms)
+  pub after : fs ≡ map (signedOf (tally .shrink)) (odds ms)
 
 -- ---- 12 to 16
 
--- the outcome of these, whatever the list of verdicts holds: its records are stored afterwards, and the two rooms tell them
-pub record SettledIn (s : Side) (n : ℕ) (l : Line) (room : ℕ) (cs : List ℕ) (bs fs : List ℤ) (answer : Settled) (cs′ : List ℕ) (bs′ fs′ : List ℤ) (first second : List ℕ) : Type 0 where
-  pub settles : (verdicts : List Verdict)
-      → settlementIs answer cs′ bs′ fs′ ≡ settlementIn (settled (workFault s n l then roomTest s l room) s l (lentBy cs bs fs verdicts))
-  pub tells : Tells (answer .stored) (verdictsOf s l) first second
+-- the outcome of these, whatever the list of verdicts holds: its records are stored afterwards, and the room tells them
+pub record SettledIn (s : Side) (n : ℕ) (l : Line) (room : ℕ) (cs : List ℕ) (bs fs : List ℤ) (answer : Settled) (cs′ : List ℕ) (bs′ fs′ : List ℤ) (work : List ℕ) : Type 0 where
+  pub settles : (verdicts : List Verdict) → settlementIs answer cs′ bs′ fs′ ≡ settlementIn (settled (restFault s n l room) s l (lentBy cs bs fs verdicts))
+  pub tells : Tells (answer .stored) (verdictsOf s l) work
+
+-- a table, a line's glyphs with their sizes and advances, and what the call says beside them: the line, and the meaning of its direction
+abbrev pub lineIn : Call → List ℕ → List ℕ → List ℤ → Line
+lineIn call zs gs advances = lineBy (call .shape) zs gs advances
+
+abbrev pub sideIn : List ℕ → Call → Side
+sideIn t call = sideOf (call .shape .direction) (meaningOf t (call .count))
+
+abbrev pub SettledCall : List ℕ → Call → List ℕ → List ℕ → List ℤ → List ℕ → List ℤ → List ℤ → Settled → List ℕ → List ℤ → List ℤ → List ℕ → Type 0
+SettledCall t call zs gs advances = SettledIn (sideIn t call) (call .count) (lineIn call zs gs advances) (call .room)

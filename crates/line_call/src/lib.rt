@@ -1,26 +1,20 @@
 // One call for a line (document 01, demand 2): its classes, movements, remainder and verdicts, or the refusal.
 // Here: all of it but the storing of the verdicts, whose number `settle` answers beside the call's answer, and whose
-// bits it leaves in two lent rooms. No lent class or movement is written before every refusal is judged.
+// bits it leaves in a lent room. No lent class or movement is written before every refusal is judged.
 ghost use mathlib.Core.Path.{_≡_};
 ghost use mathlib.Core.Bool.{_||_};
-ghost use mathlib.Core.List.{List, [], _∷_, map};
-ghost use Prim.Native.Nat.{_≤_, _<_};
+ghost use mathlib.Core.List.{List, [], _∷_};
+ghost use Prim.Native.Nat.{_*_};
 ghost use lib.Dec.{eqb, ltb};
 ghost use lib.ListN.{length};
-ghost use Rattle.fields.specs.declared.Fault.the-variants.{Clear};
 ghost use Rattle.types.specs.declared.Verdict.{Verdict};
 ghost use Rattle.meaning.specs.Ask.{sideOf};
-ghost use Rattle.share.specs.Share.{total};
-ghost use Rattle.share.specs.Line.{signedOf};
-ghost use Rattle.table.specs.Table.{tableFault};
 ghost use Rattle.table.specs.Means.{meaningOf};
-ghost use Rattle.line_rule.specs.Line.{verdictsFrom, verdictsOf};
-ghost use Rattle.line_moves.specs.Parts.{SmallSizes};
-ghost use Rattle.line_verdicts.specs.Moves.{HasMoves};
+ghost use Rattle.line_rule.specs.Line.{verdictsOf};
 ghost use Rattle.line_call.specs.declared.Worked.the-variants.{Bad};
 ghost use Rattle.line_call.specs.Justified.{allLong, goodSize, goodSizes, allKnown, justified};
-ghost use Rattle.line_call.specs.Settle.{lineBy, lentBy, settlementIs, settlementIn, Rooms, Tells};
-ghost use Rattle.line_call.specs.Steps.{measuredLine, sumIn, gapIn, inputFault, WorkedOut, Finished, SettledIn, LineRoom, WorkRoom};
+ghost use Rattle.line_call.specs.Settle.{lineBy, lentBy, settlementIs, settlementIn, Room, Tells};
+ghost use Rattle.line_call.specs.Steps.{measuredLine, sumIn, gapIn, inputFault, Judged, workFault, sideIn, lineIn, WorkedOut, Counted, WorkRoom, LineRoom, refusedBy, Deliverable, Delivered, SettledCall};
 use fields::Fault;
 use fields::Refusal;
 use line_moves::Shared;
@@ -66,12 +60,13 @@ struct Call {
     room: usize,
 }
 
-// What the classes and the movements of a line leave to say: whether the line shrinks, the remainder in units, and the count of
-// entries that the class walk took.
+// What is left to say of a line that is worked out: whether it shrinks, the remainder in units, the count of entries that the
+// class walk took, and the count of verdicts.
 struct Tally {
     shrink: bool,
     remainder: i32,
     entries: u32,
+    verdicts: usize,
 }
 
 // A line that is worked out; or the refusal that bars it, with its offset.
@@ -250,29 +245,23 @@ fn barred(refusal: Refusal) -> Worked
     Worked::Bad { refusal, at: 0 }
 }
 
-// Refusals 12 to 15; where nothing bars the line, `held` gets its classes, `befores` and `afters` its movements without
-// their sign. `first` and `second` are room for the factors of its sides.
-fn work_out(
+// Refusals 12 to 15; where nothing bars the line, `held` gets its classes and `moves` its movements without their sign, and no
+// verdict is found yet. `factors` is room for the factors of its sides.
+fn share_out(
     table: &[u8],
-    count: u32,
-    shape: LineShape,
+    call: Call,
     sizes: &[u32],
     glyphs: &[u16],
     advances: &[i32],
     held: &mut [u8],
-    befores: &mut [u64],
-    afters: &mut [u64],
-    first: &mut [u64],
-    second: &mut [u64],
+    moves: &mut [u64],
+    factors: &mut [u64],
 ) -> Worked
-    requires { ⌜ (tableFault (now table) count ≡ Clear) × (length (now glyphs) ≤ 1024) × (length (now sizes) ≡ length (now glyphs)) × SmallSizes (now sizes) ⌝ }
-    requires { ⌜ WorkRoom (length (now glyphs)) (now held) (now befores) (now afters) (now first) (now second) ⌝ }
-    ensures { λ r. ⌜
-        WorkedOut (sideOf (shape .direction) (meaningOf (now (table .entry)) count)) count
-        (lineBy shape (now (sizes .entry)) (now (glyphs .entry)) (now (advances .entry)))
-        r (now (held .exit)) (now (befores .exit)) (now (afters .exit))
-        ⌝ }
+    requires { ⌜ Judged (now table) (call .count) (now sizes) (now glyphs) × WorkRoom (length (now glyphs)) (now held) (now moves) (now factors) ⌝ }
+    ensures { λ r. ⌜ WorkedOut (workFault (sideIn (now (table .entry)) call) (call .count) (lineIn call (now (sizes .entry)) (now (glyphs .entry)) (now (advances .entry)))) 0 (sideIn (now (table .entry)) call) (lineIn call (now (sizes .entry)) (now (glyphs .entry)) (now (advances .entry))) r (now (held .exit)) (now (moves .exit)) ⌝ }
 {
+    let count = call.count;
+    let shape = call.shape;
     let Gap::Of(gap) = gap_of(advances, shape.target) else {
         return barred(Refusal::Advances);
     };
@@ -287,10 +276,8 @@ fn work_out(
                 sizes,
                 glyphs,
                 held,
-                first,
-                second,
-                befores,
-                afters,
+                factors,
+                moves,
             );
             let Shared::Left(left) = shared else {
                 return barred(Refusal::StageTotal);
@@ -300,6 +287,7 @@ fn work_out(
                 shrink: line_moves::shrinks(gap),
                 remainder,
                 entries: walked.count,
+                verdicts: 0,
             });
         }
         return barred(Refusal::EndlessWalk);
@@ -307,81 +295,84 @@ fn work_out(
     barred(Refusal::UnknownGlyph)
 }
 
-// Refusal 16; where there is room for the verdicts, classes are copied out, and movements with their sign. `first` and `second`
-// keep the verdicts' bits.
-fn finish<'a, 'b>(
+// Refusals 12 to 16; where nothing bars the line, `work` gets the bits of its verdicts.
+fn work_out<'a, 'b>(
     table: &'a [u8],
     call: Call,
     sizes: &'a [u32],
     glyphs: &'a [u16],
-    tally: Tally,
-    held: &'a [u8],
-    befores: &'a [u64],
-    afters: &'a [u64],
-    classes: &'b mut [u8],
-    before: &'b mut [i32],
-    after: &'b mut [i32],
-    first: &'b mut [u64],
-    second: &'b mut [u64],
-) -> Settled
-    requires { ⌜
-        HasMoves (now table) (call .count) (tally .shrink) (now sizes) (now held) (now befores) (now afters) (now glyphs)
-        × (total (now befores) < 2147483648) × (total (now afters) < 2147483648)
-        ⌝ }
-    requires { ⌜
-        LineRoom (length (now glyphs)) (now classes) (now before) (now after)
-        × (length (now first) ≡ length (now glyphs)) × (length (now second) ≡ length (now glyphs))
-        ⌝ }
-    ensures { λ r. ⌜
-        Finished (call .room)
-        (verdictsFrom (sideOf (call .shape .direction) (meaningOf (now (table .entry)) (call .count))) 0
-        (now (sizes .entry)) (now (glyphs .entry)) (now (held .entry))
-        (map (signedOf (tally .shrink)) (now (befores .entry))) (map (signedOf (tally .shrink)) (now (afters .entry))))
-        tally
-        (now (held .entry)) (now (classes .entry)) (now (classes .exit))
-        (map (signedOf (tally .shrink)) (now (befores .entry))) (now (before .entry)) (now (before .exit))
-        (map (signedOf (tally .shrink)) (now (afters .entry))) (now (after .entry)) (now (after .exit))
-        (now (first .exit)) (now (second .exit)) r
-        ⌝ }
+    advances: &'a [i32],
+    held: &'a mut [u8],
+    moves: &'a mut [u64],
+    work: &'b mut [u64],
+) -> Worked
+    requires { ⌜ Judged (now table) (call .count) (now sizes) (now glyphs) × WorkRoom (length (now glyphs)) (now held) (now moves) (now work) ⌝ }
+    ensures { λ r. ⌜ Counted (sideIn (now (table .entry)) call) (call .count) (lineIn call (now (sizes .entry)) (now (glyphs .entry)) (now (advances .entry))) (call .room) r (now (held .exit)) (now (moves .exit)) (now (work .exit)) ⌝ }
 {
+    let shared = share_out(table, call, sizes, glyphs, advances, held, moves, work);
+    let Worked::Done(tally) = shared else {
+        return shared;
+    };
     let shape = call.shape;
-    let stored = line_verdicts::keep_verdicts(
+    let shrink = tally.shrink;
+    let verdicts = line_verdicts::keep_verdicts(
         table,
         call.count,
         shape,
-        tally.shrink,
+        shrink,
         sizes,
         glyphs,
         held,
-        befores,
-        afters,
-        first,
-        second,
+        moves,
+        work,
     );
-    if call.room < stored {
-        return Settled {
-            answer: LineAnswer::Refused {
-                refusal: Refusal::ShortRoom,
-                at: 0,
-            },
-            stored: 0,
-        };
+    if call.room < verdicts {
+        return barred(Refusal::ShortRoom);
     }
+    Worked::Done(Tally {
+        shrink,
+        remainder: tally.remainder,
+        entries: tally.entries,
+        verdicts,
+    })
+}
+
+// A refusal stores nothing.
+fn refused(refusal: Refusal, at: usize) -> Settled
+    ensures { λ r. ⌜ r ≡ refusedBy refusal at ⌝ }
+{
+    Settled {
+        answer: LineAnswer::Refused { refusal, at },
+        stored: 0,
+    }
+}
+
+// What is worked out of a line goes into the lent buffers: the classes, and the movements with their sign.
+fn deliver<'a, 'b>(
+    tally: Tally,
+    held: &'a [u8],
+    moves: &'a [u64],
+    classes: &'b mut [u8],
+    before: &'b mut [i32],
+    after: &'b mut [i32],
+) -> Settled
+    requires { ⌜ Deliverable tally (now held) (now moves) × LineRoom (length (now held)) (now classes) (now before) (now after) ⌝ }
+    ensures { λ r. ⌜ Delivered tally (now (held .entry)) (now (moves .entry)) r (now (classes .exit)) (now (before .exit)) (now (after .exit)) ⌝ }
+{
     copy_classes(held, classes);
-    share::copy_signed(tally.shrink, befores, before);
-    share::copy_signed(tally.shrink, afters, after);
-    let verdicts = stored as u32;
+    share::copy_signed(tally.shrink, moves, before, after);
+    let verdicts = tally.verdicts as u32;
     Settled {
         answer: LineAnswer::Justified {
             remainder: tally.remainder,
             entries: tally.entries,
             verdicts,
         },
-        stored,
+        stored: tally.verdicts,
     }
 }
 
-// Refusals 12 to 16, over room for the classes and the movements, and for two numbers of each glyph.
+// Refusals 12 to 16, over zeros for the classes and the movements; where nothing bars the line, they are delivered.
 fn settle_in<'a, 'b>(
     table: &'a [u8],
     call: Call,
@@ -389,65 +380,24 @@ fn settle_in<'a, 'b>(
     glyphs: &'a [u16],
     advances: &'a [i32],
     held: &'a mut [u8],
-    befores: &'a mut [u64],
-    afters: &'a mut [u64],
+    moves: &'a mut [u64],
     classes: &'b mut [u8],
     before: &'b mut [i32],
     after: &'b mut [i32],
-    first: &'b mut [u64],
-    second: &'b mut [u64],
+    work: &'b mut [u64],
 ) -> Settled
-    requires { ⌜ (tableFault (now table) (call .count) ≡ Clear) × (length (now glyphs) ≤ 1024) × (length (now sizes) ≡ length (now glyphs)) × SmallSizes (now sizes) ⌝ }
-    requires { ⌜
-        WorkRoom (length (now glyphs)) (now held) (now befores) (now afters) (now first) (now second)
-        × LineRoom (length (now glyphs)) (now classes) (now before) (now after)
-        ⌝ }
-    ensures { λ r. ⌜
-        SettledIn (sideOf (call .shape .direction) (meaningOf (now (table .entry)) (call .count))) (call .count)
-        (lineBy (call .shape) (now (sizes .entry)) (now (glyphs .entry)) (now (advances .entry))) (call .room)
-        (now (classes .entry)) (now (before .entry)) (now (after .entry))
-        r (now (classes .exit)) (now (before .exit)) (now (after .exit)) (now (first .exit)) (now (second .exit))
-        ⌝ }
+    requires { ⌜ Judged (now table) (call .count) (now sizes) (now glyphs) × WorkRoom (length (now glyphs)) (now held) (now moves) (now work) × LineRoom (length (now glyphs)) (now classes) (now before) (now after) ⌝ }
+    ensures { λ r. ⌜ SettledCall (now (table .entry)) call (now (sizes .entry)) (now (glyphs .entry)) (now (advances .entry)) (now (classes .entry)) (now (before .entry)) (now (after .entry)) r (now (classes .exit)) (now (before .exit)) (now (after .exit)) (now (work .exit)) ⌝ }
 {
-    let shape = call.shape;
-    let worked = work_out(
-        table,
-        call.count,
-        shape,
-        sizes,
-        glyphs,
-        advances,
-        held,
-        befores,
-        afters,
-        first,
-        second,
-    );
+    let worked = work_out(table, call, sizes, glyphs, advances, held, moves, work);
     match worked {
-        Worked::Bad { refusal, at } => Settled {
-            answer: LineAnswer::Refused { refusal, at },
-            stored: 0,
-        },
-        Worked::Done(tally) => finish(
-            table,
-            call,
-            sizes,
-            glyphs,
-            tally,
-            held,
-            befores,
-            afters,
-            classes,
-            before,
-            after,
-            first,
-            second,
-        ),
+        Worked::Bad { refusal, at } => refused(refusal, at),
+        Worked::Done(tally) => deliver(tally, held, moves, classes, before, after),
     }
 }
 
 // The same, with room of its own for the classes and movements. Most lines are short, and less room is sooner cleared.
-fn settle_clear<'a, 'b>(
+fn settle_with_room<'a, 'b>(
     table: &'a [u8],
     call: Call,
     sizes: &'a [u32],
@@ -456,26 +406,16 @@ fn settle_clear<'a, 'b>(
     classes: &'b mut [u8],
     before: &'b mut [i32],
     after: &'b mut [i32],
-    first: &'b mut [u64],
-    second: &'b mut [u64],
+    work: &'b mut [u64],
 ) -> Settled
-    requires { ⌜ (tableFault (now table) (call .count) ≡ Clear) × (length (now glyphs) ≤ 1024) × (length (now sizes) ≡ length (now glyphs)) × SmallSizes (now sizes) ⌝ }
-    requires { ⌜
-        LineRoom (length (now glyphs)) (now classes) (now before) (now after)
-        × (length (now first) ≡ length (now glyphs)) × (length (now second) ≡ length (now glyphs))
-        ⌝ }
-    ensures { λ r. ⌜
-        SettledIn (sideOf (call .shape .direction) (meaningOf (now (table .entry)) (call .count))) (call .count)
-        (lineBy (call .shape) (now (sizes .entry)) (now (glyphs .entry)) (now (advances .entry))) (call .room)
-        (now (classes .entry)) (now (before .entry)) (now (after .entry))
-        r (now (classes .exit)) (now (before .exit)) (now (after .exit)) (now (first .exit)) (now (second .exit))
-        ⌝ }
+    requires { ⌜ Judged (now table) (call .count) (now sizes) (now glyphs) × (length (now work) ≡ 2 * length (now glyphs)) × LineRoom (length (now glyphs)) (now classes) (now before) (now after) ⌝ }
+    ensures { λ r. ⌜ SettledCall (now (table .entry)) call (now (sizes .entry)) (now (glyphs .entry)) (now (advances .entry)) (now (classes .entry)) (now (before .entry)) (now (after .entry)) r (now (classes .exit)) (now (before .exit)) (now (after .exit)) (now (work .exit)) ⌝ }
 {
     let n = glyphs.len();
+    let m = 2 * n;
     if n <= 128 {
         let mut held = [0u8; 128];
-        let mut befores = [0u64; 128];
-        let mut afters = [0u64; 128];
+        let mut moves = [0u64; 256];
         return settle_in(
             table,
             call,
@@ -483,18 +423,15 @@ fn settle_clear<'a, 'b>(
             glyphs,
             advances,
             &mut held[..n],
-            &mut befores[..n],
-            &mut afters[..n],
+            &mut moves[..m],
             classes,
             before,
             after,
-            first,
-            second,
+            work,
         );
     }
     let mut held = [0u8; 1024];
-    let mut befores = [0u64; 1024];
-    let mut afters = [0u64; 1024];
+    let mut moves = [0u64; 2048];
     settle_in(
         table,
         call,
@@ -502,18 +439,15 @@ fn settle_clear<'a, 'b>(
         glyphs,
         advances,
         &mut held[..n],
-        &mut befores[..n],
-        &mut afters[..n],
+        &mut moves[..m],
         classes,
         before,
         after,
-        first,
-        second,
+        work,
     )
 }
 
-// All of a line's call but the storing of its verdicts, for which there is `room`: their bits are left in `first` and
-// `second`.
+// All of a line's call but the storing of its verdicts, for which there is `room`: their bits are left in `work`.
 pub fn settle<'a, 'b>(
     table: &'a [u8],
     count: u32,
@@ -525,10 +459,9 @@ pub fn settle<'a, 'b>(
     classes: &'b mut [u8],
     before: &'b mut [i32],
     after: &'b mut [i32],
-    first: &'b mut [u64],
-    second: &'b mut [u64],
+    work: &'b mut [u64],
 ) -> Settled
-    requires { ⌜ Rooms (length (now glyphs)) (now first) (now second) ⌝ }
+    requires { ⌜ Room (length (now glyphs)) (now work) ⌝ }
     ensures { λ r. ⌜
         ((verdicts : List Verdict) → length verdicts ≡ room →
         settlementIs r (now (classes .exit)) (now (before .exit)) (now (after .exit))
@@ -538,7 +471,7 @@ pub fn settle<'a, 'b>(
         × Tells (r .stored)
         (verdictsOf (sideOf (shape .direction) (meaningOf (now (table .entry)) count))
         (lineBy shape (now (sizes .entry)) (now (glyphs .entry)) (now (advances .entry))))
-        (now (first .exit)) (now (second .exit))
+        (now (work .exit))
         ⌝ }
 {
     let fault = input_fault(
@@ -553,14 +486,11 @@ pub fn settle<'a, 'b>(
         after.len(),
     );
     if let Fault::Bad { refusal, at } = fault {
-        return Settled {
-            answer: LineAnswer::Refused { refusal, at },
-            stored: 0,
-        };
+        return refused(refusal, at);
     }
-    let n = glyphs.len();
+    let m = 2 * glyphs.len();
     let call = Call { count, shape, room };
-    settle_clear(
+    settle_with_room(
         table,
         call,
         sizes,
@@ -569,7 +499,6 @@ pub fn settle<'a, 'b>(
         classes,
         before,
         after,
-        &mut first[..n],
-        &mut second[..n],
+        &mut work[..m],
     )
 }

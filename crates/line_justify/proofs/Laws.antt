@@ -6,7 +6,7 @@ use native.Mathlib.Omega.{arith}
 use lib.ListN.{length, set, drop, length-drop}
 use Rattle.types.specs.declared.Verdict.{Verdict}
 use Rattle.line_verdicts.specs.declared.Cursor.{Cursor}
-use Rattle.line_verdicts.specs.declared.Step.{Step}
+use Rattle.line_verdicts.specs.declared.VerdictStep.{VerdictStep}
 use Rattle.line_verdicts.specs.Bits.{told, leftAt, startCursor, Serves}
 use Rattle.line_verdicts.proofs.Told.{start-left, start-serves}
 use Rattle.line_justify.specs.Stored.{filledWith}
@@ -44,24 +44,24 @@ drop-next (x ∷ vs) zero v rest e = cc
 drop-next (x ∷ vs) (suc i) v rest e = drop-next vs i v rest e
 
 -- a cursor where i of the verdicts are taken
-pub record Taken (fired substituted : List ℕ) (i : ℕ) (c : Cursor) : Type 0 where
-  pub left : leftAt fired substituted c ≡ drop i (told fired substituted)
-  pub serves : Serves fired c
+pub record Taken (bits : List ℕ) (i : ℕ) (c : Cursor) : Type 0 where
+  pub left : leftAt bits c ≡ drop i (told bits)
+  pub serves : Serves bits c
 
-module _ (fs ss : List ℕ) where
+module _ (bits : List ℕ) where
   -- none is taken
-  pub taken-none : Taken fs ss 0 startCursor
-  taken-none = record { left = start-left fs ss; serves = start-serves fs ss }
+  pub taken-none : Taken bits 0 startCursor
+  taken-none = record { left = start-left bits; serves = start-serves bits }
 
-  module _ (i : ℕ) (c : Cursor) (k : Taken fs ss i c) where
+  module _ (i : ℕ) (c : Cursor) (k : Taken bits i c) where
     -- where there are more, one is left
-    pub one-left : i < length (told fs ss) → 0 < length (leftAt fs ss c)
-    one-left h = omega (arith, h, length-drop i (told fs ss), ap (λ (vs : List Verdict). length vs) (k .left))
+    pub one-left : i < length (told bits) → 0 < length (leftAt bits c)
+    one-left h = omega (arith, h, length-drop i (told bits), ap (λ (vs : List Verdict). length vs) (k .left))
 
-    module _ (r : Step) (e : leftAt fs ss c ≡ r .verdict ∷ leftAt fs ss (r .next)) where
+    module _ (r : VerdictStep) (e : leftAt bits c ≡ r .verdict ∷ leftAt bits (r .next)) where
       -- the step takes the next of them
-      pub taken-verdict : drop i (told fs ss) ≡ r .verdict ∷ leftAt fs ss (r .next)
+      pub taken-verdict : drop i (told bits) ≡ r .verdict ∷ leftAt bits (r .next)
       taken-verdict = sym (k .left) ∙ e
 
-      pub taken-next : Serves fs (r .next) → Taken fs ss (suc i) (r .next)
-      taken-next h = record { left = sym (drop-next (told fs ss) i (r .verdict) (leftAt fs ss (r .next)) taken-verdict); serves = h }
+      pub taken-next : Serves bits (r .next) → Taken bits (suc i) (r .next)
+      taken-next h = record { left = sym (drop-next (told bits) i (r .verdict) (leftAt bits (r .next)) taken-verdict); serves = h }

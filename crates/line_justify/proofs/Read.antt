@@ -31,7 +31,7 @@ module _ {M : Type 1} (𝓤 : URA M) (H : Heap 𝓤) (A : Atoms 𝓤) where
     pub twice-slice : (ℓ : Lifetime) (κ : Lft) (R : RattleType) (y : RefT (List (R .Denot))) (vs : List Val) → Twice (ShrSlice ℓ κ R .own y vs)
     twice-slice ℓ κ R y vs = record { both = shr-slice-copy 𝓤 H A W ℓ κ R .twice y vs }
 
-    pub twice-both : {F G : Fml} → Twice F → Twice G → Twice (fsep F G)
+    twice-both : {F G : Fml} → Twice F → Twice G → Twice (fsep F G)
     twice-both {F} {G} e e′ =
         record {
           both =

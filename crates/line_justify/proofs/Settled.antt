@@ -16,10 +16,10 @@ use Rattle.meaning.specs.Meaning.{Side}
 use Rattle.meaning.specs.Ask.{sideOf}
 use Rattle.table.specs.Means.{meaningOf}
 use Rattle.line_rule.specs.Line.{Line, verdictsOf}
-use Rattle.line_verdicts.specs.Bits.{told, Kept}
+use Rattle.line_verdicts.specs.Bits.{told, BitPairs}
 use Rattle.line_call.specs.declared.Settled.{Settled}
 use Rattle.line_call.specs.Justified.{Outcome, Lent, lineFault, settled, justified}
-use Rattle.line_call.specs.Settle.{lentBy, Settlement, settlementIs, settlementIn, Rooms, Tells}
+use Rattle.line_call.specs.Settle.{lentBy, Settlement, settlementIs, settlementIn, Room, Tells}
 use Rattle.line_justify.specs.Stored.{filledWith, Storable}
 use Rattle.line_justify.specs.Outcome.{outcomeIs}
 
@@ -28,9 +28,9 @@ stored-all : (vs ys : List Verdict) → filledWith vs (length vs) ys ≡ vs ++ d
 unfolding filledWith
 stored-all vs ys = ap (λ (l : List Verdict). l ++ drop (length vs) ys) (take-all (length vs) vs (omega arith))
 
--- rooms that are as long as they were
-pub kept-rooms : (n : ℕ) (fs ss fs′ ss′ : List ℕ) → Rooms n fs ss → length fs′ ≡ length fs → length ss′ ≡ length ss → Kept fs′ ss′
-kept-rooms n fs ss fs′ ss′ k e e′ = record { even = omega (arith, k .even, e, e′); few = omega (arith, k .few, e) }
+-- room that is as long as it was
+pub kept-room : (n : ℕ) (work bits : List ℕ) → Room n work → length bits ≡ length work → BitPairs bits
+kept-room n work bits k e = record { glyphs = k .glyphs; even = e ∙ k .even; few = k .few }
 
 module _ (t : List ℕ) (n : ℕ) (l : Line) (cs : List ℕ) (bs fs : List ℤ) (ys : List Verdict) where
   abbrev b : Lent
@@ -43,12 +43,12 @@ module _ (t : List ℕ) (n : ℕ) (l : Line) (cs : List ℕ) (bs fs : List ℤ) 
   unfolding lineFault
   has-room clear = leb-true _ _ (rule-holds _ ShortRoom 0 (then-second _ _ clear))
 
-  module _ (r : Settled) (cs′ : List ℕ) (bs′ fs′ : List ℤ) (first second : List ℕ) (e : settlementIs r cs′ bs′ fs′ ≡ settlementIn (justified t n l b)) (tells : Tells (r .stored) (verdictsOf s l) first second) where
+  module _ (r : Settled) (cs′ : List ℕ) (bs′ fs′ : List ℤ) (bits : List ℕ) (e : settlementIs r cs′ bs′ fs′ ≡ settlementIn (justified t n l b)) (tells : Tells (r .stored) (verdictsOf s l) bits) where
     stored-in : (o : Outcome) → settlementIs r cs′ bs′ fs′ ≡ settlementIn o → r .stored ≡ settlementIn o .stored
     stored-in o w = ap (λ (x : Settlement). x .stored) w
 
     -- the verdicts can be stored
-    pub settled-storable : Kept first second → Storable first second (r .stored) (length ys)
+    pub settled-storable : BitPairs bits → Storable bits (r .stored) (length ys)
     unfolding justified
     settled-storable kept = record { room = go (lineFault t n l b) refl e; most = tells .most; kept = kept }
       where
@@ -61,7 +61,7 @@ module _ (t : List ℕ) (n : ℕ) (l : Line) (cs : List ℕ) (bs fs : List ℤ) 
     joins o zs w h = λ i. record { answer = w i .answer; lent = lentBy (w i .classes) (w i .before) (w i .after) (h i) }
 
     -- and with them the outcome is the call's
-    pub settled-outcome : (zs : List Verdict) → zs ≡ filledWith (told first second) (r .stored) ys → outcomeIs (r .answer) cs′ bs′ fs′ zs ≡ justified t n l b
+    pub settled-outcome : (zs : List Verdict) → zs ≡ filledWith (told bits) (r .stored) ys → outcomeIs (r .answer) cs′ bs′ fs′ zs ≡ justified t n l b
     unfolding justified filledWith
     settled-outcome zs f = go (lineFault t n l b) e
       where

@@ -1,11 +1,11 @@
 // Verdicts in a lent list of records (document 01, "Verdicts" and "What form to use where"): one thin function stores
-// a record; which verdicts there are is found while they are counted, and kept in two rooms until they are stored.
+// a record; which verdicts there are is found while they are counted, and kept as bits in a room until they are stored.
 ghost use mathlib.Core.Path.{_≡_};
 ghost use Prim.Native.Nat.{_<_};
 ghost use lib.ListN.{length, set};
 ghost use Rattle.line_verdicts.specs.Bits.{told};
 ghost use Rattle.line_call.specs.Justified.{justified};
-ghost use Rattle.line_call.specs.Settle.{Rooms, lineBy, lentBy};
+ghost use Rattle.line_call.specs.Settle.{Room, lineBy, lentBy};
 ghost use Rattle.line_justify.specs.Outcome.{outcomeIs};
 ghost use Rattle.line_justify.specs.Stored.{filledWith, Storable};
 use line_call::LineAnswer;
@@ -22,12 +22,9 @@ fn store(list: &mut [Verdict], at: usize, verdict: Verdict)
 }
 
 // The first n verdicts that the bits tell go into the list.
-fn fill<'v, 'a>(list: &'v mut [Verdict], fired: &'a [u64], substituted: &'a [u64], n: usize)
-    requires { ⌜ Storable (now fired) (now substituted) n (length (now list)) ⌝ }
-    ensures { λ _. ⌜
-        now (list .exit)
-        ≡ filledWith (told (now (fired .entry)) (now (substituted .entry))) n (now (list .entry))
-        ⌝ }
+fn fill<'v, 'a>(list: &'v mut [Verdict], bits: &'a [u64], n: usize)
+    requires { ⌜ Storable (now bits) n (length (now list)) ⌝ }
+    ensures { λ _. ⌜ now (list .exit) ≡ filledWith (told (now (bits .entry))) n (now (list .entry)) ⌝ }
 {
     let mut cursor = Cursor {
         next: 0,
@@ -37,14 +34,14 @@ fn fill<'v, 'a>(list: &'v mut [Verdict], fired: &'a [u64], substituted: &'a [u64
     };
     let mut i = 0;
     while i < n {
-        let step = line_verdicts::next_verdict(fired, substituted, cursor);
+        let step = line_verdicts::next_verdict(bits, cursor);
         store(list, i, step.verdict);
         cursor = step.next;
         i += 1;
     }
 }
 
-// The call, over a room of two numbers for each glyph.
+// The call, over room for two numbers of each glyph.
 fn justify_in<'a, 'v, 'w>(
     table: &'a [u8],
     count: u32,
@@ -56,16 +53,10 @@ fn justify_in<'a, 'v, 'w>(
     before: &'a mut [i32],
     after: &'a mut [i32],
     verdicts: &'v mut [Verdict],
-    first: &'w mut [u64],
-    second: &'w mut [u64],
+    work: &'w mut [u64],
 ) -> LineAnswer
-    requires { ⌜ Rooms (length (now glyphs)) (now first) (now second) ⌝ }
-    ensures { λ r. ⌜
-        outcomeIs r (now (classes .exit)) (now (before .exit)) (now (after .exit)) (now (verdicts .exit))
-        ≡ justified (now (table .entry)) count
-        (lineBy shape (now (sizes .entry)) (now (glyphs .entry)) (now (advances .entry)))
-        (lentBy (now (classes .entry)) (now (before .entry)) (now (after .entry)) (now (verdicts .entry)))
-        ⌝ }
+    requires { ⌜ Room (length (now glyphs)) (now work) ⌝ }
+    ensures { λ r. ⌜ outcomeIs r (now (classes .exit)) (now (before .exit)) (now (after .exit)) (now (verdicts .exit)) ≡ justified (now (table .entry)) count (lineBy shape (now (sizes .entry)) (now (glyphs .entry)) (now (advances .entry))) (lentBy (now (classes .entry)) (now (before .entry)) (now (after .entry)) (now (verdicts .entry))) ⌝ }
 {
     let room = verdicts.len();
     let settled = line_call::settle(
@@ -79,11 +70,10 @@ fn justify_in<'a, 'v, 'w>(
         classes,
         before,
         after,
-        first,
-        second,
+        work,
     );
     let n = settled.stored;
-    fill(verdicts, first, second, n);
+    fill(verdicts, work, n);
     settled.answer
 }
 
@@ -109,8 +99,7 @@ pub fn justify<'a, 'v>(
 {
     // Most lines are short, and less room is sooner cleared.
     if glyphs.len() <= 128 {
-        let mut first = [0u64; 128];
-        let mut second = [0u64; 128];
+        let mut work = [0u64; 256];
         return justify_in(
             table,
             count,
@@ -122,12 +111,10 @@ pub fn justify<'a, 'v>(
             before,
             after,
             verdicts,
-            &mut first,
-            &mut second,
+            &mut work,
         );
     }
-    let mut first = [0u64; 1024];
-    let mut second = [0u64; 1024];
+    let mut work = [0u64; 2048];
     justify_in(
         table,
         count,
@@ -139,7 +126,6 @@ pub fn justify<'a, 'v>(
         before,
         after,
         verdicts,
-        &mut first,
-        &mut second,
+        &mut work,
     )
 }

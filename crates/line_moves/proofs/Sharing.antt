@@ -1,8 +1,8 @@
--- From parts that stand in four lists to a gap that is shared.
-use Prim.Native.Nat.{ℕ, suc, _+_, _≤_, _<_}
+-- From parts that stand in two lists to a gap that is shared.
+use Prim.Native.Nat.{ℕ, suc, _+_, _*_, _≤_, _<_}
 use mathlib.Core.Path.{_≡_, refl, sym, ap, _∙_, subst}
 use mathlib.Core.Bool.{Bool, true, false, cond}
-use mathlib.Core.List.{List, map}
+use mathlib.Core.List.{List}
 use native.Mathlib.Omega.{arith}
 use lib.IntN.{ℤ, pos, negsuc, natAbs, _-ℤ_}
 use lib.Dec.{T}
@@ -10,101 +10,86 @@ use lib.Signed.{ltZ, nonNeg}
 use mir.Syntax.{w64}
 use mir.Val.{Fits, SFits, toZ, ofZ}
 use mir.ValLaws.{toZ-ofZ}
-use lib.ListN.{length, length-map}
+use lib.ListN.{length}
 use borrow.Author.Tests.{ltb-true}
+use Rattle.fields.specs.Field.{Bytes}
+use Rattle.types.specs.declared.Direction.{Direction}
 use Rattle.meaning.specs.Meaning.{Side}
+use Rattle.meaning.specs.Ask.{sideOf}
+use Rattle.table.specs.Means.{meaningOf}
 use Rattle.line_rule.specs.Line.{goesBack, partsOf}
-use Rattle.share.specs.Line.{Glyph, Narrow, glyphsOf, Lent, Parts, lineLeft, lineFits, beforeMoves, afterMoves, signedOf}
-use Rattle.share.proofs.Lines.{glyphsOf-parts, line-sum}
+use Rattle.share.specs.Share.{stages}
+use Rattle.share.specs.declared.Totals.{Totals}
+use Rattle.share.specs.Line.{Glyph, Narrow, lineMoves, lineLeft, lineFits, signedOf}
+use Rattle.share.specs.Sides.{Sides, totalsWithin, movesIn, leftIn, fitsIn}
+use Rattle.share.proofs.Sums.{totals-fit}
+use Rattle.share.proofs.Lines.{line-sum}
+use Rattle.line_moves.proofs.Parts.{record-limits, parts-narrow}
 use Rattle.line_moves.specs.declared.Shared.{Shared}
 use Rattle.line_moves.specs.declared.Shared.the-variants.{Left, Over}
-use Rattle.line_moves.specs.Parts.{Laid, inUnits, SharedOut, SharedGap}
+use Rattle.line_moves.specs.Parts.{Laid, LaidOut, inUnits, SharedOut, SharedGap, Sharable}
 
-module _ {ps : List Glyph} {ks us bs cs : List ℕ} (w : Laid ps ks us bs cs) where
-  laid-narrow : {xs : List ℕ} (f : Glyph → ℕ) → xs ≡ map f ps → Narrow (map f ps) → Narrow xs
-  laid-narrow f e n = subst Narrow (sym e) n
+module _ {ps : List Glyph} {sides fs : List ℕ} (w : Laid ps sides fs) where
+  -- the rule on the two lists
+  pub laid-moves : (back : Bool) (gap : ℕ) → movesIn back sides fs gap ≡ lineMoves back ps gap
+  unfolding lineMoves
+  laid-moves back gap = rw (w .stages, w .extras, w .factors)
 
-  count : {xs : List ℕ} (f : Glyph → ℕ) → xs ≡ map f ps → length xs ≡ length ps
-  count f e = ap length e ∙ length-map ps f
+  pub laid-left : (back : Bool) (gap : ℕ) → leftIn back sides fs gap ≡ lineLeft back ps gap
+  unfolding lineLeft
+  laid-left back gap = rw (w .stages, w .extras, w .factors)
 
-  pub laid-lent : length ps ≤ 1024 → Narrow (map (λ (g : Glyph). g .before) ps) × Narrow (map (λ (g : Glyph). g .after) ps) → Lent (length ks) ks us bs cs
-  laid-lent h n =
-      let k = count (λ (g : Glyph). g .stage) (w .priorities) in
-      record {
-        stages = refl;
-        extras = count (λ (g : Glyph). g .extra) (w .extras) ∙ sym k;
-        first = count (λ (g : Glyph). g .before) (w .first) ∙ sym k;
-        second = count (λ (g : Glyph). g .after) (w .second) ∙ sym k;
-        low-first = laid-narrow (λ (g : Glyph). g .before) (w .first) (n .0);
-        low-second = laid-narrow (λ (g : Glyph). g .after) (w .second) (n .1);
-        short = omega arith;
-      }
+-- refusal 15's test, on the totals that were found
+module _ {ps : List Glyph} {ts : Totals} {sides fs : List ℕ} (w : LaidOut ps ts sides fs) {r : Bool} (e : r ≡ totalsWithin ts stages) where
+  pub test-sides : fitsIn sides fs ≡ r
+  test-sides = sym (e ∙ totals-fit ts sides fs (w .totals))
 
-  pub laid-priorities : length ks ≡ length ps
-  laid-priorities = count (λ (g : Glyph). g .stage) (w .priorities)
+  pub test-line : lineFits ps ≡ r
+  unfolding lineFits
+  test-line = rw (sym (w .laid .stages), sym (w .laid .factors)) test-sides
 
-  pub laid-parts : Narrow (map (λ (g : Glyph). g .before) ps) × Narrow (map (λ (g : Glyph). g .after) ps) → Parts (length ks) ks bs cs
-  laid-parts n =
-      record {
-        stages = refl;
-        first = count (λ (g : Glyph). g .before) (w .first) ∙ sym laid-priorities;
-        second = count (λ (g : Glyph). g .after) (w .second) ∙ sym laid-priorities;
-        low-first = laid-narrow (λ (g : Glyph). g .before) (w .first) (n .0);
-        low-second = laid-narrow (λ (g : Glyph). g .after) (w .second) (n .1);
-      }
-
-  pub laid-glyphs : glyphsOf ks us bs cs ≡ ps
-  laid-glyphs =
-      ap (λ (x : List ℕ). glyphsOf x us bs cs) (w .priorities)
-      ∙ ap (λ (x : List ℕ). glyphsOf (map (λ (g : Glyph). g .stage) ps) x bs cs) (w .extras)
-      ∙ ap (λ (x : List ℕ). glyphsOf (map (λ (g : Glyph). g .stage) ps) (map (λ (g : Glyph). g .extra) ps) x cs) (w .first)
-      ∙ ap (λ (x : List ℕ). glyphsOf (map (λ (g : Glyph). g .stage) ps) (map (λ (g : Glyph). g .extra) ps) (map (λ (g : Glyph). g .before) ps) x) (w .second)
-      ∙ glyphsOf-parts ps
-
-  -- refusal 15's test
-  pub laid-fits : {r : Bool} → r ≡ lineFits (glyphsOf ks us bs cs) → lineFits ps ≡ r
-  laid-fits e = sym (e ∙ ap lineFits laid-glyphs)
+-- the two lists may be shared over
+pub line-sides : (shrink : Bool) (d : Direction) {t : List ℕ} {n : ℕ} {zs gs cs sides fs : List ℕ} → Bytes t → Sharable t n zs gs cs
+    → Laid (partsOf (sideOf d (meaningOf t n)) shrink zs gs cs) sides fs → length sides ≡ 2 * length gs → length fs ≡ 2 * length gs → Sides sides fs
+line-sides shrink d {t} {n} {zs} {gs} {cs} bytes w l e f =
+    record {
+      even = f ∙ sym e;
+      few = omega (arith, w .short);
+      narrow = subst Narrow (sym (l .factors)) (parts-narrow (sideOf d (meaningOf t n)) shrink (record-limits t n d bytes (w .accepted)) zs (w .small) gs cs);
+    }
 
 -- no more is left than the gap
 pub left-small : (back : Bool) (ps : List Glyph) (gap : ℕ) → lineLeft back ps gap ≤ gap
 left-small back ps gap = omega (arith, line-sum back ps gap)
 
-module _ (shrink back : Bool) (gap : ℕ) (ps qs : List Glyph) (same : qs ≡ ps) (bs fs : List ℕ) where
-  pub shared-left : {z : ℤ} {bs′ fs′ : List ℕ} → lineFits ps ≡ true → z ≡ signedOf shrink (lineLeft back qs gap) → bs′ ≡ beforeMoves back qs gap → fs′ ≡ afterMoves back qs gap
-      → SharedOut shrink back gap ps bs fs (Left (inUnits z)) bs′ fs′
-  shared-left {z} {bs′} {fs′} fits e b f =
+module _ (shrink back : Bool) (gap : ℕ) (ps : List Glyph) (ms : List ℕ) where
+  pub shared-left : {z : ℤ} {ms′ : List ℕ} → lineFits ps ≡ true → z ≡ signedOf shrink (lineLeft back ps gap) → ms′ ≡ lineMoves back ps gap
+      → SharedOut shrink back gap ps ms (Left (inUnits z)) ms′
+  shared-left {z} {ms′} fits e m =
       record {
         answer =
-            ap (λ (x : ℤ). Left (inUnits x)) (e ∙ ap (λ (x : List Glyph). signedOf shrink (lineLeft back x gap)) same)
+            ap (λ (x : ℤ). Left (inUnits x)) e
             ∙ ap (λ (t : Bool). cond t (Left (inUnits (signedOf shrink (lineLeft back ps gap)))) Over) (sym fits);
-        before =
-            b
-            ∙ ap (λ (x : List Glyph). beforeMoves back x gap) same
-            ∙ ap (λ (t : Bool). cond t (beforeMoves back ps gap) bs) (sym fits);
-        after =
-            f
-            ∙ ap (λ (x : List Glyph). afterMoves back x gap) same
-            ∙ ap (λ (t : Bool). cond t (afterMoves back ps gap) fs) (sym fits);
+        moves = m ∙ ap (λ (t : Bool). cond t (lineMoves back ps gap) ms) (sym fits);
       }
 
-pub shared-over : (shrink back : Bool) (gap : ℕ) (ps : List Glyph) (bs fs : List ℕ) → lineFits ps ≡ false → SharedOut shrink back gap ps bs fs Over bs fs
-shared-over shrink back gap ps bs fs e =
-    record {
-      answer = ap (λ (t : Bool). cond t (Left (inUnits (signedOf shrink (lineLeft back ps gap)))) Over) (sym e);
-      before = ap (λ (t : Bool). cond t (beforeMoves back ps gap) bs) (sym e);
-      after = ap (λ (t : Bool). cond t (afterMoves back ps gap) fs) (sym e);
-    }
+  pub shared-over : lineFits ps ≡ false → SharedOut shrink back gap ps ms Over ms
+  shared-over e =
+      record {
+        answer = ap (λ (t : Bool). cond t (Left (inUnits (signedOf shrink (lineLeft back ps gap)))) Over) (sym e);
+        moves = ap (λ (t : Bool). cond t (lineMoves back ps gap) ms) (sym e);
+      }
 
 -- ---- the gap's sign
 
 -- by the gap's sign, the edition and the gap's size, as the code found them
-pub by-sign : (gap : ℤ) (edition : ℕ) {b back : Bool} {n : ℕ} (s : Side) (sizes glyphs classes : List ℕ) {bs fs bs′ fs′ : List ℕ} {sh : Shared} → b ≡ ltZ gap (pos 0)
+pub by-sign : (gap : ℤ) (edition : ℕ) {b back : Bool} {n : ℕ} (s : Side) (sizes glyphs classes : List ℕ) {ms ms′ : List ℕ} {sh : Shared} → b ≡ ltZ gap (pos 0)
     → back ≡ goesBack edition → n ≡ natAbs gap
-    → SharedOut b back n (partsOf s b sizes glyphs classes) bs fs sh bs′ fs′ → SharedGap gap edition s sizes glyphs classes bs fs sh bs′ fs′
-by-sign gap edition {b} {back} {n} s sizes glyphs classes {bs} {fs} {bs′} {fs′} {sh} eb ek en w =
-    subst (λ (x : Bool). SharedOut x (goesBack edition) (natAbs gap) (partsOf s x sizes glyphs classes) bs fs sh bs′ fs′) eb
-    (subst (λ (k : Bool). SharedOut b k (natAbs gap) (partsOf s b sizes glyphs classes) bs fs sh bs′ fs′) ek
-    (subst (λ (x : ℕ). SharedOut b back x (partsOf s b sizes glyphs classes) bs fs sh bs′ fs′) en w))
+    → SharedOut b back n (partsOf s b sizes glyphs classes) ms sh ms′ → SharedGap gap edition s sizes glyphs classes ms sh ms′
+by-sign gap edition {b} {back} {n} s sizes glyphs classes {ms} {ms′} {sh} eb ek en w =
+    subst (λ (x : Bool). SharedOut x (goesBack edition) (natAbs gap) (partsOf s x sizes glyphs classes) ms sh ms′) eb
+    (subst (λ (k : Bool). SharedOut b k (natAbs gap) (partsOf s b sizes glyphs classes) ms sh ms′) ek
+    (subst (λ (x : ℕ). SharedOut b back x (partsOf s b sizes glyphs classes) ms sh ms′) en w))
 
 -- a gap as it is read, and its size
 module _ (z : ℤ) (h : natAbs z ≤ 1073741823) (fits : SFits w64 z) where

@@ -2,7 +2,7 @@
 // accepted table: the classes of the line's glyphs, the part of each glyph, and the movements of its two sides.
 ghost use mathlib.Core.Path.{_≡_};
 ghost use mathlib.Core.Bool.{cond};
-ghost use Prim.Native.Nat.{_≤_};
+ghost use Prim.Native.Nat.{_+_, _*_, _≤_, _<_};
 ghost use lib.IntN.{pos, natAbs};
 ghost use lib.Signed.{ltZ};
 ghost use lib.ListN.{length, replicate};
@@ -16,12 +16,13 @@ ghost use Rattle.table.specs.Means.{meaningOf};
 ghost use Rattle.table_ask.specs.Places.{lookupIn, Readable};
 ghost use Rattle.class_walk.specs.Line.{HandedOut};
 ghost use Rattle.line_rule.specs.Line.{walkOf, recordFor, unitsOf, stageOf, partBy, partOf, partsOf};
-ghost use Rattle.line_moves.specs.Parts.{Known, bareLine, SmallSizes, Small, IsSize, PartOf, Laid, PartsRoom, SharedGap};
+ghost use Rattle.line_moves.specs.Parts.{Known, bareLine, Small, IsSize, PartOf, glyphOf, Layable, Laying, LaidOut, Sharable, SharedGap};
 use actions::Spot;
 use class_walk::Walked;
 use cluster::Sought;
 use line_rule::LineShape;
 use lookup_targets::Kind;
+use share::Totals;
 use table_ask::Lookup;
 use types::Direction;
 use units::Ems;
@@ -44,7 +45,7 @@ pub enum Shared {
 }
 
 // The priority of a glyph that has no record, and takes no part: no stage.
-const APART: u8 = 255;
+const APART: u8 = 15;
 
 // The walk of a line by the machine of a direction, which stores the glyphs' classes over zeros; with no machine, every
 // class 0 and no entry taken.
@@ -67,7 +68,7 @@ pub fn line_walk(
             count: 0,
         };
     }
-    let here = offset + 8;
+    let here = offset + machine::UNREAD;
     class_walk::walk_line(table, here, glyphs, shape.starts, shape.ends, classes)
 }
 
@@ -182,7 +183,23 @@ fn record_for(
     }
 }
 
-// The parts of a line's glyphs, each at its own size, and each of the four in a slice of its own.
+// One glyph's part, stored at its place: its two sides and their factors. Answers the two factors together.
+fn lay_part(part: Part, place: usize, sides: &mut [u8], factors: &mut [u64]) -> u64
+    requires { ⌜ PartOf part (glyphOf part) × Layable (glyphOf part) ⌝ }
+    requires { ⌜ (2 * place + 1 < length (now sides)) × (2 * place + 1 < length (now factors)) ⌝ }
+    ensures { λ r. ⌜ Laying (glyphOf part) place (now (sides .entry)) (now (factors .entry)) r (now (sides .exit)) (now (factors .exit)) ⌝ }
+{
+    let before = plain(part.before);
+    let after = plain(part.after);
+    sides[2 * place] = share::side_of(part.priority, 0);
+    sides[2 * place + 1] = share::side_of(part.priority, part.extra);
+    factors[2 * place] = before;
+    factors[2 * place + 1] = after;
+    before + after
+}
+
+// The parts of a line's glyphs, each at its own size, side by side; answers the totals of the stages. Two factors a glyph, none
+// above 1,073,741,824, and 1,024 glyphs: no sum passes 2 to the power 41.
 fn lay_parts(
     table: &[u8],
     count: u32,
@@ -191,31 +208,29 @@ fn lay_parts(
     sizes: &[u32],
     glyphs: &[u16],
     classes: &[u8],
-    priorities: &mut [u8],
-    extras: &mut [u8],
-    first: &mut [u64],
-    second: &mut [u64],
-)
-    requires { ⌜ (tableFault (now table) count ≡ Clear) × (length (now classes) ≡ length (now glyphs)) × (length (now sizes) ≡ length (now glyphs)) ⌝ }
-    requires { ⌜ PartsRoom (length (now glyphs)) (now priorities) (now extras) (now first) (now second) ⌝ }
-    ensures { λ r. ⌜ Laid (partsOf (sideOf (shape .direction) (meaningOf (now (table .entry)) count)) shrink (now (sizes .entry)) (now (glyphs .entry)) (now (classes .entry))) (now (priorities .exit)) (now (extras .exit)) (now (first .exit)) (now (second .exit)) ⌝ }
+    sides: &mut [u8],
+    factors: &mut [u64],
+) -> Totals
+    requires { ⌜ Sharable (now table) count (now sizes) (now glyphs) (now classes) ⌝ }
+    requires { ⌜ (length (now sides) ≡ 2 * length (now glyphs)) × (length (now factors) ≡ 2 * length (now glyphs)) ⌝ }
+    ensures { λ r. ⌜ LaidOut (partsOf (sideOf (shape .direction) (meaningOf (now (table .entry)) count)) shrink (now (sizes .entry)) (now (glyphs .entry)) (now (classes .entry))) r (now (sides .exit)) (now (factors .exit)) ⌝ }
 {
     let direction = shape.direction;
     let clusters = table_ask::lookup_in(table, direction, Kind::Clusters);
+    let mut sums = [0u64; 16];
     let mut i = 0;
     while i < glyphs.len() {
         let sought = record_for(table, count, direction, clusters, glyphs[i], classes[i]);
         let part = part_of(shrink, sizes[i], sought);
-        priorities[i] = part.priority;
-        extras[i] = part.extra;
-        first[i] = plain(part.before);
-        second[i] = plain(part.after);
+        let priority = part.priority;
+        sums[priority as usize] += lay_part(part, i, sides, factors);
         i += 1;
     }
+    Totals { sums }
 }
 
 // A gap shared over the sides of a line's glyphs, unless refusal 15 bars it, with room for their parts: the sizes of
-// their movements go into `before` and `after`, which are all 0.
+// their movements go into `moves`, which are all 0.
 fn share_parts(
     table: &[u8],
     count: u32,
@@ -224,20 +239,16 @@ fn share_parts(
     sizes: &[u32],
     glyphs: &[u16],
     classes: &[u8],
-    priorities: &mut [u8],
-    extras: &mut [u8],
-    first: &mut [u64],
-    second: &mut [u64],
-    before: &mut [u64],
-    after: &mut [u64],
+    sides: &mut [u8],
+    factors: &mut [u64],
+    moves: &mut [u64],
 ) -> Shared
-    requires { ⌜ (tableFault (now table) count ≡ Clear) × (length (now classes) ≡ length (now glyphs)) × (length (now sizes) ≡ length (now glyphs)) ⌝ }
-    requires { ⌜ PartsRoom (length (now glyphs)) (now priorities) (now extras) (now first) (now second) ⌝ }
-    requires { ⌜ (now before ≡ replicate (length (now glyphs)) 0) × (now after ≡ replicate (length (now glyphs)) 0) × (length (now glyphs) ≤ 1024) × (natAbs (gap .0) ≤ 1073741823) × SmallSizes (now sizes) ⌝ }
-    ensures { λ r. ⌜ SharedGap (gap .0) (shape .edition) (sideOf (shape .direction) (meaningOf (now (table .entry)) count)) (now (sizes .entry)) (now (glyphs .entry)) (now (classes .entry)) (now (before .entry)) (now (after .entry)) r (now (before .exit)) (now (after .exit)) ⌝ }
+    requires { ⌜ Sharable (now table) count (now sizes) (now glyphs) (now classes) × (natAbs (gap .0) ≤ 1073741823) ⌝ }
+    requires { ⌜ (length (now sides) ≡ 2 * length (now glyphs)) × (length (now factors) ≡ 2 * length (now glyphs)) × (now moves ≡ replicate (2 * length (now glyphs)) 0) ⌝ }
+    ensures { λ r. ⌜ SharedGap (gap .0) (shape .edition) (sideOf (shape .direction) (meaningOf (now (table .entry)) count)) (now (sizes .entry)) (now (glyphs .entry)) (now (classes .entry)) (now (moves .entry)) r (now (moves .exit)) ⌝ }
 {
     let shrink = shrinks(gap);
-    lay_parts(
+    let totals = lay_parts(
         table,
         count,
         shape,
@@ -245,32 +256,20 @@ fn share_parts(
         sizes,
         glyphs,
         classes,
-        priorities,
-        extras,
-        first,
-        second,
+        sides,
+        factors,
     );
-    let totals = share::line_totals(priorities, first, second);
     if share::totals_fit(totals) {
-        let left = share::share_line(
-            line_rule::goes_back(shape.edition),
-            size_of(gap),
-            totals,
-            priorities,
-            extras,
-            first,
-            second,
-            before,
-            after,
-        );
+        let back = line_rule::goes_back(shape.edition);
+        let left = share::share_line(back, size_of(gap), totals, sides, factors, moves);
         let remainder = share::signed(shrink, left) as i64;
         return Shared::Left(Units(remainder));
     }
     Shared::Over
 }
 
-// A gap shared over the sides of a line's glyphs, unless refusal 15 bars it: the sizes of each glyph's movements go into
-// `before` and `after`, which are all 0. `first` and `second` are room for the factors of the sides.
+// A gap shared over the sides of a line's glyphs, unless refusal 15 bars it: the sizes of their movements go into `moves`,
+// which are all 0. `factors` is room for the factors of the sides.
 pub fn share_glyphs(
     table: &[u8],
     count: u32,
@@ -279,19 +278,31 @@ pub fn share_glyphs(
     sizes: &[u32],
     glyphs: &[u16],
     classes: &[u8],
-    first: &mut [u64],
-    second: &mut [u64],
-    before: &mut [u64],
-    after: &mut [u64],
+    factors: &mut [u64],
+    moves: &mut [u64],
 ) -> Shared
-    requires { ⌜ (tableFault (now table) count ≡ Clear) × (length (now classes) ≡ length (now glyphs)) × (length (now sizes) ≡ length (now glyphs)) ⌝ }
-    requires { ⌜ (length (now first) ≡ length (now glyphs)) × (length (now second) ≡ length (now glyphs)) ⌝ }
-    requires { ⌜ (now before ≡ replicate (length (now glyphs)) 0) × (now after ≡ replicate (length (now glyphs)) 0) × (length (now glyphs) ≤ 1024) × (natAbs (gap .0) ≤ 1073741823) × SmallSizes (now sizes) ⌝ }
-    ensures { λ r. ⌜ SharedGap (gap .0) (shape .edition) (sideOf (shape .direction) (meaningOf (now (table .entry)) count)) (now (sizes .entry)) (now (glyphs .entry)) (now (classes .entry)) (now (before .entry)) (now (after .entry)) r (now (before .exit)) (now (after .exit)) ⌝ }
+    requires { ⌜ Sharable (now table) count (now sizes) (now glyphs) (now classes) × (natAbs (gap .0) ≤ 1073741823) ⌝ }
+    requires { ⌜ (length (now factors) ≡ 2 * length (now glyphs)) × (now moves ≡ replicate (2 * length (now glyphs)) 0) ⌝ }
+    ensures { λ r. ⌜ SharedGap (gap .0) (shape .edition) (sideOf (shape .direction) (meaningOf (now (table .entry)) count)) (now (sizes .entry)) (now (glyphs .entry)) (now (classes .entry)) (now (moves .entry)) r (now (moves .exit)) ⌝ }
 {
-    let n = glyphs.len();
-    let mut priorities = [0u8; 1024];
-    let mut extras = [0u8; 1024];
+    // Most lines are short, and less room is sooner cleared.
+    let m = 2 * glyphs.len();
+    if m <= 256 {
+        let mut sides = [0u8; 256];
+        return share_parts(
+            table,
+            count,
+            shape,
+            gap,
+            sizes,
+            glyphs,
+            classes,
+            &mut sides[..m],
+            factors,
+            moves,
+        );
+    }
+    let mut sides = [0u8; 2048];
     share_parts(
         table,
         count,
@@ -300,11 +311,8 @@ pub fn share_glyphs(
         sizes,
         glyphs,
         classes,
-        &mut priorities[..n],
-        &mut extras[..n],
-        first,
-        second,
-        before,
-        after,
+        &mut sides[..m],
+        factors,
+        moves,
     )
 }

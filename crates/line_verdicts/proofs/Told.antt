@@ -1,123 +1,153 @@
 -- What the bits of a line's glyphs tell, and what is left of it at a cursor.
-use Prim.Native.Nat.{ℕ, zero, suc, _+_, _-_, _/_, _%_, _<_, _^_}
-use mathlib.Core.Path.{_≡_, refl, sym, ap, _∙_, subst}
+use Prim.Native.Nat.{ℕ, zero, suc, _+_, _-_, _*_, _/_, _%_, _<_, _^_}
+use mathlib.Core.Path.{_≡_, refl, sym, ap, ap₂, _∙_, subst}
 use mathlib.Core.Bool.{cond}
 use mathlib.Core.List.{List, [], _∷_, _++_, append-assoc, append-nil}
 use native.Mathlib.Omega.{arith}
-use native.Mathlib.Nat.{add-zero}
+use native.Mathlib.Nat.{add-zero, zero-add}
 use native.Mathlib.Numerals.{add-one}
 use lib.Dec.{eqb}
-use lib.ListN.{length, getD, take, drop, set}
-use lib.Seq.{drop-cons}
+use lib.ListN.{length, getD, take, drop, set, length-set, length-drop}
+use lib.Seq.{drop-cons, length-take-le, take-suc-set, take-at, drop-at}
 use Rattle.types.specs.declared.Verdict.{Verdict}
 use Rattle.line_verdicts.specs.declared.Cursor.{Cursor}
-use Rattle.line_verdicts.specs.declared.Step.{Step}
-use Rattle.line_verdicts.specs.Bits.{verdictOf, bitsTell, tellFrom, toldFrom, told, leftAt, startCursor, Kept, Serves, AtHand, tellAt, Takes}
+use Rattle.line_verdicts.specs.declared.VerdictStep.{VerdictStep}
+use Rattle.line_verdicts.specs.Bits.{verdictOf, bitsTell, tellFrom, toldFrom, told, leftAt, startCursor, BitPairs, Serves, AtHand, tellAt, Takes}
 use Rattle.line_verdicts.proofs.Bits.{half-low, tell-zero}
 
 -- ---- one glyph after the other
 
-module _ (fs ss : List ℕ) (even : length ss ≡ length fs) where
-  told-next : (k : ℕ) → k < length fs
-      → toldFrom k (drop k fs) (drop k ss) ≡ tellFrom k 0 (getD fs k 0) (getD ss k 0) ++ toldFrom (k + 1) (drop (k + 1) fs) (drop (k + 1) ss)
+-- what the glyphs from a place on tell
+abbrev pub toldAt : List ℕ → ℕ → List Verdict
+toldAt bits k = toldFrom k (drop (2 * k) bits)
+
+-- the cursor at a glyph of which nothing is taken
+abbrev pub begunAt : List ℕ → ℕ → Cursor
+begunAt bits k = record { next = k + 1; number = 0; fires = getD bits (2 * k) 0; substitutes = getD bits (2 * k + 1) 0 }
+
+module _ (bits : List ℕ) (k : ℕ) (h : 2 * k + 1 < length bits) where
+  drop-two : drop (2 * k) bits ≡ getD bits (2 * k) 0 ∷ getD bits (2 * k + 1) 0 ∷ drop (2 * (k + 1)) bits
+  drop-two =
+      let e : suc (2 * k) ≡ 2 * k + 1 = omega arith in
+      let d : suc (2 * k + 1) ≡ 2 * (k + 1) = omega arith in
+      drop-cons bits (2 * k) 0 (omega arith)
+      ∙ ap (λ (j : ℕ). getD bits (2 * k) 0 ∷ drop j bits) e
+      ∙ ap (λ (l : List ℕ). getD bits (2 * k) 0 ∷ l) (drop-cons bits (2 * k + 1) 0 h)
+      ∙ ap (λ (j : ℕ). getD bits (2 * k) 0 ∷ getD bits (2 * k + 1) 0 ∷ drop j bits) d
+
+  told-next : toldAt bits k ≡ tellFrom k 0 (getD bits (2 * k) 0) (getD bits (2 * k + 1) 0) ++ toldAt bits (k + 1)
   unfolding toldFrom
-  told-next k h = let g : k < length ss = omega arith in rw (drop-cons fs k 0 h, drop-cons ss k 0 g, add-one k)
+  told-next =
+      ap (toldFrom k) drop-two
+      ∙ ap (λ (j : ℕ). tellFrom k 0 (getD bits (2 * k) 0) (getD bits (2 * k + 1) 0) ++ toldFrom j (drop (2 * (k + 1)) bits)) (sym (add-one k))
 
   -- a glyph none of whose actions fires
-  pub told-pass : (k : ℕ) → k < length fs → getD fs k 0 ≡ 0 → toldFrom k (drop k fs) (drop k ss) ≡ toldFrom (k + 1) (drop (k + 1) fs) (drop (k + 1) ss)
-  told-pass k h e =
-      told-next k h
-      ∙ ap (λ (vs : List Verdict). vs ++ toldFrom (k + 1) (drop (k + 1) fs) (drop (k + 1) ss))
-      (ap (λ (f : ℕ). tellFrom k 0 f (getD ss k 0)) e ∙ tell-zero 64 k 0 (getD ss k 0))
+  pub told-pass : getD bits (2 * k) 0 ≡ 0 → toldAt bits k ≡ toldAt bits (k + 1)
+  told-pass e =
+      told-next
+      ∙ ap (λ (vs : List Verdict). vs ++ toldAt bits (k + 1))
+      (ap (λ (f : ℕ). tellFrom k 0 f (getD bits (2 * k + 1) 0)) e ∙ tell-zero 64 k 0 (getD bits (2 * k + 1) 0))
 
   -- a glyph is begun
-  pub told-begun : (k : ℕ) → k < length fs
-      → toldFrom k (drop k fs) (drop k ss) ≡ leftAt fs ss (record { next = k + 1; number = 0; fires = getD fs k 0; substitutes = getD ss k 0 })
+  pub told-begun : toldAt bits k ≡ leftAt bits (begunAt bits k)
   unfolding leftAt
-  told-begun k h =
+  told-begun =
       let e : k + 1 - 1 ≡ k = omega arith in
-      told-next k h ∙ ap (λ (p : ℕ). tellFrom p 0 (getD fs k 0) (getD ss k 0) ++ toldFrom (k + 1) (drop (k + 1) fs) (drop (k + 1) ss)) (sym e)
+      told-next ∙ ap (λ (p : ℕ). tellFrom p 0 (getD bits (2 * k) 0) (getD bits (2 * k + 1) 0) ++ toldAt bits (k + 1)) (sym e)
+
+  pub begun-serves : getD bits (2 * k) 0 < 2 ^ 64 → Serves bits (begunAt bits k)
+  begun-serves low = record { within = omega arith; begun = λ e. absurd (omega arith); number = omega arith; low = low }
 
 -- where something is told, there is a glyph
-pub told-inside : (p k : ℕ) (fs ss : List ℕ) → 0 < length (toldFrom p (drop k fs) ss) → k < length fs
+told-two : (p : ℕ) (bits : List ℕ) → 0 < length (toldFrom p bits) → 1 < length bits
 unfolding toldFrom
-told-inside p zero [] ss h = absurd (omega arith)
-told-inside p (suc k) [] ss h = absurd (omega arith)
-told-inside p zero (f ∷ fs) ss h = omega arith
-told-inside p (suc k) (f ∷ fs) ss h = omega (arith, told-inside p k fs ss h)
+told-two p [] h = absurd (omega arith)
+told-two p (f ∷ []) h = absurd (omega arith)
+told-two p (f ∷ s ∷ bits) h = omega arith
+
+pub told-inside : (k : ℕ) (bits : List ℕ) → 0 < length (toldAt bits k) → 2 * k + 1 < length bits
+told-inside k bits h = omega (arith, told-two k (drop (2 * k) bits) h, length-drop (2 * k) bits)
 
 -- ---- the first of them
 
-told-cut : (n p : ℕ) (fs ss : List ℕ) → length ss ≡ length fs → toldFrom p fs ss ≡ toldFrom p (take n fs) (take n ss) ++ toldFrom (p + n) (drop n fs) (drop n ss)
+told-cut-from : (n p : ℕ) (bits : List ℕ) → toldFrom p bits ≡ toldFrom p (take (2 * n) bits) ++ toldFrom (p + n) (drop (2 * n) bits)
 unfolding toldFrom
-told-cut zero p fs ss e = ap (λ (q : ℕ). toldFrom q fs ss) (sym (add-zero p))
-told-cut (suc n) p [] ss e = refl
-told-cut (suc n) p (f ∷ fs) [] e = absurd (omega arith)
-told-cut (suc n) p (f ∷ fs) (s ∷ ss) e =
+told-cut-from zero p bits = ap (λ (q : ℕ). toldFrom q bits) (sym (add-zero p))
+told-cut-from (suc n) p [] = let e : 2 * suc n ≡ suc (suc (2 * n)) = omega arith in rw e
+told-cut-from (suc n) p (f ∷ []) = let e : 2 * suc n ≡ suc (suc (2 * n)) = omega arith in rw e
+told-cut-from (suc n) p (f ∷ s ∷ bits) =
     let d : suc p + n ≡ p + suc n = omega arith in
+    let e : suc (suc (2 * n)) ≡ 2 * suc n = omega arith in
     ap (λ (vs : List Verdict). tellFrom p 0 f s ++ vs)
-    (told-cut n (suc p) fs ss (omega arith) ∙ ap (λ (q : ℕ). toldFrom (suc p) (take n fs) (take n ss) ++ toldFrom q (drop n fs) (drop n ss)) d)
+    (told-cut-from n (suc p) bits ∙ ap (λ (q : ℕ). toldFrom (suc p) (take (2 * n) bits) ++ toldFrom q (drop (2 * n) bits)) d)
     ∙ sym (append-assoc (tellFrom p 0 f s) _ _)
+    ∙ ap (λ (j : ℕ). toldFrom p (take j (f ∷ s ∷ bits)) ++ toldFrom (p + suc n) (drop j (f ∷ s ∷ bits))) e
 
--- what a longer pair of lists tells begins with what the shorter tells
-pub told-begins : (n : ℕ) (fs ss : List ℕ) → length ss ≡ length fs → (rest : List Verdict) × (told fs ss ≡ told (take n fs) (take n ss) ++ rest)
-told-begins n fs ss e = (toldFrom (0 + n) (drop n fs) (drop n ss), told-cut n 0 fs ss e)
+told-cut : (n : ℕ) (bits : List ℕ) → told bits ≡ told (take (2 * n) bits) ++ toldAt bits n
+told-cut n bits = told-cut-from n 0 bits ∙ ap (λ (q : ℕ). told (take (2 * n) bits) ++ toldFrom q (drop (2 * n) bits)) (zero-add n)
+
+-- what the bits of more glyphs tell begins with what those of fewer tell
+pub told-begins : (n : ℕ) (bits : List ℕ) → (rest : List Verdict) × (told bits ≡ told (take (2 * n) bits) ++ rest)
+told-begins n bits = (toldAt bits n, told-cut n bits)
 
 -- one more glyph is kept
-pub told-set : (k p : ℕ) (fs ss : List ℕ) (f s : ℕ) → k < length fs → length ss ≡ length fs
-    → toldFrom p (take (suc k) (set fs k f)) (take (suc k) (set ss k s)) ≡ toldFrom p (take k fs) (take k ss) ++ tellFrom (p + k) 0 f s
-unfolding toldFrom
-told-set k p [] ss f s h e = absurd (omega arith)
-told-set k p (x ∷ xs) [] f s h e = absurd (omega arith)
-told-set zero p (x ∷ xs) (y ∷ ys) f s h e = append-nil _ ∙ ap (λ (q : ℕ). tellFrom q 0 f s) (sym (add-zero p))
-told-set (suc k) p (x ∷ xs) (y ∷ ys) f s h e =
-    let d : suc p + k ≡ p + suc k = omega arith in
-    ap (λ (vs : List Verdict). tellFrom p 0 x y ++ vs)
-    (told-set k (suc p) xs ys f s (omega arith) (omega arith) ∙ ap (λ (q : ℕ). toldFrom (suc p) (take k xs) (take k ys) ++ tellFrom q 0 f s) d)
-    ∙ sym (append-assoc (tellFrom p 0 x y) _ _)
+module _ (k : ℕ) (bits : List ℕ) (f s : ℕ) (h : 2 * k + 1 < length bits) where
+  two-stored : take (2 * (k + 1)) (set (set bits (2 * k) f) (2 * k + 1) s) ≡ take (2 * k) bits ++ f ∷ s ∷ []
+  two-stored =
+      let e : 2 * k + 1 ≡ suc (2 * k) = omega arith in
+      let d : 2 * (k + 1) ≡ suc (2 * k + 1) = omega arith in
+      ap (λ (j : ℕ). take j (set (set bits (2 * k) f) (2 * k + 1) s)) d
+      ∙ take-suc-set (set bits (2 * k) f) (2 * k + 1) s (omega (arith, length-set bits (2 * k) f))
+      ∙ ap (λ (j : ℕ). take j (set bits (2 * k) f) ++ (s ∷ [])) e
+      ∙ ap (λ (l : List ℕ). l ++ (s ∷ [])) (take-suc-set bits (2 * k) f (omega arith))
+      ∙ append-assoc (take (2 * k) bits) _ _
+
+  pub told-set : told (take (2 * (k + 1)) (set (set bits (2 * k) f) (2 * k + 1) s)) ≡ told (take (2 * k) bits) ++ tellFrom k 0 f s
+  unfolding toldFrom
+  told-set =
+      let n = length-take-le (2 * k) bits (omega arith) in
+      ap told two-stored
+      ∙ told-cut k (take (2 * k) bits ++ f ∷ s ∷ [])
+      ∙ ap₂ (λ (xs ys : List ℕ). told xs ++ toldFrom k ys) (take-at (take (2 * k) bits) (f ∷ s ∷ []) (2 * k) n) (drop-at (take (2 * k) bits) (f ∷ s ∷ []) (2 * k) n)
+      ∙ ap (λ (vs : List Verdict). told (take (2 * k) bits) ++ vs) (append-nil _)
 
 -- ---- at a cursor
 
-module _ (fs ss : List ℕ) where
-  pub start-serves : Serves fs startCursor
+module _ (bits : List ℕ) where
+  pub start-serves : Serves bits startCursor
   start-serves = record { within = omega arith; begun = λ e. refl; number = omega arith; low = omega arith }
 
   -- nothing is taken: all are left
-  pub start-left : leftAt fs ss startCursor ≡ told fs ss
+  pub start-left : leftAt bits startCursor ≡ told bits
   unfolding leftAt
-  start-left = ap (λ (vs : List Verdict). vs ++ told fs ss) (tell-zero 64 0 0 0)
+  start-left = ap (λ (vs : List Verdict). vs ++ told bits) (tell-zero 64 0 0 0)
 
   -- nothing is left of the glyph at hand
-  pub left-spent : (c : Cursor) → c .fires ≡ 0 → leftAt fs ss c ≡ toldFrom (c .next) (drop (c .next) fs) (drop (c .next) ss)
+  pub left-spent : (c : Cursor) → c .fires ≡ 0 → leftAt bits c ≡ toldAt bits (c .next)
   unfolding leftAt
   left-spent c e =
-      ap (λ (vs : List Verdict). vs ++ toldFrom (c .next) (drop (c .next) fs) (drop (c .next) ss))
+      ap (λ (vs : List Verdict). vs ++ toldAt bits (c .next))
       (ap (λ (f : ℕ). tellFrom (c .next - 1) (c .number) f (c .substitutes)) e ∙ tell-zero (64 - c .number) (c .next - 1) (c .number) (c .substitutes))
 
-  pub some-begun : (c : Cursor) → Serves fs c → (c .fires ≡ 0 → ⊥) → 0 < c .next
+  some-begun : (c : Cursor) → Serves bits c → (c .fires ≡ 0 → ⊥) → 0 < c .next
   some-begun c s h = go (c .next) refl
     where
       go : (k : ℕ) → c .next ≡ k → 0 < k
       go zero e = absurd (h (s .begun e))
       go (suc k) e = omega arith
 
-  pub hand-left : (c : Cursor) → Kept fs ss → Serves fs c → (c .fires ≡ 0 → ⊥) → AtHand c
+  pub hand-left : (c : Cursor) → BitPairs bits → Serves bits c → (c .fires ≡ 0 → ⊥) → AtHand c
   hand-left c k s h =
-      record { begun = some-begun c s h; few = omega (arith, k .few, s .within); some = omega (arith, h); low = s .low }
-
-  -- a glyph of which an action fires is begun
-  pub begun-serves : (k : ℕ) → k < length fs → getD fs k 0 < 2 ^ 64
-      → Serves fs (record { next = k + 1; number = 0; fires = getD fs k 0; substitutes = getD ss k 0 })
-  begun-serves k h low = record { within = omega arith; begun = λ e. absurd (omega arith); number = omega arith; low = low }
+      record { begun = some-begun c s h; few = omega (arith, k .even, k .few, s .within); some = omega (arith, h); low = s .low }
 
   -- one is taken
-  pub left-taken : (c : Cursor) (r : Step) → Takes c r → leftAt fs ss c ≡ r .verdict ∷ leftAt fs ss (r .next)
+  pub left-taken : (c : Cursor) (r : VerdictStep) → Takes c r → leftAt bits c ≡ r .verdict ∷ leftAt bits (r .next)
   unfolding leftAt
   left-taken c r t =
-      ap (λ (vs : List Verdict). vs ++ toldFrom (c .next) (drop (c .next) fs) (drop (c .next) ss)) (t .first)
-      ∙ ap (λ (k : ℕ). r .verdict ∷ (tellAt (r .next) ++ toldFrom k (drop k fs) (drop k ss))) (sym (t .stays))
+      ap (λ (vs : List Verdict). vs ++ toldAt bits (c .next)) (t .first)
+      ∙ ap (λ (k : ℕ). r .verdict ∷ (tellAt (r .next) ++ toldAt bits k)) (sym (t .stays))
 
-  pub serves-taken : (c : Cursor) (r : Step) → Serves fs c → AtHand c → Takes c r → Serves fs (r .next)
+  pub serves-taken : (c : Cursor) (r : VerdictStep) → Serves bits c → AtHand c → Takes c r → Serves bits (r .next)
   serves-taken c r s a t =
       record { within = omega (arith, t .stays, s .within); begun = λ e. absurd (omega (arith, t .stays, a .begun)); number = t .number; low = t .low }
 

@@ -1,6 +1,6 @@
--- The verdicts of a line as they are kept from counting to storing (document 01, "Verdicts"): for each glyph two numbers, whose bits say which of its actions fire and
--- which of those substitute. Bit k is the action with number k, and a list has at most 64.
-use Prim.Native.Nat.{ℕ, zero, suc, _+_, _-_, _/_, _%_, _<_, _≤_, _^_}
+-- The verdicts of a line as they are kept from counting to storing (document 01, "Verdicts"): for each glyph two numbers, one after the other, whose bits say which of its
+-- actions fire and which of those substitute. Bit k is the action with number k, and a list has at most 64.
+use Prim.Native.Nat.{ℕ, zero, suc, _+_, _-_, _*_, _/_, _%_, _<_, _≤_, _^_}
 use mathlib.Core.Path.{_≡_}
 use mathlib.Core.Bool.{cond}
 use mathlib.Core.List.{List, [], _∷_, _++_}
@@ -16,7 +16,7 @@ use Rattle.verdict.specs.declared.Fires.the-variants.{No, Plain, Substitutes}
 use Rattle.line_rule.specs.Line.{firings}
 use Rattle.line_verdicts.specs.declared.GlyphBits.{GlyphBits}
 use Rattle.line_verdicts.specs.declared.Cursor.{Cursor}
-use Rattle.line_verdicts.specs.declared.Step.{Step}
+use Rattle.line_verdicts.specs.declared.VerdictStep.{VerdictStep}
 
 -- ---- what is told
 
@@ -33,36 +33,37 @@ bitsTell (suc k) place number fires substitutes =
 abbrev pub tellFrom : ℕ → ℕ → ℕ → ℕ → List Verdict
 tellFrom place number fires substitutes = bitsTell (64 - number) place number fires substitutes
 
--- those of the glyphs from a place on
-unfoldable pub toldFrom : ℕ → List ℕ → List ℕ → List Verdict
-toldFrom place [] ss = []
-toldFrom place (f ∷ fs) [] = []
-toldFrom place (f ∷ fs) (s ∷ ss) = tellFrom place 0 f s ++ toldFrom (suc place) fs ss
+-- those of the glyphs from a place on, whose numbers stand one after the other: which actions fire, then which substitute
+unfoldable pub toldFrom : ℕ → List ℕ → List Verdict
+toldFrom place [] = []
+toldFrom place (f ∷ []) = []
+toldFrom place (f ∷ s ∷ bits) = tellFrom place 0 f s ++ toldFrom (suc place) bits
 
 -- all of them
-abbrev pub told : List ℕ → List ℕ → List Verdict
-told fired substituted = toldFrom 0 fired substituted
+abbrev pub told : List ℕ → List Verdict
+told bits = toldFrom 0 bits
 
 -- what is left at a cursor of the glyph before `next`: the actions from `number` on
 abbrev pub tellAt : Cursor → List Verdict
 tellAt c = tellFrom (c .next - 1) (c .number) (c .fires) (c .substitutes)
 
 -- what is left of the line: that, then the glyphs from `next` on
-unfoldable pub leftAt : List ℕ → List ℕ → Cursor → List Verdict
-leftAt fired substituted c = tellAt c ++ toldFrom (c .next) (drop (c .next) fired) (drop (c .next) substituted)
+unfoldable pub leftAt : List ℕ → Cursor → List Verdict
+leftAt bits c = tellAt c ++ toldFrom (c .next) (drop (2 * c .next) bits)
 
 -- nothing is taken
 abbrev pub startCursor : Cursor
 startCursor = record { next = 0; number = 0; fires = 0; substitutes = 0 }
 
--- the two numbers of each glyph, of which there are at most 1,024
-pub record Kept (fired substituted : List ℕ) : Type 0 where
-  pub even : length substituted ≡ length fired
-  pub few : length fired ≤ 1024
+-- the two numbers of each of so many glyphs, which are at most 1,024
+pub record BitPairs (bits : List ℕ) : Type 0 where
+  pub glyphs : ℕ
+  pub even : length bits ≡ 2 * glyphs
+  pub few : glyphs ≤ 1024
 
 -- a cursor into them: no bit stands past the last action, and none before a glyph is begun
-pub record Serves (fired : List ℕ) (c : Cursor) : Type 0 where
-  pub within : c .next ≤ length fired
+pub record Serves (bits : List ℕ) (c : Cursor) : Type 0 where
+  pub within : 2 * c .next ≤ length bits
   pub begun : c .next ≡ 0 → c .fires ≡ 0
   pub number : c .number ≤ 64
   pub low : c .fires < 2 ^ (64 - c .number)
@@ -77,7 +78,7 @@ pub record AtHand (c : Cursor) : Type 0 where
   pub low : c .fires < 2 ^ (64 - c .number)
 
 -- a step takes the first that is left of that glyph
-pub record Takes (c : Cursor) (r : Step) : Type 0 where
+pub record Takes (c : Cursor) (r : VerdictStep) : Type 0 where
   pub first : tellAt c ≡ r .verdict ∷ tellAt (r .next)
   pub stays : r .next .next ≡ c .next
   pub number : r .next .number ≤ 64

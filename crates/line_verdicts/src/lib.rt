@@ -2,8 +2,8 @@
 // counted, and then taken from the bits one verdict after the other, by place and then in list order. The table is one
 // that was accepted.
 ghost use mathlib.Core.Path.{_≡_};
-ghost use Prim.Native.Nat.{_+_, _≤_, _<_, _^_};
-ghost use mathlib.Core.List.{[], _∷_, map};
+ghost use Prim.Native.Nat.{ℕ, _+_, _*_, _≤_, _<_, _^_};
+ghost use mathlib.Core.List.{[], _∷_};
 ghost use lib.ListN.{length, getD, drop};
 ghost use Rattle.fields.specs.Field.{u16At};
 ghost use Rattle.fields.specs.declared.Fault.the-variants.{Clear};
@@ -16,9 +16,9 @@ ghost use Rattle.table.specs.Table.{tableFault};
 ghost use Rattle.table.specs.Means.{meaningOf};
 ghost use Rattle.share.specs.Line.{signedOf};
 ghost use Rattle.table_ask.specs.Places.{lookupIn, Readable};
-ghost use Rattle.line_rule.specs.Line.{verdictsFrom};
-ghost use Rattle.line_verdicts.specs.Moves.{HasMoves};
-ghost use Rattle.line_verdicts.specs.Bits.{told, leftAt, Kept, Serves, AtHand, Takes, firesNumber, noteAction, ClearList, Keeps};
+ghost use Rattle.line_verdicts.specs.Moves.{moved, HasMoves};
+ghost use Rattle.line_verdicts.specs.Lines.{KeepsLine};
+ghost use Rattle.line_verdicts.specs.Bits.{leftAt, BitPairs, Serves, AtHand, Takes, firesNumber, noteAction, ClearList, Keeps};
 use actions::Spot;
 use line_rule::LineShape;
 use lookup_targets::Kind;
@@ -45,7 +45,7 @@ pub struct Cursor {
 }
 
 // The next verdict, and the cursor past it.
-pub struct Step {
+pub struct VerdictStep {
     pub verdict: Verdict,
     pub next: Cursor,
 }
@@ -75,13 +75,13 @@ fn fires_here(table: &[u8], at: usize, class: u8, growth: Units, size: u32) -> u
     own_fires(table, at, growth, size)
 }
 
-// What a glyph grows by: its two movements, given without their sign.
-fn growth_at(shrink: bool, before: &[u64], after: &[u64], place: usize) -> Units
-    requires { ⌜ (place < length (now before)) × (place < length (now after)) ⌝ }
-    requires { ⌜ (getD (now before) place 0 ≤ 1073741823) × (getD (now after) place 0 ≤ 1073741823) ⌝ }
-    ensures { λ r. ⌜ r .0 ≡ signedOf shrink (getD (now (before .entry)) place 0 + getD (now (after .entry)) place 0) ⌝ }
+// What the glyph at a place grows by: its two movements, given without their sign.
+fn growth_at(shrink: bool, moves: &[u64], place: usize) -> Units
+    requires { ⌜ (2 * place + 1 < length (now moves)) × ((side : ℕ) → getD (now moves) side 0 ≤ 1073741823) ⌝ }
+    ensures { λ r. ⌜ r .0 ≡ signedOf shrink (getD (now (moves .entry)) (2 * place) 0 + getD (now (moves .entry)) (2 * place + 1) 0) ⌝ }
 {
-    Units(share::signed(shrink, before[place] + after[place]) as i64)
+    let size = moves[2 * place] + moves[2 * place + 1];
+    Units(share::signed(shrink, size) as i64)
 }
 
 // The bit of an action, by its number in its list.
@@ -178,8 +178,8 @@ fn keep_glyph(
     )
 }
 
-// How many verdicts a line has, whose movements are given without their sign; of each glyph `fired` gets the actions that
-// fire and `substituted` those that substitute, as bits. Where the line has none, both may be left as they were.
+// How many verdicts a line has, whose movements are given without their sign; of each glyph `bits` gets the actions that fire,
+// and after them those that substitute. Where the line has none, they may be left as they were.
 pub fn keep_verdicts<'a, 'b>(
     table: &'a [u8],
     count: u32,
@@ -188,14 +188,11 @@ pub fn keep_verdicts<'a, 'b>(
     sizes: &'a [u32],
     glyphs: &'a [u16],
     classes: &'a [u8],
-    before: &'a [u64],
-    after: &'a [u64],
-    fired: &'b mut [u64],
-    substituted: &'b mut [u64],
+    moves: &'a [u64],
+    bits: &'b mut [u64],
 ) -> usize
-    requires { ⌜ HasMoves (now table) count shrink (now sizes) (now classes) (now before) (now after) (now glyphs) ⌝ }
-    requires { ⌜ (length (now fired) ≡ length (now glyphs)) × (length (now substituted) ≡ length (now glyphs)) ⌝ }
-    ensures { λ r. ⌜ (r ≡ length (verdictsFrom (sideOf (shape .direction) (meaningOf (now (table .entry)) count)) 0 (now (sizes .entry)) (now (glyphs .entry)) (now (classes .entry)) (map (signedOf shrink) (now (before .entry))) (map (signedOf shrink) (now (after .entry))))) × (0 < r → told (now (fired .exit)) (now (substituted .exit)) ≡ verdictsFrom (sideOf (shape .direction) (meaningOf (now (table .entry)) count)) 0 (now (sizes .entry)) (now (glyphs .entry)) (now (classes .entry)) (map (signedOf shrink) (now (before .entry))) (map (signedOf shrink) (now (after .entry)))) ⌝ }
+    requires { ⌜ HasMoves (now table) count (now sizes) (now classes) (now moves) (now glyphs) × (length (now bits) ≡ 2 * length (now glyphs)) ⌝ }
+    ensures { λ r. ⌜ KeepsLine (sideOf (shape .direction) (meaningOf (now (table .entry)) count)) (now (glyphs .entry)) (moved shrink (now (sizes .entry)) (now (classes .entry)) (now (moves .entry))) r (now (bits .exit)) ⌝ }
 {
     let direction = shape.direction;
     let lists = table_ask::lookup_in(table, direction, Kind::Lists);
@@ -205,9 +202,9 @@ pub fn keep_verdicts<'a, 'b>(
     let mut total: usize = 0;
     let mut place: usize = 0;
     while place < glyphs.len() {
-        let growth = growth_at(shrink, before, after, place);
+        let growth = growth_at(shrink, moves, place);
         let size = sizes[place];
-        let bits = keep_glyph(
+        let kept = keep_glyph(
             table,
             count,
             direction,
@@ -217,36 +214,36 @@ pub fn keep_verdicts<'a, 'b>(
             growth,
             size,
         );
-        fired[place] = bits.fires;
-        substituted[place] = bits.substitutes;
-        total += bits.count;
+        bits[2 * place] = kept.fires;
+        bits[2 * place + 1] = kept.substitutes;
+        total += kept.count;
         place += 1;
     }
     total
 }
 
 // The cursor itself where an action of its glyph is left, else at the next glyph of which one fires.
-fn at_hand(fired: &[u64], substituted: &[u64], cursor: Cursor) -> Cursor
-    requires { ⌜ Kept (now fired) (now substituted) × Serves (now fired) cursor × (0 < length (leftAt (now fired) (now substituted) cursor)) ⌝ }
-    ensures { λ r. ⌜ (leftAt (now (fired .entry)) (now (substituted .entry)) cursor ≡ leftAt (now (fired .entry)) (now (substituted .entry)) r) × Serves (now (fired .entry)) r × AtHand r ⌝ }
+fn at_hand(bits: &[u64], cursor: Cursor) -> Cursor
+    requires { ⌜ BitPairs (now bits) × Serves (now bits) cursor × (0 < length (leftAt (now bits) cursor)) ⌝ }
+    ensures { λ r. ⌜ (leftAt (now (bits .entry)) cursor ≡ leftAt (now (bits .entry)) r) × Serves (now (bits .entry)) r × AtHand r ⌝ }
 {
     if cursor.fires != 0 {
         return cursor;
     }
     let mut next = cursor.next;
-    while fired[next] == 0 {
+    while bits[2 * next] == 0 {
         next += 1;
     }
     Cursor {
         next: next + 1,
         number: 0,
-        fires: fired[next],
-        substitutes: substituted[next],
+        fires: bits[2 * next],
+        substitutes: bits[2 * next + 1],
     }
 }
 
 // The first action that is left of the glyph at hand, and the cursor past it.
-fn first_action(cursor: Cursor) -> Step
+fn first_action(cursor: Cursor) -> VerdictStep
     requires { ⌜ AtHand cursor ⌝ }
     ensures { λ r. ⌜ Takes cursor r ⌝ }
 {
@@ -270,16 +267,16 @@ fn first_action(cursor: Cursor) -> Step
         fires: fires / 2,
         substitutes: substitutes / 2,
     };
-    Step {
+    VerdictStep {
         verdict,
         next: past,
     }
 }
 
 // The next verdict at a cursor, and the cursor past it.
-pub fn next_verdict<'a>(fired: &'a [u64], substituted: &'a [u64], cursor: Cursor) -> Step
-    requires { ⌜ Kept (now fired) (now substituted) × Serves (now fired) cursor × (0 < length (leftAt (now fired) (now substituted) cursor)) ⌝ }
-    ensures { λ r. ⌜ (leftAt (now (fired .entry)) (now (substituted .entry)) cursor ≡ r .verdict ∷ leftAt (now (fired .entry)) (now (substituted .entry)) (r .next)) × Serves (now (fired .entry)) (r .next) ⌝ }
+pub fn next_verdict(bits: &[u64], cursor: Cursor) -> VerdictStep
+    requires { ⌜ BitPairs (now bits) × Serves (now bits) cursor × (0 < length (leftAt (now bits) cursor)) ⌝ }
+    ensures { λ r. ⌜ (leftAt (now (bits .entry)) cursor ≡ r .verdict ∷ leftAt (now (bits .entry)) (r .next)) × Serves (now (bits .entry)) (r .next) ⌝ }
 {
-    first_action(at_hand(fired, substituted, cursor))
+    first_action(at_hand(bits, cursor))
 }

@@ -2,13 +2,11 @@ pub mod Lists
 pub mod Theory
 pub mod Runs
 pub mod Halves
-pub mod Sides
 pub mod Giving
-pub mod Steps
 pub mod Stages
+pub mod Sums
 pub mod Signs
 pub mod Fill
 pub mod Lines
-pub mod Sums
 pub mod Samples
 pub mod Rising

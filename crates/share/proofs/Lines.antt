@@ -1,104 +1,19 @@
--- From lists of parts to a line of glyphs; and the rule's theorems on a line.
+-- The rule's theorems on a line of glyphs, on sizes and with signs.
 use mathlib.Core.Path.{_≡_, refl, sym, ap, ap₂, _∙_}
 use mathlib.Core.List.{List, [], _∷_, map}
 use mathlib.Core.Logic.{_↔_}
 use mathlib.Core.Bool.{Bool, true, false, cond, _&&_, _||_, false≢true}
 use Prim.Native.Nat.{ℕ, zero, suc, _+_, _-_, _≤_, _<_}
 use native.Mathlib.Omega.{arith}
-use native.Mathlib.Nat.{zero-add, le-of-suc-le-suc}
-use native.Mathlib.Numerals.{add-one}
-use lib.Dec.{leb, eqb}
+use lib.Dec.{eqb}
 use lib.IntN.{ℤ, pos, negℤ, _+ℤ_, negℤ-+ℤ}
-use lib.ListN.{length, drop, take, getD, replicate, length-replicate}
-use borrow.Author.Tests.{leb-true, eqb-true, eq-eqb}
-use Rattle.share.specs.Share.{total, still, plus, ofStage, stages, noPart, movements, remainder, most, within, among, empty}
-use Rattle.share.specs.Line.{Glyph, apart, sideStages, sideFactors, sideExtras, evens, odds, lineMoves, beforeMoves, afterMoves, lineLeft, lineFits, signedOf, glyphsOf, Parts, Lent, nothingMoves, noneUnlimited, EachLimited, fullMoves, fullTotal, sumℤ}
-use Rattle.share.specs.Inner.{weave, factorsAt, lineOf, Moved, Holds, Sides, stageCount}
-use Rattle.share.proofs.Lists.{length-still, getD-le-total}
+use lib.ListN.{length, take, getD, replicate}
+use borrow.Author.Tests.{eqb-true, eq-eqb}
+use Rattle.share.specs.Share.{total, ofStage, stages, noPart, among, empty}
+use Rattle.share.specs.Line.{Glyph, apart, sideStages, sideFactors, sideExtras, lineMoves, beforeMoves, afterMoves, lineLeft, signedOf, nothingMoves, noneUnlimited, EachLimited, fullMoves, fullTotal, sumℤ}
+use Rattle.share.proofs.Lists.{getD-le-total}
 use Rattle.share.proofs.Theory.{sum-is-gap, length-movesBy, no-part-still, both, remainder-is, limits-remainder, limits-reached}
-use Rattle.share.proofs.Halves.{total-halves, length-halves, getD-evens, getD-odds, length-weave}
-use Rattle.share.proofs.Stages.{at-stage}
-
--- ---- the sides of listed glyphs
-
-pub record SidesOf (ks us bs cs : List ℕ) : Type 0 where
-  pub stages : sideStages (glyphsOf ks us bs cs) ≡ weave ks ks
-  pub factors : sideFactors (glyphsOf ks us bs cs) ≡ weave bs cs
-  pub extras : sideExtras (glyphsOf ks us bs cs) ≡ weave (still us) us
-
-pub sides-of : (ks us bs cs : List ℕ) → length us ≡ length ks → length bs ≡ length ks → length cs ≡ length ks → SidesOf ks us bs cs
-sides-of [] [] [] cs u b c = record { stages = refl; factors = refl; extras = refl }
-sides-of [] [] (y ∷ bs) cs u b c = absurd (omega arith)
-sides-of [] (x ∷ us) bs cs u b c = absurd (omega arith)
-sides-of (k ∷ ks) [] bs cs u b c = absurd (omega arith)
-sides-of (k ∷ ks) (x ∷ us) [] cs u b c = absurd (omega arith)
-sides-of (k ∷ ks) (x ∷ us) (y ∷ bs) [] u b c = absurd (omega arith)
-sides-of (k ∷ ks) (x ∷ us) (y ∷ bs) (z ∷ cs) u b c =
-    let i = sides-of ks us bs cs (omega arith) (omega arith) (omega arith) in
-    record {
-      stages = ap (λ (l : List ℕ). k ∷ k ∷ l) (i .stages);
-      factors = ap (λ (l : List ℕ). y ∷ z ∷ l) (i .factors);
-      extras = ap (λ (l : List ℕ). 0 ∷ x ∷ l) (i .extras);
-    }
-
--- the parts of a line, listed, are the line
-pub glyphsOf-parts : (gs : List Glyph) → glyphsOf (map (λ (g : Glyph). g .stage) gs) (map (λ (g : Glyph). g .extra) gs) (map (λ (g : Glyph). g .before) gs) (map (λ (g : Glyph). g .after) gs) ≡ gs
-glyphsOf-parts [] = refl
-glyphsOf-parts (g ∷ gs) = ap (λ (l : List Glyph). g ∷ l) (glyphsOf-parts gs)
-
-module _ (back : Bool) {n : ℕ} {ks us bs cs : List ℕ} (p : Lent n ks us bs cs) (gap : ℕ) where
-  s : SidesOf ks us bs cs
-  s = sides-of ks us bs cs (omega (arith, p .stages, p .extras)) (omega (arith, p .stages, p .first)) (omega (arith, p .stages, p .second))
-
-  pub line-left : lineOf (remainder back) ks us bs cs gap ≡ lineLeft back (glyphsOf ks us bs cs) gap
-  unfolding lineLeft
-  line-left = sym (ap (λ (l : List ℕ). remainder back l (sideFactors (glyphsOf ks us bs cs)) (sideExtras (glyphsOf ks us bs cs)) gap) (s .stages)
-      ∙ ap (λ (l : List ℕ). remainder back (weave ks ks) l (sideExtras (glyphsOf ks us bs cs)) gap) (s .factors)
-      ∙ ap (λ (l : List ℕ). remainder back (weave ks ks) (weave bs cs) l gap) (s .extras))
-
-  line-moves : lineOf (movements back) ks us bs cs gap ≡ lineMoves back (glyphsOf ks us bs cs) gap
-  unfolding lineMoves
-  line-moves = sym (ap (λ (l : List ℕ). movements back l (sideFactors (glyphsOf ks us bs cs)) (sideExtras (glyphsOf ks us bs cs)) gap) (s .stages)
-      ∙ ap (λ (l : List ℕ). movements back (weave ks ks) l (sideExtras (glyphsOf ks us bs cs)) gap) (s .factors)
-      ∙ ap (λ (l : List ℕ). movements back (weave ks ks) (weave bs cs) l gap) (s .extras))
-
--- ---- refusal 15's test
-
-module _ {n : ℕ} {ks bs cs : List ℕ} (p : Parts n ks bs cs) where
-  pub fits-is : (us : List ℕ) → length us ≡ length ks → lineFits (glyphsOf ks us bs cs) ≡ within (weave ks ks) (weave bs cs) stages
-  unfolding lineFits
-  fits-is us u =
-      let s = sides-of ks us bs cs u (omega (arith, p .stages, p .first)) (omega (arith, p .stages, p .second)) in
-      ap (λ (l : List ℕ). within l (sideFactors (glyphsOf ks us bs cs)) stages) (s .stages) ∙ ap (λ (l : List ℕ). within (weave ks ks) l stages) (s .factors)
-
-module _ (ks bs cs : List ℕ) where
-  within-at : (s : ℕ) → s < stageCount → {b : Bool} → b ≡ within (weave ks ks) (weave bs cs) (drop s stages)
-      → b ≡ (leb (total (factorsAt s ks bs cs)) most && within (weave ks ks) (weave bs cs) (drop (s + 1) stages))
-  within-at s h e = e ∙ ap (within (weave ks ks) (weave bs cs)) (at-stage s h)
-
-  -- what the test says of each stage
-  split : (s : ℕ) → s < stageCount → within (weave ks ks) (weave bs cs) (drop s stages) ≡ true
-      → (leb (total (factorsAt s ks bs cs)) most ≡ true) × (within (weave ks ks) (weave bs cs) (drop (s + 1) stages) ≡ true)
-  split s h e = both _ _ (sym (within-at s h (sym e)))
-
-  tails : (s : ℕ) → s ≤ stageCount → within (weave ks ks) (weave bs cs) stages ≡ true → within (weave ks ks) (weave bs cs) (drop s stages) ≡ true
-  tails zero h e = e
-  tails (suc s) h e = rw (add-one) at (split s h (tails s (omega arith) e) .1)
-
-  pub fit-low : within (weave ks ks) (weave bs cs) stages ≡ true → (s : ℕ) → s < stageCount → total (factorsAt s ks bs cs) ≤ most
-  fit-low e s h = leb-true (total (factorsAt s ks bs cs)) most (split s h (tails s (omega arith) e) .0)
-
--- ---- from nothing
-
--- what is added to n zeros
-plus-zeros : (n : ℕ) (xs : List ℕ) → n ≤ length xs → plus (replicate n 0) xs ≡ xs
-plus-zeros zero xs h = refl
-plus-zeros (suc n) [] h = absurd (omega arith)
-plus-zeros (suc n) (x ∷ xs) h = rw (zero-add x, plus-zeros n xs (le-of-suc-le-suc h))
-
-total-zeros : (n : ℕ) → total (replicate n 0) ≡ 0
-total-zeros zero = refl
-total-zeros (suc n) = omega (arith, total-zeros n)
+use Rattle.share.proofs.Halves.{total-halves, length-halves, getD-evens, getD-odds}
 
 -- a local array of zeros, lent in part
 pub zeros-length : (m n : ℕ) → n ≤ m → n ≡ length {A = ℕ} (take n (replicate m 0))
@@ -110,33 +25,6 @@ pub zeros-take : (m n : ℕ) → n ≤ m → take {A = ℕ} n (replicate m 0) �
 zeros-take m zero h = refl
 zeros-take zero (suc n) h = absurd (omega arith)
 zeros-take (suc m) (suc n) h = ap (λ (l : List ℕ). 0 ∷ l) (zeros-take m n (omega arith))
-
-module _ (back : Bool) {n : ℕ} {ks us bs cs : List ℕ} (p : Lent n ks us bs cs) (gap : ℕ) where
-  length-line : length (lineOf (movements back) ks us bs cs gap) ≡ n + n
-  length-line =
-      length-movesBy stages back (n + n) (weave ks ks) (weave bs cs) (weave (still us) us) gap
-      (length-weave n ks ks (p .stages) (p .stages)) (length-weave n bs cs (p .first) (p .second)) (length-weave n (still us) us (length-still us ∙ p .extras) (p .extras))
-
-  -- movements that are added to zeros are the line's
-  pub from-zeros : {xs ys xs' ys' : List ℕ} → xs ≡ replicate n 0 → ys ≡ replicate n 0 → Moved (lineOf (movements back) ks us bs cs gap) xs ys xs' ys'
-      → (xs' ≡ beforeMoves back (glyphsOf ks us bs cs) gap) × (ys' ≡ afterMoves back (glyphsOf ks us bs cs) gap)
-  from-zeros {xs} {ys} {xs'} {ys'} e f m =
-      let w = lineOf (movements back) ks us bs cs gap in
-      let l = length-halves n w length-line in (
-        m .before ∙ ap (λ (l : List ℕ). plus l (evens w)) e ∙ plus-zeros n (evens w) (omega arith) ∙ ap evens (line-moves back p gap),
-        m .after ∙ ap (λ (l : List ℕ). plus l (odds w)) f ∙ plus-zeros n (odds w) (omega arith) ∙ ap odds (line-moves back p gap),
-      )
-
--- zeros are the movements of n glyphs, and have room for any gap of a line
-module _ (n : ℕ) {xs ys : List ℕ} (e : xs ≡ replicate n 0) (f : ys ≡ replicate n 0) where
-  pub zeros-sides : Sides n xs ys
-  zeros-sides = record { before = ap length e ∙ length-replicate n 0; after = ap length f ∙ length-replicate n 0 }
-
-  pub zeros-hold : {gap : ℕ} → gap ≤ 1073741823 → Holds gap xs ys
-  zeros-hold h =
-      let x = ap total e ∙ total-zeros n in
-      let y = ap total f ∙ total-zeros n in
-      record { small = h; before = omega arith; after = omega arith }
 
 -- ---- the theorems on a line
 

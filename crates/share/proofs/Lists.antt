@@ -2,11 +2,14 @@
 use mathlib.Core.Path.{_≡_, refl, sym, ap, _∙_}
 use mathlib.Core.List.{List, [], _∷_}
 use mathlib.Core.Bool.{false}
-use Prim.Native.Nat.{ℕ, zero, suc, _+_, _-_, _*_, _/_, _≤_, _<_}
+use Prim.Native.Nat.{ℕ, zero, suc, _+_, _*_, _/_, _≤_, _<_}
 use native.Mathlib.Omega.{arith}
-use native.Mathlib.Nat.{le-trans, le-of-eq, add-assoc, mul-le-mul-left, mul-zero, div-zero, zero-div, le-div-iff-mul-le, div-mul-le-self, mul-div-cancel, add-zero, not-suc-le-zero, le-of-suc-le-suc}
+use native.Mathlib.Nat.{le-refl, le-trans, le-of-eq, add-assoc, mul-le-mul-left, mul-zero, div-zero, zero-div, le-div-iff-mul-le, div-mul-le-self, mul-div-cancel, add-zero, zero-add, not-suc-le-zero, le-of-suc-le-suc}
+use native.Mathlib.Numerals.{add-one}
 use lib.Dec.{eqb}
-use lib.ListN.{length, take, getD, set}
+use lib.Seq.{take-all}
+use borrow.Author.Tests.{eq-eqb}
+use lib.ListN.{length, take, getD}
 use Rattle.share.specs.Share.{total, still, plus, ofStage, shareAt, sharesFrom, shares}
 
 -- what a list gives to its first k places
@@ -61,14 +64,24 @@ getD-le-total [] i = omega arith
 getD-le-total (x ∷ l) zero = omega arith
 getD-le-total (x ∷ l) (suc i) = omega (arith, getD-le-total l i)
 
-pub total-set : (l : List ℕ) (i v : ℕ) → i < length l → total (set l i v) + getD l i 0 ≡ total l + v
-total-set [] i v h = absurd (not-suc-le-zero h)
-total-set (x ∷ l) zero v h = omega arith
-total-set (x ∷ l) (suc i) v h = omega (arith, total-set l i v (le-of-suc-le-suc h))
+pub upto-end : (i : ℕ) (l : List ℕ) → length l ≤ i → upto i l ≡ total l
+upto-end i l h = ap total (take-all i l h)
 
-upto-all : (l : List ℕ) → upto (length l) l ≡ total l
-upto-all [] = refl
-upto-all (x ∷ l) = ap (λ (n : ℕ). x + n) (upto-all l)
+-- one place more; and no more than the whole
+pub upto-next : (i : ℕ) (l : List ℕ) → upto (i + 1) l ≡ upto i l + getD l i 0
+upto-next i l = rw (add-one) (next i l)
+  where
+    next : (i : ℕ) (l : List ℕ) → upto (suc i) l ≡ upto i l + getD l i 0
+    next zero [] = refl
+    next (suc i) [] = refl
+    next zero (x ∷ l) = omega arith
+    next (suc i) (x ∷ l) = omega (arith, next i l)
+
+pub upto-le : (i : ℕ) (l : List ℕ) → upto i l + getD l i 0 ≤ total l
+upto-le zero [] = omega arith
+upto-le (suc i) [] = omega arith
+upto-le zero (x ∷ l) = omega arith
+upto-le (suc i) (x ∷ l) = omega (arith, upto-le i l)
 
 -- ---- still and ofStage
 
@@ -91,12 +104,18 @@ length-ofStage s n (k ∷ ks) [] a b = absurd (omega arith)
 length-ofStage s zero (k ∷ ks) (v ∷ vs) a b = absurd (omega arith)
 length-ofStage s (suc n) (k ∷ ks) (v ∷ vs) a b = ap suc (length-ofStage s n ks vs (omega arith) (omega arith))
 
--- a side of another stage counts for nothing
-pub getD-ofStage : (s d i : ℕ) (ks vs : List ℕ) → eqb (getD ks i d) s ≡ false → getD (ofStage s ks vs) i 0 ≡ 0
-getD-ofStage s d i [] vs e = refl
-getD-ofStage s d i (k ∷ ks) [] e = refl
-getD-ofStage s d zero (k ∷ ks) (v ∷ vs) e = rw e
-getD-ofStage s d (suc i) (k ∷ ks) (v ∷ vs) e = getD-ofStage s d i ks vs e
+-- a side of the stage counts for what it has, and one of another stage for nothing
+pub ofStage-hit : (s i : ℕ) (ks vs : List ℕ) → i < length ks → getD ks i 0 ≡ s → getD (ofStage s ks vs) i 0 ≡ getD vs i 0
+ofStage-hit s i [] vs h e = absurd (not-suc-le-zero h)
+ofStage-hit s i (k ∷ ks) [] h e = refl
+ofStage-hit s zero (k ∷ ks) (v ∷ vs) h e = rw (eq-eqb k s e)
+ofStage-hit s (suc i) (k ∷ ks) (v ∷ vs) h e = ofStage-hit s i ks vs (le-of-suc-le-suc h) e
+
+pub ofStage-miss : (s d i : ℕ) (ks vs : List ℕ) → eqb (getD ks i d) s ≡ false → getD (ofStage s ks vs) i 0 ≡ 0
+ofStage-miss s d i [] vs e = refl
+ofStage-miss s d i (k ∷ ks) [] e = refl
+ofStage-miss s d zero (k ∷ ks) (v ∷ vs) e = rw e
+ofStage-miss s d (suc i) (k ∷ ks) (v ∷ vs) e = ofStage-miss s d i ks vs e
 
 -- ---- shares
 
@@ -111,14 +130,14 @@ pub part-le : (r : ℕ) {c t : ℕ} → 0 < t → c ≤ t → r * c / t ≤ r
 part-le r {c} {t} p h = le-trans (div-mono t (mul-le-mul-left r h)) (le-of-eq (mul-div-cancel r p))
 
 -- what stands at a running total rises with it
-pub share-rises : (r t c w : ℕ) → r * c / t ≤ r * (c + w) / t
+share-rises : (r t c w : ℕ) → r * c / t ≤ r * (c + w) / t
 share-rises r t c w = let m : c ≤ c + w = omega arith in div-mono t (mul-le-mul-left r m)
 
 -- no weight, no share
 pub share-none : (r t c : ℕ) → shareAt r t c 0 ≡ 0
 share-none r t c = rw (add-zero c) (omega arith)
 
-pub length-sharesFrom : (r t c : ℕ) (ws : List ℕ) → length (sharesFrom r t c ws) ≡ length ws
+length-sharesFrom : (r t c : ℕ) (ws : List ℕ) → length (sharesFrom r t c ws) ≡ length ws
 length-sharesFrom r t c [] = refl
 length-sharesFrom r t c (w ∷ ws) = ap suc (length-sharesFrom r t (c + w) ws)
 
@@ -126,14 +145,20 @@ pub length-shares : (r : ℕ) (ws : List ℕ) → length (shares r ws) ≡ lengt
 unfolding shares
 length-shares r ws = length-sharesFrom r (total ws) 0 ws
 
-getD-sharesFrom : (r t c i : ℕ) (ws : List ℕ) → getD ws i 0 ≡ 0 → getD (sharesFrom r t c ws) i 0 ≡ 0
-getD-sharesFrom r t c i [] e = refl
-getD-sharesFrom r t c zero (w ∷ ws) e = ap (shareAt r t c) e ∙ share-none r t c
-getD-sharesFrom r t c (suc i) (w ∷ ws) e = getD-sharesFrom r t (c + w) i ws e
+getD-sharesFrom : (r t c i : ℕ) (ws : List ℕ) → getD (sharesFrom r t c ws) i 0 ≡ shareAt r t (c + upto i ws) (getD ws i 0)
+getD-sharesFrom r t c i [] = sym (share-none r t (c + upto i []))
+getD-sharesFrom r t c zero (w ∷ ws) = rw (add-zero c)
+getD-sharesFrom r t c (suc i) (w ∷ ws) =
+    let e : c + w + upto i ws ≡ c + (w + upto i ws) = omega arith in
+    getD-sharesFrom r t (c + w) i ws ∙ ap (λ (n : ℕ). shareAt r t n (getD ws i 0)) e
 
-pub getD-shares : (r i : ℕ) (ws : List ℕ) → getD ws i 0 ≡ 0 → getD (shares r ws) i 0 ≡ 0
+-- a side's share stands at the running total of the sides ahead of it
+pub getD-shares : (r i : ℕ) (ws : List ℕ) → getD (shares r ws) i 0 ≡ shareAt r (total ws) (upto i ws) (getD ws i 0)
 unfolding shares
-getD-shares r i ws e = getD-sharesFrom r (total ws) 0 i ws e
+getD-shares r i ws = getD-sharesFrom r (total ws) 0 i ws ∙ ap (λ (n : ℕ). shareAt r (total ws) n (getD ws i 0)) (zero-add (upto i ws))
+
+pub shares-none : (r i : ℕ) (ws : List ℕ) → getD ws i 0 ≡ 0 → getD (shares r ws) i 0 ≡ 0
+shares-none r i ws e = getD-shares r i ws ∙ ap (shareAt r (total ws) (upto i ws)) e ∙ share-none r (total ws) (upto i ws)
 
 -- the telescope: shares up to a place are what stands there less what stands at the start
 tele : (r t c k : ℕ) (ws : List ℕ) → upto k (sharesFrom r t c ws) + r * c / t ≡ r * (c + upto k ws) / t
@@ -155,8 +180,8 @@ shares-upto r k ws =
 
 total-upto : (r : ℕ) (ws : List ℕ) → total (shares r ws) ≡ r * total ws / total ws
 total-upto r ws =
-    sym (upto-all (shares r ws)) ∙ ap (λ (n : ℕ). upto n (shares r ws)) (length-shares r ws) ∙ shares-upto r (length ws) ws
-    ∙ ap (λ (n : ℕ). r * n / total ws) (upto-all ws)
+    sym (upto-end (length (shares r ws)) (shares r ws) (le-refl _)) ∙ ap (λ (n : ℕ). upto n (shares r ws)) (length-shares r ws) ∙ shares-upto r (length ws) ws
+    ∙ ap (λ (n : ℕ). r * n / total ws) (upto-end (length ws) ws (le-refl _))
 
 -- all of r is given where there is a total, and nothing where there is none
 pub total-shares : (r : ℕ) (ws : List ℕ) → 0 < total ws → total (shares r ws) ≡ r

@@ -1,4 +1,4 @@
--- Step 1's formula from side to side: what is carried, and the running state.
+-- ShareStep 1's formula from side to side: what is carried, and the running state.
 use mathlib.Core.Path.{_≡_, refl, sym, ap, _∙_}
 use Prim.Native.Nat.{ℕ, _+_, _-_, _*_, _/_, _%_, _^_, _≤_, _<_}
 use native.Mathlib.Omega.{arith}
@@ -8,7 +8,7 @@ use Rattle.share.specs.Share.{shareAt, most}
 use Rattle.share.specs.Carry.{widest, farthest, Carries, Carriable, CarriedOn}
 use Rattle.share.specs.Inner.{Runs, CanCarry, Stepped}
 use Rattle.share.specs.declared.Running.{Running}
-use Rattle.share.specs.declared.Step.{Step}
+use Rattle.share.specs.declared.ShareStep.{ShareStep}
 use Rattle.share.proofs.Lists.{share-none, part-le}
 
 -- ---- one side's step over plain numbers

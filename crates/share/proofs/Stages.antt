@@ -1,18 +1,64 @@
--- The loops over the stages: what holds at each turn.
+-- The staged rule as the functions follow it: what each return of one stage has added, what holds at each turn of the loops over the stages, and the whole.
 use mathlib.Core.Path.{_≡_, refl, sym, ap, _∙_}
 use mathlib.Core.List.{List, [], _∷_}
 use mathlib.Core.Bool.{Bool, true, false, cond, false≢true}
 use Prim.Native.Nat.{ℕ, zero, suc, _+_, _-_, _≤_, _<_}
 use native.Mathlib.Omega.{arith}
-use lib.Dec.{ltb}
-use lib.ListN.{length, drop}
-use borrow.Author.Tests.{lt-ltb, le-ltb}
-use Rattle.share.specs.Share.{total, still, plus, shares, stageMoves, stageLeft, stages, stagesMoves, stagesLeft, backMoves, backLeft, movements, remainder, movesBy, leftBy}
-use Rattle.share.specs.Line.{evens, odds, Parts}
-use Rattle.share.specs.Inner.{weave, factorsAt, extrasAt, lineOf, Moved, Holds, Sides, stageCount}
-use Rattle.share.proofs.Lists.{total-still, length-still}
-use Rattle.share.proofs.Theory.{stage-sum, stages-sum, back-sum, length-backMoves}
-use Rattle.share.proofs.Halves.{length-weave, moved-both, moved-as, moved-nothing, moved-total}
+use native.Mathlib.Nat.{zero-add, le-of-suc-le-suc}
+use lib.Dec.{leb, ltb}
+use lib.ListN.{length, drop, replicate, length-replicate, length-map}
+use borrow.Author.Tests.{lt-ltb, le-ltb, le-leb, lt-leb}
+use Rattle.share.specs.Share.{total, still, plus, ofStage, shares, stageMoves, stageLeft, stages, stagesMoves, stagesLeft, backMoves, backLeft, remainder, movesBy, leftBy}
+use Rattle.share.specs.Sides.{stageIn, extraIn, stagesIn, extrasIn, movesIn, stageCount, Sides, Addable}
+use Rattle.share.proofs.Lists.{total-plus, plus-assoc, plus-nothing, total-still, length-still, no-shares, length-shares}
+use Rattle.share.proofs.Theory.{stage-sum, stages-sum, back-sum, length-stageMoves, length-backMoves, length-movesBy}
+
+-- ---- one stage
+
+-- one after the other
+plus-both : (m k out : List ℕ) {out₁ out₂ : List ℕ} → out₁ ≡ plus out m → out₂ ≡ plus out₁ k → out₂ ≡ plus out (plus m k)
+plus-both m k out e f = f ∙ ap (λ (l : List ℕ). plus l k) e ∙ plus-assoc out m k
+
+-- with r left, the stage's factors f, whose total is t, and its extra weights u
+pub stage-none : {r : ℕ} (f u out : List ℕ) → length f ≡ length out → length u ≡ length out → r ≡ 0 → (0 ≡ stageLeft r f u) × (out ≡ plus out (stageMoves r f u))
+stage-none {r} f u out a b z =
+    let s = stage-sum r f u in
+    (omega arith, sym (plus-nothing out (stageMoves r f u) (omega arith) (omega (arith, length-stageMoves (length out) r f u a b))))
+
+module _ {r t : ℕ} (f out : List ℕ) (e : t ≡ total f) where
+  pub stage-within : (u : List ℕ) {out₁ : List ℕ} → r ≤ t → out₁ ≡ plus out (shares r f) → (0 ≡ stageLeft r f u) × (out₁ ≡ plus out (stageMoves r f u))
+  unfolding stageMoves stageLeft
+  stage-within u h m =
+      let b : leb r (total f) ≡ true = le-leb r (total f) (omega arith) in
+      (rw b refl, rw b m)
+
+  module _ (h : t < r) where
+    past : leb r (total f) ≡ false
+    past = lt-leb r (total f) (omega arith)
+
+    -- what is past the factors can be added to them
+    pub past-holds : {sides out₁ : List ℕ} → Addable r sides out → length out₁ ≡ length out → out₁ ≡ plus out f → Addable (r - t) sides out₁
+    past-holds p l m =
+        let s = ap total m ∙ total-plus out f in
+        record { even = l ∙ p .even; small = omega (arith, p .small); room = omega (arith, p .room) }
+
+    -- none is unlimited
+    pub stage-free : (u : List ℕ) {out₁ : List ℕ} → 0 ≡ total u → length u ≡ length out₁ → out₁ ≡ plus out f → (r - t ≡ stageLeft r f u) × (out₁ ≡ plus out (stageMoves r f u))
+    unfolding stageMoves stageLeft
+    stage-free u {out₁} z l m =
+        let b : ltb 0 (total u) ≡ false = le-ltb 0 (total u) (omega arith) in (
+          rw (past, b) (omega arith),
+          rw past (plus-both f (shares (r - total f) u) out m (sym (plus-nothing out₁ (shares (r - total f) u) (no-shares (r - total f) u (sym z)) (omega (arith, length-shares (r - total f) u))))),
+        )
+
+    pub stage-past : (u : List ℕ) {out₁ out₂ : List ℕ} → 0 < total u → out₁ ≡ plus out f → out₂ ≡ plus out₁ (shares (r - t) u)
+        → (0 ≡ stageLeft r f u) × (out₂ ≡ plus out (stageMoves r f u))
+    unfolding stageMoves stageLeft
+    stage-past u p m k =
+        let b : ltb 0 (total u) ≡ true = lt-ltb 0 (total u) p in
+        (rw (past, b) refl, rw past (plus-both f (shares (r - total f) u) out m (rw e at k)))
+
+-- ---- the loops over the stages
 
 pub at-stage : (s : ℕ) → s < stageCount → drop s stages ≡ s ∷ drop (s + 1) stages
 unfolding stages
@@ -26,149 +72,143 @@ pub at-end : (s : ℕ) → s ≡ stageCount → drop s stages ≡ []
 unfolding stages
 at-end s e = ap (λ (n : ℕ). drop n stages) e
 
--- ---- steps 1 and 2
+plus-still : (out ks : List ℕ) → length ks ≡ length out → plus out (still ks) ≡ out
+plus-still out ks e = plus-nothing out (still ks) (total-still ks) (omega (arith, length-still ks))
 
--- the next stage is s, and `left` is left
-pub record Staging (n : ℕ) (ks us bs cs : List ℕ) (gap : ℕ) (xs₀ ys₀ : List ℕ) (s left : ℕ) (xs ys : List ℕ) : Type 0 where
-  pub sides : Sides n xs ys
+-- steps 1 and 2: the next stage is s, and `left` is left
+pub record Staging (ks fs us : List ℕ) (gap : ℕ) (out₀ : List ℕ) (s left : ℕ) (out : List ℕ) : Type 0 where
+  pub same : length out ≡ length out₀
   pub less : left ≤ gap
-  pub before : total xs + left ≤ total xs₀ + gap
-  pub after : total ys + left ≤ total ys₀ + gap
-  pub rest : lineOf stagesLeft ks us bs cs stages gap ≡ lineOf stagesLeft ks us bs cs (drop s stages) left
-  pub moves : (xs' ys' : List ℕ) → Moved (lineOf stagesMoves ks us bs cs (drop s stages) left) xs ys xs' ys'
-      → Moved (lineOf stagesMoves ks us bs cs stages gap) xs₀ ys₀ xs' ys'
+  pub room : total out + left ≡ total out₀ + gap
+  pub rest : stagesLeft ks fs us stages gap ≡ stagesLeft ks fs us (drop s stages) left
+  pub moves : plus out₀ (stagesMoves ks fs us stages gap) ≡ plus out (stagesMoves ks fs us (drop s stages) left)
 
-module _ {n : ℕ} {ks us bs cs : List ℕ} {gap : ℕ} {xs₀ ys₀ : List ℕ} {s left : ℕ} {xs ys : List ℕ} (g : Staging n ks us bs cs gap xs₀ ys₀ s left xs ys) where
-  pub staging-on : {q : ℕ} {xs' ys' : List ℕ} → s < stageCount → q ≡ stageLeft left (factorsAt s ks bs cs) (extrasAt s ks us)
-      → Moved (stageMoves left (factorsAt s ks bs cs) (extrasAt s ks us)) xs ys xs' ys' → Sides n xs' ys' → Staging n ks us bs cs gap xs₀ ys₀ (s + 1) q xs' ys'
-  staging-on {q} {xs'} {ys'} h e m d =
-      let f = factorsAt s ks bs cs in
-      let u = extrasAt s ks us in
+module _ {ks fs us : List ℕ} {gap : ℕ} {out₀ : List ℕ} {s left : ℕ} {out : List ℕ} (g : Staging ks fs us gap out₀ s left out) where
+  pub staging-on : {q : ℕ} {out' : List ℕ} → s < stageCount → q ≡ stageLeft left (ofStage s ks fs) (ofStage s ks us)
+      → out' ≡ plus out (stageMoves left (ofStage s ks fs) (ofStage s ks us)) → length out' ≡ length out → Staging ks fs us gap out₀ (s + 1) q out'
+  staging-on {q} {out'} h e m l =
+      let f = ofStage s ks fs in
+      let u = ofStage s ks us in
       let sum = stage-sum left f u in
-      let more = moved-total m in
+      let more = ap total m ∙ total-plus out (stageMoves left f u) in
       record {
-        sides = d;
+        same = l ∙ g .same;
         less = omega (arith, g .less);
-        before = omega (arith, g .before);
-        after = omega (arith, g .after);
-        rest = g .rest ∙ ap (λ (l : List ℕ). lineOf stagesLeft ks us bs cs l left) (at-stage s h) ∙ ap (lineOf stagesLeft ks us bs cs (drop (s + 1) stages)) (sym e);
-        moves = λ zs ws w.
-            g .moves zs ws (moved-as (sym (ap (λ (l : List ℕ). lineOf stagesMoves ks us bs cs l left) (at-stage s h)
-            ∙ ap (λ (k : ℕ). plus (stageMoves left f u) (lineOf stagesMoves ks us bs cs (drop (s + 1) stages) k)) (sym e))) (moved-both m w));
+        room = omega (arith, g .room);
+        rest = g .rest ∙ ap (λ (l : List ℕ). stagesLeft ks fs us l left) (at-stage s h) ∙ ap (stagesLeft ks fs us (drop (s + 1) stages)) (sym e);
+        moves =
+            g .moves ∙ ap (λ (l : List ℕ). plus out (stagesMoves ks fs us l left)) (at-stage s h)
+            ∙ sym (plus-both (stageMoves left f u) (stagesMoves ks fs us (drop (s + 1) stages) (stageLeft left f u)) out m (ap (λ (n : ℕ). plus out' (stagesMoves ks fs us (drop (s + 1) stages) n)) e));
       }
 
-  pub staging-end : length ks ≡ n → s ≡ stageCount
-      → (left ≡ lineOf stagesLeft ks us bs cs stages gap) × Moved (lineOf stagesMoves ks us bs cs stages gap) xs₀ ys₀ xs ys
+  pub staging-end : length ks ≡ length out₀ → s ≡ stageCount → (left ≡ stagesLeft ks fs us stages gap) × (out ≡ plus out₀ (stagesMoves ks fs us stages gap))
   staging-end k e =
-      let d = at-end s e in
-      let nothing = moved-nothing n (still (weave ks ks)) xs ys (total-still (weave ks ks)) (length-still (weave ks ks) ∙ length-weave n ks ks k k) (g .sides .before) (g .sides .after) in (
-        sym (g .rest ∙ ap (λ (l : List ℕ). lineOf stagesLeft ks us bs cs l left) d),
-        g .moves xs ys (moved-as (sym (ap (λ (l : List ℕ). lineOf stagesMoves ks us bs cs l left) d)) nothing),
+      let d = at-end s e in (
+        sym (g .rest ∙ ap (λ (l : List ℕ). stagesLeft ks fs us l left) d),
+        sym (g .moves ∙ ap (λ (l : List ℕ). plus out (stagesMoves ks fs us l left)) d ∙ plus-still out ks (omega (arith, g .same))),
       )
 
-pub staging-start : {n : ℕ} (ks us bs cs : List ℕ) (gap : ℕ) {xs ys : List ℕ} → Sides n xs ys → Staging n ks us bs cs gap xs ys 0 gap xs ys
-staging-start ks us bs cs gap d = record {
-  sides = d;
-  less = omega arith;
-  before = omega arith;
-  after = omega arith;
-  rest = refl;
-  moves = λ zs ws w. w;
-}
+pub staging-start : (ks fs us : List ℕ) (gap : ℕ) (out : List ℕ) → Staging ks fs us gap out 0 gap out
+staging-start ks fs us gap out = record { same = refl; less = omega arith; room = refl; rest = refl; moves = refl }
 
--- ---- step 3
+-- step 3: the next stage is s; nothing is moved yet
+pub record Backing (ks fs : List ℕ) (left : ℕ) (out₀ : List ℕ) (s : ℕ) (out : List ℕ) : Type 0 where
+  pub same : out ≡ out₀
+  pub rest : backLeft ks fs stages left ≡ backLeft ks fs (drop s stages) left
+  pub moves : backMoves ks fs stages left ≡ backMoves ks fs (drop s stages) left
 
--- the next stage is s; nothing is moved yet
-pub record Backing (ks bs cs : List ℕ) (left : ℕ) (xs₀ ys₀ : List ℕ) (s : ℕ) (xs ys : List ℕ) : Type 0 where
-  pub before : xs ≡ xs₀
-  pub after : ys ≡ ys₀
-  pub rest : backLeft (weave ks ks) (weave bs cs) stages left ≡ backLeft (weave ks ks) (weave bs cs) (drop s stages) left
-  pub moves : backMoves (weave ks ks) (weave bs cs) stages left ≡ backMoves (weave ks ks) (weave bs cs) (drop s stages) left
-
-module _ {ks bs cs : List ℕ} {left : ℕ} {xs₀ ys₀ : List ℕ} {s : ℕ} {xs ys : List ℕ} (g : Backing ks bs cs left xs₀ ys₀ s xs ys) where
-  rest-at : s < stageCount → (b : Bool) → ltb 0 (total (factorsAt s ks bs cs)) ≡ b
-      → backLeft (weave ks ks) (weave bs cs) stages left ≡ cond b 0 (backLeft (weave ks ks) (weave bs cs) (drop (s + 1) stages) left)
+module _ {ks fs : List ℕ} {left : ℕ} {out₀ : List ℕ} {s : ℕ} {out : List ℕ} (g : Backing ks fs left out₀ s out) where
+  rest-at : s < stageCount → (b : Bool) → ltb 0 (total (ofStage s ks fs)) ≡ b → backLeft ks fs stages left ≡ cond b 0 (backLeft ks fs (drop (s + 1) stages) left)
   rest-at h b e =
-      g .rest ∙ ap (λ (l : List ℕ). backLeft (weave ks ks) (weave bs cs) l left) (at-stage s h)
-      ∙ ap (λ (b : Bool). cond b 0 (backLeft (weave ks ks) (weave bs cs) (drop (s + 1) stages) left)) e
+      g .rest ∙ ap (λ (l : List ℕ). backLeft ks fs l left) (at-stage s h)
+      ∙ ap (λ (b : Bool). cond b 0 (backLeft ks fs (drop (s + 1) stages) left)) e
 
-  moves-at : s < stageCount → (b : Bool) → ltb 0 (total (factorsAt s ks bs cs)) ≡ b
-      → backMoves (weave ks ks) (weave bs cs) stages left
-      ≡ cond b (shares left (factorsAt s ks bs cs)) (backMoves (weave ks ks) (weave bs cs) (drop (s + 1) stages) left)
+  moves-at : s < stageCount → (b : Bool) → ltb 0 (total (ofStage s ks fs)) ≡ b
+      → backMoves ks fs stages left ≡ cond b (shares left (ofStage s ks fs)) (backMoves ks fs (drop (s + 1) stages) left)
   moves-at h b e =
-      g .moves ∙ ap (λ (l : List ℕ). backMoves (weave ks ks) (weave bs cs) l left) (at-stage s h)
-      ∙ ap (λ (b : Bool). cond b (shares left (factorsAt s ks bs cs)) (backMoves (weave ks ks) (weave bs cs) (drop (s + 1) stages) left)) e
+      g .moves ∙ ap (λ (l : List ℕ). backMoves ks fs l left) (at-stage s h)
+      ∙ ap (λ (b : Bool). cond b (shares left (ofStage s ks fs)) (backMoves ks fs (drop (s + 1) stages) left)) e
 
-  pub backing-on : {t : ℕ} → s < stageCount → t ≡ total (factorsAt s ks bs cs) → t ≤ 0 → Backing ks bs cs left xs₀ ys₀ (s + 1) xs ys
+  pub backing-on : {t : ℕ} → s < stageCount → t ≡ total (ofStage s ks fs) → t ≤ 0 → Backing ks fs left out₀ (s + 1) out
   backing-on {t} h e z =
-      let b : ltb 0 (total (factorsAt s ks bs cs)) ≡ false = le-ltb 0 (total (factorsAt s ks bs cs)) (omega arith) in
-      record { before = g .before; after = g .after; rest = rest-at h false b; moves = moves-at h false b }
+      let b : ltb 0 (total (ofStage s ks fs)) ≡ false = le-ltb 0 (total (ofStage s ks fs)) (omega arith) in
+      record { same = g .same; rest = rest-at h false b; moves = moves-at h false b }
 
-  pub backing-found : {t : ℕ} {xs' ys' : List ℕ} → s < stageCount → t ≡ total (factorsAt s ks bs cs) → 0 < t → Moved (shares left (factorsAt s ks bs cs)) xs ys xs' ys'
-      → (0 ≡ backLeft (weave ks ks) (weave bs cs) stages left) × Moved (backMoves (weave ks ks) (weave bs cs) stages left) xs₀ ys₀ xs' ys'
-  backing-found {t} {xs'} {ys'} h e p m =
-      let b : ltb 0 (total (factorsAt s ks bs cs)) ≡ true = lt-ltb 0 (total (factorsAt s ks bs cs)) (omega arith) in (
-        sym (rest-at h true b),
-        moved-as (sym (moves-at h true b)) (record {
-          before = m .before ∙ ap (λ (l : List ℕ). plus l (evens (shares left (factorsAt s ks bs cs)))) (g .before);
-          after = m .after ∙ ap (λ (l : List ℕ). plus l (odds (shares left (factorsAt s ks bs cs)))) (g .after);
-        }),
+  pub backing-found : {t : ℕ} {out' : List ℕ} → s < stageCount → t ≡ total (ofStage s ks fs) → 0 < t → out' ≡ plus out (shares left (ofStage s ks fs))
+      → (0 ≡ backLeft ks fs stages left) × (out' ≡ plus out₀ (backMoves ks fs stages left))
+  backing-found {t} {out'} h e p m =
+      let b : ltb 0 (total (ofStage s ks fs)) ≡ true = lt-ltb 0 (total (ofStage s ks fs)) (omega arith) in
+      (sym (rest-at h true b), m ∙ ap (λ (l : List ℕ). plus l (shares left (ofStage s ks fs))) (g .same) ∙ ap (plus out₀) (sym (moves-at h true b)))
+
+  pub backing-end : length ks ≡ length out₀ → s ≡ stageCount → (left ≡ backLeft ks fs stages left) × (out ≡ plus out₀ (backMoves ks fs stages left))
+  backing-end k e =
+      let d = at-end s e in (
+        sym (g .rest ∙ ap (λ (l : List ℕ). backLeft ks fs l left) d),
+        g .same ∙ sym (ap (plus out₀) (g .moves ∙ ap (λ (l : List ℕ). backMoves ks fs l left) d) ∙ plus-still out₀ ks k),
       )
 
-  pub backing-end : {n : ℕ} → length ks ≡ n → Sides n xs ys → s ≡ stageCount
-      → (left ≡ backLeft (weave ks ks) (weave bs cs) stages left) × Moved (backMoves (weave ks ks) (weave bs cs) stages left) xs₀ ys₀ xs ys
-  backing-end {n} k d e =
-      let z = at-end s e in
-      let nothing = moved-nothing n (still (weave ks ks)) xs ys (total-still (weave ks ks)) (length-still (weave ks ks) ∙ length-weave n ks ks k k) (d .before) (d .after) in (
-        sym (g .rest ∙ ap (λ (l : List ℕ). backLeft (weave ks ks) (weave bs cs) l left) z),
-        moved-as (sym (g .moves ∙ ap (λ (l : List ℕ). backMoves (weave ks ks) (weave bs cs) l left) z)) (record {
-          before = nothing .before ∙ ap (λ (l : List ℕ). plus l (evens (still (weave ks ks)))) (g .before);
-          after = nothing .after ∙ ap (λ (l : List ℕ). plus l (odds (still (weave ks ks)))) (g .after);
-        }),
-      )
-
-pub backing-start : (ks bs cs : List ℕ) (left : ℕ) (xs ys : List ℕ) → Backing ks bs cs left xs ys 0 xs ys
-backing-start ks bs cs left xs ys = record { before = refl; after = refl; rest = refl; moves = refl }
+pub backing-start : (ks fs : List ℕ) (left : ℕ) (out : List ℕ) → Backing ks fs left out 0 out
+backing-start ks fs left out = record { same = refl; rest = refl; moves = refl }
 
 -- nothing is left
-pub back-none : {n left : ℕ} (ks bs cs xs ys : List ℕ) → Parts n ks bs cs → Sides n xs ys → left ≡ 0
-    → (0 ≡ backLeft (weave ks ks) (weave bs cs) stages left) × Moved (backMoves (weave ks ks) (weave bs cs) stages left) xs ys xs ys
-back-none {n} {left} ks bs cs xs ys p d z =
-    let m = backMoves (weave ks ks) (weave bs cs) stages left in
-    let sum = back-sum (weave ks ks) (weave bs cs) stages left in (
-      omega arith,
-      moved-nothing n m xs ys (omega arith)
-          (length-backMoves (n + n) (weave ks ks) (weave bs cs) (length-weave n ks ks (p .stages) (p .stages)) (length-weave n bs cs (p .first) (p .second)) stages left) (d .before) (d .after),
+pub back-none : {left : ℕ} (ks fs out : List ℕ) → length ks ≡ length out → length fs ≡ length out → left ≡ 0
+    → (0 ≡ backLeft ks fs stages left) × (out ≡ plus out (backMoves ks fs stages left))
+back-none {left} ks fs out k f z =
+    let sum = back-sum ks fs stages left in
+    (omega arith, sym (plus-nothing out (backMoves ks fs stages left) (omega arith) (omega (arith, length-backMoves (length out) ks fs k f stages left))))
+
+-- ---- the whole, from nothing
+
+-- what is added to n zeros
+plus-zeros : (n : ℕ) (xs : List ℕ) → n ≤ length xs → plus (replicate n 0) xs ≡ xs
+plus-zeros zero xs h = refl
+plus-zeros (suc n) [] h = absurd (omega arith)
+plus-zeros (suc n) (x ∷ xs) h = rw (zero-add x, plus-zeros n xs (le-of-suc-le-suc h))
+
+total-zeros : (n : ℕ) → total (replicate n 0) ≡ 0
+total-zeros zero = refl
+total-zeros (suc n) = omega (arith, total-zeros n)
+
+module _ {sides factors : List ℕ} (p : Sides sides factors) {out : List ℕ} (z : out ≡ replicate (length sides) 0) where
+  -- zeros have room for any gap of a line
+  pub zeros-hold : {gap : ℕ} → gap ≤ 1073741823 → Addable gap sides out
+  zeros-hold h =
+      let t = ap total z ∙ total-zeros (length sides) in
+      record { even = ap length z ∙ length-replicate (length sides) 0; small = h; room = omega arith }
+
+  -- movements that are added to zeros are the line's
+  from-zeros : (back : Bool) (gap : ℕ) → plus out (movesIn back sides factors gap) ≡ movesIn back sides factors gap
+  from-zeros back gap =
+      let m = movesIn back sides factors gap in
+      let l = length-movesBy stages back (length sides) (stagesIn sides) factors (extrasIn sides) gap (length-map sides stageIn) (p .even) (length-map sides extraIn) in
+      ap (λ (l : List ℕ). plus l m) z ∙ plus-zeros (length sides) m (omega arith)
+
+  module _ (gap : ℕ) {q : ℕ} {out₁ : List ℕ} (e : q ≡ stagesLeft (stagesIn sides) factors (extrasIn sides) stages gap)
+      (m : out₁ ≡ plus out (stagesMoves (stagesIn sides) factors (extrasIn sides) stages gap)) where
+    -- what is left can still be added
+    pub staged-holds : length out₁ ≡ length out → gap ≤ 1073741823 → Addable q sides out₁
+    staged-holds l h =
+        let sum = stages-sum (stagesIn sides) factors (extrasIn sides) stages gap in
+        let more = ap total m ∙ total-plus out (stagesMoves (stagesIn sides) factors (extrasIn sides) stages gap) in
+        let t = ap total z ∙ total-zeros (length sides) in
+        record { even = l ∙ ap length z ∙ length-replicate (length sides) 0; small = omega arith; room = omega arith }
+
+    -- edition 1
+    pub whole : (back : Bool) {r : ℕ} {out₂ : List ℕ} → back ≡ true → r ≡ backLeft (stagesIn sides) factors stages q
+        → out₂ ≡ plus out₁ (backMoves (stagesIn sides) factors stages q)
+        → (r ≡ remainder back (stagesIn sides) factors (extrasIn sides) gap) × (out₂ ≡ movesIn back sides factors gap)
+    unfolding movesBy leftBy
+    whole false b f k = absurd (false≢true b)
+    whole true b f k = (
+      f ∙ ap (backLeft (stagesIn sides) factors stages) e,
+      plus-both _ _ out m (k ∙ ap (λ (n : ℕ). plus out₁ (backMoves (stagesIn sides) factors stages n)) e) ∙ from-zeros true gap,
     )
 
--- ---- the whole
-
-module _ (ks us bs cs : List ℕ) (gap : ℕ) {xs ys xs₁ ys₁ : List ℕ} where
-  -- edition 1
-  pub whole : (back : Bool) {q r : ℕ} {xs₂ ys₂ : List ℕ} → back ≡ true → q ≡ lineOf stagesLeft ks us bs cs stages gap
-      → Moved (lineOf stagesMoves ks us bs cs stages gap) xs ys xs₁ ys₁ → r ≡ backLeft (weave ks ks) (weave bs cs) stages q
-      → Moved (backMoves (weave ks ks) (weave bs cs) stages q) xs₁ ys₁ xs₂ ys₂
-      → (r ≡ lineOf (remainder back) ks us bs cs gap) × Moved (lineOf (movements back) ks us bs cs gap) xs ys xs₂ ys₂
-  unfolding movesBy leftBy
-  whole false b e m f k = absurd (false≢true b)
-  whole true b e m f k = (
-    f ∙ ap (backLeft (weave ks ks) (weave bs cs) stages) e,
-    moved-as (ap (λ (n : ℕ). plus (lineOf stagesMoves ks us bs cs stages gap) (backMoves (weave ks ks) (weave bs cs) stages n)) e) (moved-both m k),
-  )
-
-  -- edition 2
-  pub whole-limits : (back : Bool) {n q : ℕ} → back ≡ false → length ks ≡ n → Sides n xs₁ ys₁ → q ≡ lineOf stagesLeft ks us bs cs stages gap
-      → Moved (lineOf stagesMoves ks us bs cs stages gap) xs ys xs₁ ys₁
-      → (q ≡ lineOf (remainder back) ks us bs cs gap) × Moved (lineOf (movements back) ks us bs cs gap) xs ys xs₁ ys₁
-  unfolding movesBy leftBy
-  whole-limits true b k d e m = absurd (false≢true (sym b))
-  whole-limits false {n} b k d e m =
-      (e, moved-both m (moved-nothing n (still (weave ks ks)) xs₁ ys₁ (total-still (weave ks ks)) (length-still (weave ks ks) ∙ length-weave n ks ks k k) (d .before) (d .after)))
-
--- what is left can still be added
-pub staged-holds : {q : ℕ} (ks us bs cs : List ℕ) (gap : ℕ) (xs ys : List ℕ) {xs₁ ys₁ : List ℕ} → q ≡ lineOf stagesLeft ks us bs cs stages gap
-    → Moved (lineOf stagesMoves ks us bs cs stages gap) xs ys xs₁ ys₁ → Holds gap xs ys → Holds q xs₁ ys₁
-staged-holds ks us bs cs gap xs ys e m h =
-    let sum = stages-sum (weave ks ks) (weave bs cs) (weave (still us) us) stages gap in
-    let more = moved-total m in
-    record { small = omega (arith, h .small); before = omega (arith, h .before); after = omega (arith, h .after) }
+    -- edition 2
+    pub whole-limits : (back : Bool) → back ≡ false → length out₁ ≡ length out
+        → (q ≡ remainder back (stagesIn sides) factors (extrasIn sides) gap) × (out₁ ≡ movesIn back sides factors gap)
+    unfolding movesBy leftBy
+    whole-limits true b l = absurd (false≢true (sym b))
+    whole-limits false b l =
+        let n = l ∙ ap length z ∙ length-replicate (length sides) 0 in
+        (e, plus-both _ _ out m (sym (plus-still out₁ (stagesIn sides) (length-map sides stageIn ∙ sym n))) ∙ from-zeros false gap)

@@ -9,7 +9,7 @@ use lib.Dec.{leb, ltb, eqb}
 use lib.ListN.{length, getD}
 use borrow.Author.Tests.{ltb-true, ltb-false, leb-true, leb-false, eqb-true, eq-eqb, ne-eqb, le-ltb}
 use Rattle.share.specs.Share.{total, still, plus, ofStage, shares, stageMoves, stageLeft, stagesMoves, stagesLeft, backMoves, backLeft, movesBy, leftBy, stages, noPart, movements, remainder, among, empty, full, allTotal}
-use Rattle.share.proofs.Lists.{plus-nothing, total-plus, total-still, getD-le-total, length-plus, length-still, length-ofStage, length-shares, getD-plus, getD-still, getD-ofStage, getD-shares, total-shares, no-shares, total-shares-le}
+use Rattle.share.proofs.Lists.{plus-nothing, total-plus, total-still, getD-le-total, length-plus, length-still, length-ofStage, length-shares, getD-plus, getD-still, ofStage-miss, shares-none, total-shares, no-shares, total-shares-le}
 
 -- ---- the sum
 
@@ -112,8 +112,8 @@ unfolding stageMoves
 stage-still r i ws us a b = go (leb r (total ws))
   where
     go : (d : Bool) → getD (cond d (shares r ws) (plus ws (shares (r - total ws) us))) i 0 ≡ 0
-    go true = getD-shares r i ws a
-    go false = omega (arith, getD-plus i ws (shares (r - total ws) us), getD-shares (r - total ws) i us b)
+    go true = shares-none r i ws a
+    go false = omega (arith, getD-plus i ws (shares (r - total ws) us), shares-none (r - total ws) i us b)
 
 module _ (d i : ℕ) (ks fs us : List ℕ) where
   stages-still : (ss : List ℕ) (r : ℕ) → among (getD ks i d) ss ≡ false → getD (stagesMoves ks fs us ss r) i 0 ≡ 0
@@ -125,7 +125,7 @@ module _ (d i : ℕ) (ks fs us : List ℕ) where
       omega (
         arith,
         getD-plus i (stageMoves r ws es) (stagesMoves ks fs us ss (stageLeft r ws es)),
-        stage-still r i ws es (getD-ofStage s d i ks fs (p .0)) (getD-ofStage s d i ks us (p .0)),
+        stage-still r i ws es (ofStage-miss s d i ks fs (p .0)) (ofStage-miss s d i ks us (p .0)),
         stages-still ss (stageLeft r ws es) (p .1),
       )
 
@@ -137,7 +137,7 @@ module _ (d i : ℕ) (ks fs us : List ℕ) where
       p = either (eqb (getD ks i d) s) (among (getD ks i d) ss) e
 
       go : (b : Bool) → getD (backMoves ks fs ss r) i 0 ≡ 0 → getD (cond b (shares r (ofStage s ks fs)) (backMoves ks fs ss r)) i 0 ≡ 0
-      go true h = getD-shares r i (ofStage s ks fs) (getD-ofStage s d i ks fs (p .0))
+      go true h = shares-none r i (ofStage s ks fs) (ofStage-miss s d i ks fs (p .0))
       go false h = h
 
   -- STAYS STILL: a side whose priority is no stage of the list does not move

@@ -93,31 +93,6 @@ abbrev pub sumℤ : List ℤ → ℤ
 sumℤ [] = pos 0
 sumℤ (z ∷ zs) = z +ℤ sumℤ zs
 
--- the glyphs whose stage priorities, extra weights and factors stand in four lists
-abbrev pub glyphsOf : List ℕ → List ℕ → List ℕ → List ℕ → List Glyph
-glyphsOf [] us bs cs = []
-glyphsOf (k ∷ ks) [] bs cs = []
-glyphsOf (k ∷ ks) (u ∷ us) [] cs = []
-glyphsOf (k ∷ ks) (u ∷ us) (b ∷ bs) [] = []
-glyphsOf (k ∷ ks) (u ∷ us) (b ∷ bs) (c ∷ cs) = record { stage = k; extra = u; before = b; after = c } ∷ glyphsOf ks us bs cs
-
 -- no factor is wider than sharing may multiply
 abbrev pub Narrow : List ℕ → Type 0
 Narrow fs = (i : ℕ) → getD fs i 0 ≤ widest
-
--- lists of n glyphs: their stage priorities and factors; and these with their extra weights, of no more glyphs than a line may have
-pub record Parts (n : ℕ) (ks bs cs : List ℕ) : Type 0 where
-  pub stages : length ks ≡ n
-  pub first : length bs ≡ n
-  pub second : length cs ≡ n
-  pub low-first : Narrow bs
-  pub low-second : Narrow cs
-
-pub record Lent (n : ℕ) (ks us bs cs : List ℕ) : Type 0 where
-  pub stages : length ks ≡ n
-  pub extras : length us ≡ n
-  pub first : length bs ≡ n
-  pub second : length cs ≡ n
-  pub low-first : Narrow bs
-  pub low-second : Narrow cs
-  pub short : n ≤ 1024

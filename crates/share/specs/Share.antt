@@ -13,7 +13,7 @@ stages = 0 ∷ 1 ∷ 2 ∷ 3 ∷ []
 
 -- the stage priority of a side that takes no part; no stage
 abbrev pub noPart : ℕ
-noPart = 255
+noPart = 15
 
 -- ---- lists of sizes, one for each side
 

@@ -1,24 +1,27 @@
 // A line's gap shared over its sides (document 01, "Sharing the gap" and refusal 15). All of it works on sizes; the sign stands in
-// `signed` alone. A line is four slices with an element for each glyph: its stage priority, 1 where it is unlimited and else 0, and the
-// factors of its before and its after side. A priority that is no stage, as 255, takes no part.
+// `signed` alone. A line is two slices with an element for each side, in line order, a glyph's before side ahead of its after side:
+// its stage priority, with 16 added for its extra weight (see `side_of`), and its factor. A priority that is no stage takes no part.
 ghost use mathlib.Core.Path.{_≡_};
 ghost use Prim.Native.Nat.{ℕ, _+_, _*_, _≤_, _<_, _^_};
 ghost use lib.ListN.{length, replicate};
-ghost use lib.Dec.{ltb};
 ghost use mathlib.Core.Bool.{true, cond};
 ghost use mathlib.Core.List.{map};
 ghost use Rattle.share.specs.Share.{total, most, plus, shares, stages, stageMoves, stageLeft, stagesMoves, stagesLeft, backMoves, backLeft};
 ghost use Rattle.share.specs.Carry.{widest, Carriable, CarriedOn};
-ghost use Rattle.share.specs.Line.{odds, glyphsOf, lineLeft, lineFits, beforeMoves, afterMoves, signedOf, Parts, Lent};
-ghost use Rattle.share.specs.Inner.{weave, factorsAt, extrasAt, lineOf, Runs, CanCarry, Stepped, Moved, Holds, Sides, stageCount, totalAt, totalsWithin, TotalsOf, Fit};
+ghost use Rattle.share.specs.Line.{evens, odds, signedOf};
+ghost use Rattle.share.specs.Inner.{Runs, CanCarry, Stepped};
+ghost use Rattle.share.specs.Sides.{stageIn, extraIn, stagesIn, extrasIn, factorsAt, extrasAt, weightsAt, Sides, Addable, stageCount, totalAt, totalsWithin, TotalsOf, Fit, movesIn, leftIn, fitsIn};
 
 // The most that a stage's total may be.
 const MOST: u64 = 8589934592;
 
-// The stages are 0 to STAGES - 1.
+// The stages are the priorities 0 to STAGES - 1.
 const STAGES: u8 = 4;
 
-// Step 1's formula on its way from side to side: the amount, the total that it is shared over, and the quotient and remainder of
+// Flags have room for so many priorities.
+const PRIORITIES: u8 = 16;
+
+// ShareStep 1's formula on its way from side to side: the amount, the total that it is shared over, and the quotient and remainder of
 // the amount times the running total, by that total. The quotient is what the sides so far have been given.
 pub struct Running {
     pub amount: u64,
@@ -28,7 +31,7 @@ pub struct Running {
 }
 
 // A side's share, and the state after it.
-pub struct Step {
+pub struct ShareStep {
     pub share: u64,
     pub next: Running,
 }
@@ -82,18 +85,18 @@ pub fn carry_on(amount: u64, over: u64, weight: u64, quotient: u64, remainder: u
 }
 
 // One side of step 1's formula. A side of no weight has no share, and costs no division.
-fn next_share(run: Running, weight: u64) -> Step
+fn next_share(run: Running, weight: u64) -> ShareStep
     requires { ⌜ CanCarry run weight ⌝ }
     ensures { λ r. ⌜ Stepped run weight r ⌝ }
 {
     if weight == 0 {
-        return Step {
+        return ShareStep {
             share: 0,
             next: run,
         };
     }
     let next = carry_on(run.amount, run.over, weight, run.quotient, run.remainder);
-    Step {
+    ShareStep {
         share: next.quotient - run.quotient,
         next: Running {
             amount: run.amount,
@@ -104,9 +107,9 @@ fn next_share(run: Running, weight: u64) -> Step
     }
 }
 
-// The totals of a line's stages.
+// The factors of the sides of each priority together. The stages are the first of the priorities.
 pub struct Totals {
-    pub sums: [u64; STAGES as usize],
+    pub sums: [u64; PRIORITIES as usize],
 }
 
 // A stage's total.
@@ -117,27 +120,7 @@ fn total_of(totals: Totals, stage: u8) -> u64
     totals.sums[stage as usize]
 }
 
-// The totals of a line's stages. Two factors a glyph, none above 1,073,741,824, and 1,024 glyphs: no sum passes 2 to the power 41.
-pub fn line_totals(priorities: &[u8], first: &[u64], second: &[u64]) -> Totals
-    requires { ⌜ Parts (length (now priorities)) (now priorities) (now first) (now second) × (length (now priorities) ≤ 1024) ⌝ }
-    ensures { λ r. ⌜ TotalsOf r (now (priorities .entry)) (now (first .entry)) (now (second .entry)) ⌝ }
-{
-    let mut sums = [0u64; STAGES as usize];
-    let mut i = 0;
-    while i < priorities.len() {
-        let stage = priorities[i];
-        if stage < STAGES {
-            sums[stage as usize] += first[i] + second[i];
-            i += 1;
-        } else {
-            i += 1;
-        }
-    }
-    Totals { sums }
-}
-
-// Refusal 15's test: whether no stage's total is above the most that it may be. On a line's totals it is `lineFits`, by `totals-line` of
-// proofs/Sums.antt.
+// Refusal 15's test: whether no stage's total is above the most that it may be.
 pub fn totals_fit(totals: Totals) -> bool
     ensures { λ r. ⌜ r ≡ totalsWithin totals stages ⌝ }
 {
@@ -151,28 +134,51 @@ pub fn totals_fit(totals: Totals) -> bool
     true
 }
 
-// Adds to the sides of a stage their factors; answers how much extra weight its glyphs have: the number of unlimited ones.
-fn give_all(
-    stage: u8,
-    priorities: &[u8],
-    extras: &[u8],
-    first: &[u64],
-    second: &[u64],
-    before: &mut [u64],
-    after: &mut [u64],
-) -> u64
-    requires { ⌜ Lent (length (now priorities)) (now priorities) (now extras) (now first) (now second) × Sides (length (now priorities)) (now before) (now after) ⌝ }
-    requires { ⌜ Holds (total (factorsAt stage (now priorities) (now first) (now second))) (now before) (now after) ⌝ }
-    ensures { λ r. ⌜ (r ≡ total (extrasAt stage (now (priorities .entry)) (now (extras .entry)))) × (r ≤ most) ⌝ }
-    ensures { λ r. ⌜ Moved (factorsAt stage (now (priorities .entry)) (now (first .entry)) (now (second .entry))) (now (before .entry)) (now (after .entry)) (now (before .exit)) (now (after .exit)) ⌝ }
+// A side of this stage priority, with extra weight 1 or 0, as one number.
+pub fn side_of(stage: u8, extra: u8) -> u8
+    requires { ⌜ (stage < 16) × (extra ≤ 1) ⌝ }
+    ensures { λ r. ⌜ (stageIn r ≡ stage) × (extraIn r ≡ extra) ⌝ }
+{
+    if extra == 0 {
+        return stage;
+    }
+    stage + PRIORITIES
+}
+
+// The stage priority of a side.
+fn stage_of(side: u8) -> u8
+    ensures { λ r. ⌜ r ≡ stageIn side ⌝ }
+{
+    side % PRIORITIES
+}
+
+// The extra weight of a side.
+fn extra_of(side: u8) -> u64
+    ensures { λ r. ⌜ (r ≡ extraIn side) × (r ≤ 15) ⌝ }
+{
+    (side / PRIORITIES) as u64
+}
+
+// What a side is weighed by: its extra weight, or its factor.
+fn weight_of(extra: bool, side: u8, factor: u64) -> u64
+    ensures { λ r. ⌜ r ≡ cond extra (extraIn side) factor ⌝ }
+{
+    if extra { extra_of(side) } else { factor }
+}
+
+// Adds to the sides of a stage their factors; answers how much extra weight they have: the number of its unlimited glyphs.
+fn give_all(stage: u8, sides: &[u8], factors: &[u64], moves: &mut [u64]) -> u64
+    requires { ⌜ Sides (now sides) (now factors) × Addable (total (factorsAt stage (now sides) (now factors))) (now sides) (now moves) ⌝ }
+    ensures { λ r. ⌜ (r ≡ total (extrasAt stage (now (sides .entry)))) × (r ≤ most) ⌝ }
+    ensures { λ r. ⌜ now (moves .exit) ≡ plus (now (moves .entry)) (factorsAt stage (now (sides .entry)) (now (factors .entry))) ⌝ }
 {
     let mut unlimited: u64 = 0;
     let mut i = 0;
-    while i < priorities.len() {
-        if priorities[i] == stage {
-            before[i] += first[i];
-            after[i] += second[i];
-            unlimited += extras[i] as u64;
+    while i < sides.len() {
+        let side = sides[i];
+        if stage_of(side) == stage {
+            moves[i] += factors[i];
+            unlimited += extra_of(side);
             i += 1;
         } else {
             i += 1;
@@ -181,87 +187,33 @@ fn give_all(
     unlimited
 }
 
-// Adds to the sides of a stage their shares of the amount, by their factors, whose total is `over`.
+// Adds to the sides of a stage their shares of the amount, by their extra weights or by their factors, whose total is `over`.
 fn give(
     amount: u64,
     over: u64,
     stage: u8,
-    priorities: &[u8],
-    first: &[u64],
-    second: &[u64],
-    before: &mut [u64],
-    after: &mut [u64],
+    extra: bool,
+    sides: &[u8],
+    factors: &[u64],
+    moves: &mut [u64],
 )
-    requires { ⌜ Parts (length (now priorities)) (now priorities) (now first) (now second) × Sides (length (now priorities)) (now before) (now after) ⌝ }
-    requires { ⌜ Holds amount (now before) (now after) × (over ≡ total (factorsAt stage (now priorities) (now first) (now second))) × (over ≤ most) ⌝ }
-    ensures { λ r. ⌜ Moved (shares amount (factorsAt stage (now (priorities .entry)) (now (first .entry)) (now (second .entry)))) (now (before .entry)) (now (after .entry)) (now (before .exit)) (now (after .exit)) ⌝ }
+    requires { ⌜ Sides (now sides) (now factors) × Addable amount (now sides) (now moves) ⌝ }
+    requires { ⌜ (over ≡ total (weightsAt extra stage (now sides) (now factors))) × (over ≤ most) × (0 < over) ⌝ }
+    ensures { λ r. ⌜ now (moves .exit) ≡ plus (now (moves .entry)) (shares amount (weightsAt extra stage (now (sides .entry)) (now (factors .entry)))) ⌝ }
 {
-    if over == 0 {
-        return;
-    }
     let mut run = start(amount, over);
     let mut i = 0;
-    while i < priorities.len() {
-        if priorities[i] == stage {
-            let one = next_share(run, first[i]);
-            let middle = one.next;
-            let two = next_share(middle, second[i]);
-            before[i] += one.share;
-            after[i] += two.share;
-            run = two.next;
+    while i < sides.len() {
+        let side = sides[i];
+        if stage_of(side) == stage {
+            let step = next_share(run, weight_of(extra, side, factors[i]));
+            moves[i] += step.share;
+            run = step.next;
             i += 1;
         } else {
             i += 1;
         }
     }
-}
-
-// Adds to the after sides of a stage's unlimited glyphs their shares of the amount; `over` is their number.
-fn give_extra(
-    amount: u64,
-    over: u64,
-    stage: u8,
-    priorities: &[u8],
-    extras: &[u8],
-    after: &mut [u64],
-)
-    requires { ⌜ (length (now extras) ≡ length (now priorities)) × (length (now after) ≡ length (now priorities)) ⌝ }
-    requires { ⌜ (amount ≤ 1073741823) × (total (now after) + amount < 2 ^ 63) × (over ≡ total (extrasAt stage (now priorities) (now extras))) × (over ≤ most) × (0 < over) ⌝ }
-    ensures { λ r. ⌜ now (after .exit) ≡ plus (now (after .entry)) (odds (shares amount (extrasAt stage (now (priorities .entry)) (now (extras .entry))))) ⌝ }
-{
-    let mut run = start(amount, over);
-    let mut i = 0;
-    while i < priorities.len() {
-        if priorities[i] == stage {
-            let one = next_share(run, extras[i] as u64);
-            after[i] += one.share;
-            run = one.next;
-            i += 1;
-        } else {
-            i += 1;
-        }
-    }
-}
-
-// Shares what is left past a stage's factors over its unlimited glyphs, `over` in number; answers what is left then.
-fn share_extra(
-    left: u64,
-    over: u64,
-    stage: u8,
-    priorities: &[u8],
-    extras: &[u8],
-    after: &mut [u64],
-) -> u64
-    requires { ⌜ (length (now extras) ≡ length (now priorities)) × (length (now after) ≡ length (now priorities)) ⌝ }
-    requires { ⌜ (left ≤ 1073741823) × (total (now after) + left < 2 ^ 63) × (over ≡ total (extrasAt stage (now priorities) (now extras))) × (over ≤ most) ⌝ }
-    ensures { λ r. ⌜ r ≡ cond (ltb 0 (total (extrasAt stage (now (priorities .entry)) (now (extras .entry))))) 0 left ⌝ }
-    ensures { λ r. ⌜ now (after .exit) ≡ plus (now (after .entry)) (odds (shares left (extrasAt stage (now (priorities .entry)) (now (extras .entry))))) ⌝ }
-{
-    if over == 0 {
-        return left;
-    }
-    give_extra(left, over, stage, priorities, extras, after);
-    0
 }
 
 // Steps 1 and 2 for one stage, whose total is `over`: adds its movements; answers what is left.
@@ -269,79 +221,51 @@ fn share_stage(
     left: u64,
     over: u64,
     stage: u8,
-    priorities: &[u8],
-    extras: &[u8],
-    first: &[u64],
-    second: &[u64],
-    before: &mut [u64],
-    after: &mut [u64],
+    sides: &[u8],
+    factors: &[u64],
+    moves: &mut [u64],
 ) -> u64
-    requires { ⌜ Lent (length (now priorities)) (now priorities) (now extras) (now first) (now second) × Sides (length (now priorities)) (now before) (now after) ⌝ }
-    requires { ⌜ Holds left (now before) (now after) × (over ≡ total (factorsAt stage (now priorities) (now first) (now second))) × (over ≤ most) ⌝ }
-    ensures { λ r. ⌜ r ≡ stageLeft left (factorsAt stage (now (priorities .entry)) (now (first .entry)) (now (second .entry))) (extrasAt stage (now (priorities .entry)) (now (extras .entry))) ⌝ }
-    ensures { λ r. ⌜ Moved (stageMoves left (factorsAt stage (now (priorities .entry)) (now (first .entry)) (now (second .entry))) (extrasAt stage (now (priorities .entry)) (now (extras .entry)))) (now (before .entry)) (now (after .entry)) (now (before .exit)) (now (after .exit)) ⌝ }
+    requires { ⌜ Sides (now sides) (now factors) × Addable left (now sides) (now moves) ⌝ }
+    requires { ⌜ (over ≡ total (factorsAt stage (now sides) (now factors))) × (over ≤ most) ⌝ }
+    ensures { λ r. ⌜ r ≡ stageLeft left (factorsAt stage (now (sides .entry)) (now (factors .entry))) (extrasAt stage (now (sides .entry))) ⌝ }
+    ensures { λ r. ⌜ now (moves .exit) ≡ plus (now (moves .entry)) (stageMoves left (factorsAt stage (now (sides .entry)) (now (factors .entry))) (extrasAt stage (now (sides .entry)))) ⌝ }
 {
     if left == 0 {
         return 0;
     }
     if left <= over {
-        give(left, over, stage, priorities, first, second, before, after);
+        give(left, over, stage, false, sides, factors, moves);
         return 0;
     }
-    let unlimited = give_all(stage, priorities, extras, first, second, before, after);
-    share_extra(left - over, unlimited, stage, priorities, extras, after)
+    let unlimited = give_all(stage, sides, factors, moves);
+    if unlimited == 0 {
+        return left - over;
+    }
+    give(left - over, unlimited, stage, true, sides, factors, moves);
+    0
 }
 
 // The stages in turn: adds their movements; answers what the last one leaves.
-fn share_stages(
-    gap: u64,
-    totals: Totals,
-    priorities: &[u8],
-    extras: &[u8],
-    first: &[u64],
-    second: &[u64],
-    before: &mut [u64],
-    after: &mut [u64],
-) -> u64
-    requires { ⌜ Lent (length (now priorities)) (now priorities) (now extras) (now first) (now second) × Sides (length (now priorities)) (now before) (now after) ⌝ }
-    requires { ⌜ Holds gap (now before) (now after) × Fit totals (now priorities) (now first) (now second) ⌝ }
-    ensures { λ r. ⌜ r ≡ lineOf stagesLeft (now (priorities .entry)) (now (extras .entry)) (now (first .entry)) (now (second .entry)) stages gap ⌝ }
-    ensures { λ r. ⌜ Moved (lineOf stagesMoves (now (priorities .entry)) (now (extras .entry)) (now (first .entry)) (now (second .entry)) stages gap) (now (before .entry)) (now (after .entry)) (now (before .exit)) (now (after .exit)) ⌝ }
+fn share_stages(gap: u64, totals: Totals, sides: &[u8], factors: &[u64], moves: &mut [u64]) -> u64
+    requires { ⌜ Sides (now sides) (now factors) × Addable gap (now sides) (now moves) × Fit totals (now sides) (now factors) ⌝ }
+    ensures { λ r. ⌜ r ≡ stagesLeft (stagesIn (now (sides .entry))) (now (factors .entry)) (extrasIn (now (sides .entry))) stages gap ⌝ }
+    ensures { λ r. ⌜ now (moves .exit) ≡ plus (now (moves .entry)) (stagesMoves (stagesIn (now (sides .entry))) (now (factors .entry)) (extrasIn (now (sides .entry))) stages gap) ⌝ }
 {
     let mut left = gap;
     let mut stage: u8 = 0;
     while stage < STAGES {
         let over = total_of(totals, stage);
-        left = share_stage(
-            left,
-            over,
-            stage,
-            priorities,
-            extras,
-            first,
-            second,
-            before,
-            after,
-        );
+        left = share_stage(left, over, stage, sides, factors, moves);
         stage += 1;
     }
     left
 }
 
-// Step 3: adds what is left to the first stage with a total above 0; answers the remainder.
-fn go_back(
-    left: u64,
-    totals: Totals,
-    priorities: &[u8],
-    first: &[u64],
-    second: &[u64],
-    before: &mut [u64],
-    after: &mut [u64],
-) -> u64
-    requires { ⌜ Parts (length (now priorities)) (now priorities) (now first) (now second) × Sides (length (now priorities)) (now before) (now after) ⌝ }
-    requires { ⌜ Holds left (now before) (now after) × Fit totals (now priorities) (now first) (now second) ⌝ }
-    ensures { λ r. ⌜ r ≡ backLeft (weave (now (priorities .entry)) (now (priorities .entry))) (weave (now (first .entry)) (now (second .entry))) stages left ⌝ }
-    ensures { λ r. ⌜ Moved (backMoves (weave (now (priorities .entry)) (now (priorities .entry))) (weave (now (first .entry)) (now (second .entry))) stages left) (now (before .entry)) (now (after .entry)) (now (before .exit)) (now (after .exit)) ⌝ }
+// ShareStep 3: adds what is left to the first stage with a total above 0; answers the remainder.
+fn go_back(left: u64, totals: Totals, sides: &[u8], factors: &[u64], moves: &mut [u64]) -> u64
+    requires { ⌜ Sides (now sides) (now factors) × Addable left (now sides) (now moves) × Fit totals (now sides) (now factors) ⌝ }
+    ensures { λ r. ⌜ r ≡ backLeft (stagesIn (now (sides .entry))) (now (factors .entry)) stages left ⌝ }
+    ensures { λ r. ⌜ now (moves .exit) ≡ plus (now (moves .entry)) (backMoves (stagesIn (now (sides .entry))) (now (factors .entry)) stages left) ⌝ }
 {
     if left == 0 {
         return 0;
@@ -350,7 +274,7 @@ fn go_back(
     while stage < STAGES {
         let over = total_of(totals, stage);
         if 0 < over {
-            give(left, over, stage, priorities, first, second, before, after);
+            give(left, over, stage, false, sides, factors, moves);
             return 0;
         }
         stage += 1;
@@ -358,38 +282,24 @@ fn go_back(
     left
 }
 
-// A line's gap, given as its size, shared over the sides of its glyphs: the size of each movement into `before` and `after`,
-// which are all 0; answers the size of the remainder. Edition 1 of the rule goes back, by step 3; edition 2 does not. The totals
-// are the line's, see `line_totals`, and none is above the most that it may be: see `totals_fit`.
+// A line's gap, given as its size, shared over the sides of its glyphs: the size of each movement into `moves`, which are all 0;
+// answers the size of the remainder. Edition 1 of the rule goes back, by step 3; edition 2 does not. The totals are those of these
+// sides, and none of a stage is above the most that it may be: see `totals_fit`.
 pub fn share_line(
     back: bool,
     gap: u64,
     totals: Totals,
-    priorities: &[u8],
-    extras: &[u8],
-    first: &[u64],
-    second: &[u64],
-    before: &mut [u64],
-    after: &mut [u64],
+    sides: &[u8],
+    factors: &[u64],
+    moves: &mut [u64],
 ) -> u64
-    requires { ⌜ Lent (length (now priorities)) (now priorities) (now extras) (now first) (now second) ⌝ }
-    requires { ⌜ (now before ≡ replicate (length (now priorities)) 0) × (now after ≡ replicate (length (now priorities)) 0) ⌝ }
-    requires { ⌜ (gap ≤ 1073741823) × TotalsOf totals (now priorities) (now first) (now second) × (lineFits (glyphsOf (now priorities) (now extras) (now first) (now second)) ≡ true) ⌝ }
-    ensures { λ r. ⌜ r ≡ lineLeft back (glyphsOf (now (priorities .entry)) (now (extras .entry)) (now (first .entry)) (now (second .entry))) gap ⌝ }
-    ensures { λ r. ⌜ (now (before .exit) ≡ beforeMoves back (glyphsOf (now (priorities .entry)) (now (extras .entry)) (now (first .entry)) (now (second .entry))) gap) × (now (after .exit) ≡ afterMoves back (glyphsOf (now (priorities .entry)) (now (extras .entry)) (now (first .entry)) (now (second .entry))) gap) ⌝ }
+    requires { ⌜ Sides (now sides) (now factors) × (now moves ≡ replicate (length (now sides)) 0) ⌝ }
+    requires { ⌜ (gap ≤ 1073741823) × TotalsOf totals (now sides) (now factors) × (fitsIn (now sides) (now factors) ≡ true) ⌝ }
+    ensures { λ r. ⌜ (r ≡ leftIn back (now (sides .entry)) (now (factors .entry)) gap) × (now (moves .exit) ≡ movesIn back (now (sides .entry)) (now (factors .entry)) gap) ⌝ }
 {
-    let left = share_stages(
-        gap,
-        totals,
-        priorities,
-        extras,
-        first,
-        second,
-        before,
-        after,
-    );
+    let left = share_stages(gap, totals, sides, factors, moves);
     if back {
-        return go_back(left, totals, priorities, first, second, before, after);
+        return go_back(left, totals, sides, factors, moves);
     }
     left
 }
@@ -403,14 +313,15 @@ pub fn signed(shrink: bool, size: u64) -> i32
     if shrink { -plain } else { plain }
 }
 
-// Sizes with the gap's sign.
-pub fn copy_signed(shrink: bool, from: &[u64], to: &mut [i32])
-    requires { ⌜ (length (now from) ≡ length (now to)) × (total (now from) < 2147483648) ⌝ }
-    ensures { λ r. ⌜ now (to .exit) ≡ map (signedOf shrink) (now (from .entry)) ⌝ }
+// The sizes of movements with the gap's sign, those of the before sides and those of the after sides apart.
+pub fn copy_signed(shrink: bool, moves: &[u64], before: &mut [i32], after: &mut [i32])
+    requires { ⌜ (length (now moves) ≡ 2 * length (now before)) × (length (now after) ≡ length (now before)) × (total (now moves) < 2147483648) ⌝ }
+    ensures { λ r. ⌜ (now (before .exit) ≡ map (signedOf shrink) (evens (now (moves .entry)))) × (now (after .exit) ≡ map (signedOf shrink) (odds (now (moves .entry)))) ⌝ }
 {
     let mut i = 0;
-    while i < from.len() {
-        to[i] = signed(shrink, from[i]);
+    while i < before.len() {
+        before[i] = signed(shrink, moves[i + i]);
+        after[i] = signed(shrink, moves[i + i + 1]);
         i += 1;
     }
 }

@@ -13,15 +13,10 @@ first-action-requires c κs = c .at-hand .ensures .2
 
 returns : tie.Need-returns
 returns c =
-    let a = c .before .before .before .before .args in
+    let a = c .before .before .before .args in
     let h = c .before .at-hand in
     let t = c .first-action in
-    (h .ensures .0 ∙ left-taken (a .fired .now) (a .substituted .now) (h .result) (t .result) (t .ensures), serves-taken (a .fired .now) (a .substituted .now) (h .result) (t .result) (h .ensures .1) (h .ensures .2) (t .ensures))
+    (h .ensures .0 ∙ left-taken (a .bits .now) (h .result) (t .result) (t .ensures), serves-taken (a .bits .now) (h .result) (t .result) (h .ensures .1) (h .ensures .2) (t .ensures))
 
 pub next-verdict-spec : {M : Type 1} → statement M
-next-verdict-spec =
-    tie.close
-    (tie.spec
-    at-hand-requires
-    first-action-requires
-    returns)
+next-verdict-spec = tie.close (tie.spec at-hand-requires first-action-requires returns)

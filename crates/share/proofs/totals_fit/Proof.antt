@@ -4,12 +4,11 @@ use mathlib.Core.Path.{_≡_, refl}
 use native.Mathlib.Omega.{arith}
 use lib.ListN.{drop}
 use Rattle.share.specs.Share.{stages}
-use Rattle.share.specs.Inner.{stageCount, totalsWithin}
+use Rattle.share.specs.Sides.{stageCount, totalsWithin}
 use Rattle.share.proofs.Sums.{totals-on, totals-over, totals-end}
 use Rattle.share.proofs.totals_fit.Statement.{statement}
 use Rattle.share.proofs.totals_fit.Tie as tie
 
--- what the whole test answers is what it answers from this stage on
 abbrev Inv-loop : tie.InvT-loop
 Inv-loop totals stage₀ stage = (stage ≤ stageCount) × (totalsWithin totals stages ≡ totalsWithin totals (drop stage stages))
 
