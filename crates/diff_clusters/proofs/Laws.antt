@@ -22,7 +22,7 @@ use Rattle.diff_rule.specs.Order.{Stores}
 use Rattle.diff_rule.proofs.Stored.{stores-none, stores-two, stores-other}
 use Rattle.diff_rule.proofs.Merge.{merge-first, merge-second, merge-both, merge-end}
 use Rattle.diff_clusters.specs.declared.Pairs.{Pairs}
-use Rattle.diff_clusters.specs.declared.Step.{Step}
+use Rattle.diff_clusters.specs.declared.MergeStep.{MergeStep}
 use Rattle.diff_clusters.specs.Merge.{pairsIn, leftOf, NextClass, Steps}
 
 class-fits : (t : List ℕ) (at : ℕ) → classAt t at < 128
@@ -168,7 +168,7 @@ module _ (t u : List ℕ) (first second : ℕ) (p q : Pairs) where
         whole = λ d g. ap₂ (λ (l m : List Pair). through (recordDiffers d g l m) 128 0) e f;
       }
 
-  rest-next : (done : Direction → ℕ → List Difference) (r : Step) → Steps t u p q r → Rest t u first second p q done
+  rest-next : (done : Direction → ℕ → List Difference) (r : MergeStep) → Steps t u p q r → Rest t u first second p q done
       → Rest t u first second (r .ones) (r .others) (λ d g. done d g ++ noted d Width g (r .class) (markSeen (r .comparison)))
   rest-next done r s w = record {
     next = suc (r .class);
@@ -204,7 +204,7 @@ module _ (t u : List ℕ) (first second : ℕ) (p q : Pairs) (direction : Direct
       → Put t u first second p q direction glyph l₀ l₀ to to
   put-all ep eq r s = record { done = λ d g. []; rest = rest-all t u first second p q ep eq r s; stores = stores-none l₀ to }
 
-  pub put-more : (l : List ℕ) (end : ℕ) (r : Step) (l₁ : List ℕ) (end₁ : ℕ) → Put t u first second p q direction glyph l₀ l to end → Steps t u p q r
+  pub put-more : (l : List ℕ) (end : ℕ) (r : MergeStep) (l₁ : List ℕ) (end₁ : ℕ) → Put t u first second p q direction glyph l₀ l to end → Steps t u p q r
       → Stores l l₁ end end₁ (noted direction Width glyph (r .class) (markSeen (r .comparison)))
       → Put t u first second (r .ones) (r .others) direction glyph l₀ l₁ to end₁
   put-more l end r l₁ end₁ w s e = record {

@@ -11,7 +11,7 @@ use Rattle.cluster.specs.Pairs.{pairsAt}
 use Rattle.diff_rule.specs.declared.Aspect.the-variants.{Width}
 use Rattle.diff_rule.specs.Differences.{noted, markSeen, through, recordDiffers}
 use Rattle.diff_clusters.specs.declared.Pairs.{Pairs}
-use Rattle.diff_clusters.specs.declared.Step.{Step}
+use Rattle.diff_clusters.specs.declared.MergeStep.{MergeStep}
 
 -- all pairs of the cluster at a place
 abbrev pub pairsIn : List ℕ → ℕ → Pairs
@@ -28,7 +28,7 @@ pub record NextClass (t : List ℕ) (p : Pairs) (c : ℕ) : Type 0 where
   pub most : c ≤ 128
 
 -- a step gives the next class of the two and how it differs, and leaves the classes after it
-pub record Steps (t u : List ℕ) (p q : Pairs) (r : Step) : Type 0 where
+pub record Steps (t u : List ℕ) (p q : Pairs) (r : MergeStep) : Type 0 where
   pub class : r .class < 128
   pub fewer : r .ones .count + r .others .count < p .count + q .count
   pub near : r .ones .at + 24 * r .ones .count ≤ p .at + 24 * p .count

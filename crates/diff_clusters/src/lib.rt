@@ -27,7 +27,7 @@ struct Pairs {
 }
 
 // The next class of two clusters, how its records differ, and what is left of each after it.
-struct Step {
+struct MergeStep {
     class: u16,
     comparison: Comparison,
     ones: Pairs,
@@ -77,14 +77,14 @@ fn class_of(table: &[u8], pairs: Pairs) -> u32
 }
 
 // The next class of what is left of two clusters.
-fn next_class<'a>(one: &'a [u8], other: &'a [u8], ones: Pairs, others: Pairs) -> Step
+fn next_class<'a>(one: &'a [u8], other: &'a [u8], ones: Pairs, others: Pairs) -> MergeStep
     requires { ⌜ (ones .at < 2 ^ 60) × (others .at < 2 ^ 60) × (0 < ones .count + others .count) ⌝ }
     ensures { λ r. ⌜ Steps (now (one .entry)) (now (other .entry)) ones others r ⌝ }
 {
     let class = class_of(one, ones);
     let beside = class_of(other, others);
     if class < beside {
-        return Step {
+        return MergeStep {
             class: class as u16,
             comparison: Comparison::Differs(Mark::OnlyFirst),
             ones: after(ones),
@@ -92,14 +92,14 @@ fn next_class<'a>(one: &'a [u8], other: &'a [u8], ones: Pairs, others: Pairs) ->
         };
     }
     if beside < class {
-        return Step {
+        return MergeStep {
             class: beside as u16,
             comparison: Comparison::Differs(Mark::OnlySecond),
             ones,
             others: after(others),
         };
     }
-    Step {
+    MergeStep {
         class: class as u16,
         comparison: compare(one, other, ones.at, others.at),
         ones: after(ones),

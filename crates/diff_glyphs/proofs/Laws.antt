@@ -33,7 +33,7 @@ use Rattle.diff_rule.proofs.Stored.{numbers-length}
 use Rattle.diff_rule.proofs.Through.{through-same, from-start}
 use Rattle.diff_rule.proofs.Again.{again-stored, through-again, records-for, records-few, list-for, list-few}
 use Rattle.diff_glyphs.specs.declared.Compared.{Compared}
-use Rattle.diff_glyphs.specs.Glyphs.{itemDiffers, placesDiffer, glyphDiffers, glyphsDiffer, Rises, AllRise, Holds, placesIn, Kept, Keeps, Blank}
+use Rattle.diff_glyphs.specs.Glyphs.{itemDiffers, placesDiffer, glyphDiffers, glyphsDiffer, Rises, AllRise, LastCompared, placesIn, SamePairs, KeepsPair, AllNowhere}
 
 -- ---- how two lists differ
 
@@ -122,7 +122,7 @@ module _ (kind : Kind) (d : Direction) (t u : List ℕ) where
   places-few p g = item-few kind d g (itemAt kind t (p .first)) (itemAt kind u (p .second))
 
   pub holds-made : (p : Places) (size : ℕ) (block made : List ℕ) → 5 * 128 ≤ length block → Stores block made 0 size (placesDiffer kind d t u p 0)
-      → Holds kind d t u made (record { places = p; each = size / 5 })
+      → LastCompared kind d t u made (record { places = p; each = size / 5 })
   holds-made p size block made room w =
       let xs : List Difference = placesDiffer kind d t u p 0 in
       let few : length xs ≤ 128 = places-few p 0 in
@@ -141,17 +141,17 @@ module _ (kind : Kind) (d : Direction) (t u : List ℕ) where
 
   -- before anything is compared
   pub holds-none : (c : Compared) (block : List ℕ) → 5 * 128 ≤ length block → length t ≤ 2 ^ 15 → length u ≤ 2 ^ 15 → c ≡ record { places = nowhere; each = 0 }
-      → Holds kind d t u block c
+      → LastCompared kind d t u block c
   unfolding again allNumbers
   holds-none c block room h k e =
-      subst (Holds kind d t u block) (sym e) (record { room = room; few = omega arith; again = λ g. ap allNumbers (past-none h k g) })
+      subst (LastCompared kind d t u block) (sym e) (record { room = room; few = omega arith; again = λ g. ap allNumbers (past-none h k g) })
 
 -- ---- pairs of places that are kept
 
 pub as-pair : (pair : ℕ) (p : Places) → pair / 65536 ≡ p .first → pair % 65536 ≡ p .second → placesIn pair ≡ p
 as-pair pair p a b = λ i. record { first = a i; second = b i }
 
-pub keeps-set : (l : List ℕ) (slot pair : ℕ) (p : Places) (size : ℕ) → slot < length l → placesIn pair ≡ p → size ≡ 0 → Keeps l (set l slot pair) p size
+pub keeps-set : (l : List ℕ) (slot pair : ℕ) (p : Places) (size : ℕ) → slot < length l → placesIn pair ≡ p → size ≡ 0 → KeepsPair l (set l slot pair) p size
 keeps-set l slot pair p size h a z = record { room = length-set l slot pair; each = λ i. at i (ℕ-discrete i slot) }
   where
     at : (i : ℕ) → Dec (i ≡ slot) → (getD (set l slot pair) i 0 ≡ getD l i 0) ⊎ ((size ≡ 0) × (placesIn (getD (set l slot pair) i 0) ≡ p))
@@ -161,7 +161,7 @@ keeps-set l slot pair p size h a z = record { room = length-set l slot pair; eac
     at i (no q) = inl (getD-set-other l slot i pair 0 q)
 
 module _ (kind : Kind) (d : Direction) (t u : List ℕ) where
-  pub kept-blank : (same : List ℕ) → Blank same → length t ≤ 2 ^ 15 → length u ≤ 2 ^ 15 → Kept kind d t u same
+  pub kept-blank : (same : List ℕ) → AllNowhere same → length t ≤ 2 ^ 15 → length u ≤ 2 ^ 15 → SamePairs kind d t u same
   kept-blank same e h k = record {
     room = omega (arith, ap length e, length-replicate {A = ℕ} 64 4294967295);
     alike = λ i l g.
@@ -171,8 +171,8 @@ module _ (kind : Kind) (d : Direction) (t u : List ℕ) where
         ap (λ (p : Places). placesDiffer kind d t u p g) (as-pair (getD same i 0) nowhere a b) ∙ sym (past-none kind d t u h k g);
   }
 
-  pub holds-kept : (block same : List ℕ) (p : Places) → 5 * 128 ≤ length block → Kept kind d t u same → placesIn (getD same (p .first % 64) 0) ≡ p
-      → Holds kind d t u block (record { places = p; each = 0 })
+  pub holds-kept : (block same : List ℕ) (p : Places) → 5 * 128 ≤ length block → SamePairs kind d t u same → placesIn (getD same (p .first % 64) 0) ≡ p
+      → LastCompared kind d t u block (record { places = p; each = 0 })
   unfolding again allNumbers
   holds-kept block same p room w e = record {
     room = room;
@@ -186,8 +186,8 @@ module _ (kind : Kind) (d : Direction) (t u : List ℕ) where
   no-numbers [] e = refl
   no-numbers (x ∷ xs) e = absurd (omega (arith, numbers-length (x ∷ xs)))
 
-  pub kept-more : (same made : List ℕ) (p : Places) (size : ℕ) → Kept kind d t u same → Keeps same made p size
-      → size ≡ 0 + length (allNumbers (placesDiffer kind d t u p 0)) → Kept kind d t u made
+  pub kept-more : (same made : List ℕ) (p : Places) (size : ℕ) → SamePairs kind d t u same → KeepsPair same made p size
+      → size ≡ 0 + length (allNumbers (placesDiffer kind d t u p 0)) → SamePairs kind d t u made
   kept-more same made p size w k e = record { room = omega (arith, k .room, w .room); alike = λ i l g. at i l g (k .each i) }
     where
       same-none : size ≡ 0 → (g : ℕ) → placesDiffer kind d t u p g ≡ []
@@ -208,7 +208,7 @@ module _ (d : Direction) (t u : List ℕ) (s : Sources) where
     pub second-rises : AllRise (s .kind) u (s .glyphs) (s .second) → Rises (s .kind) (itemAt (s .kind) u (r .places .second))
     second-rises h = subst (Rises (s .kind)) (w .second glyph (omega arith) (w .more)) (h .each glyph (omega (arith, w .more, w .most)))
 
-    module _ (block : List ℕ) (c : Compared) (e : c .places ≡ r .places) (h : Holds (s .kind) d t u block c) where
+    module _ (block : List ℕ) (c : Compared) (e : c .places ≡ r .places) (h : LastCompared (s .kind) d t u block c) where
       -- its glyphs have what stands at its places
       its-places : (x : ℕ) → glyph ≤ x → x < r .end → placesDiffer (s .kind) d t u (c .places) x ≡ glyphDiffers d t u s x
       unfolding placesDiffer glyphDiffers

@@ -51,7 +51,7 @@ pub record Comparable (t u : List ℕ) (s : Sources) : Type 0 where
   pub second : AllRise (s .kind) u (s .glyphs) (s .second)
 
 -- what was compared last: a glyph with these two places has so many differences, and a block begins with their numbers
-pub record Holds (kind : Kind) (d : Direction) (t u block : List ℕ) (c : Compared) : Type 0 where
+pub record LastCompared (kind : Kind) (d : Direction) (t u block : List ℕ) (c : Compared) : Type 0 where
   pub room : 5 * 128 ≤ length block
   pub few : c .each ≤ 128
   pub again : (g : ℕ) → again (c .each) block g 0 ≡ allNumbers (placesDiffer kind d t u (c .places) g)
@@ -61,15 +61,15 @@ abbrev pub placesIn : ℕ → Places
 placesIn pair = record { first = pair / 65536; second = pair % 65536 }
 
 -- each pair of places that is kept, as one number, holds the same: a glyph that has them has no difference
-pub record Kept (kind : Kind) (d : Direction) (t u same : List ℕ) : Type 0 where
+pub record SamePairs (kind : Kind) (d : Direction) (t u same : List ℕ) : Type 0 where
   pub room : 64 ≤ length same
   pub alike : (i : ℕ) → i < 64 → (g : ℕ) → placesDiffer kind d t u (placesIn (getD same i 0)) g ≡ []
 
 -- two places are kept, in a slot, if comparing them left no numbers; every other slot is as it was
-pub record Keeps (before after : List ℕ) (places : Places) (size : ℕ) : Type 0 where
+pub record KeepsPair (before after : List ℕ) (places : Places) (size : ℕ) : Type 0 where
   pub room : length after ≡ length before
   pub each : (i : ℕ) → (getD after i 0 ≡ getD before i 0) ⊎ ((size ≡ 0) × (placesIn (getD after i 0) ≡ places))
 
 -- at first two places where nothing stands are kept in each slot
-abbrev pub Blank : List ℕ → Type 0
-Blank same = same ≡ replicate {A = ℕ} 64 4294967295
+abbrev pub AllNowhere : List ℕ → Type 0
+AllNowhere same = same ≡ replicate {A = ℕ} 64 4294967295

@@ -14,7 +14,7 @@ ghost use Rattle.write_item.specs.Items.{itemAt};
 ghost use Rattle.diff_rule.specs.Differences.{markOf, markSeen, someList, listDiffers};
 ghost use Rattle.diff_rule.specs.Order.{Stores};
 ghost use Rattle.diff_rule.specs.Again.{againThrough};
-ghost use Rattle.diff_glyphs.specs.Glyphs.{placesIn, placesDiffer, glyphsDiffer, Rises, Comparable, Holds, Kept, Keeps, Blank};
+ghost use Rattle.diff_glyphs.specs.Glyphs.{placesIn, placesDiffer, glyphsDiffer, Rises, Comparable, LastCompared, SamePairs, KeepsPair, AllNowhere};
 use diff_rule::Aspect;
 use diff_rule::Comparison;
 use diff_rule::Mark;
@@ -132,10 +132,10 @@ fn is_kept(same: &[u32], places: Places) -> bool
     false
 }
 
-// Keeps two places, where comparing them left no numbers.
+// KeepsPair two places, where comparing them left no numbers.
 fn keep(same: &mut [u32], places: Places, size: usize)
     requires { ⌜ 64 ≤ length (now same) ⌝ }
-    ensures { λ r. ⌜ Keeps (now (same .entry)) (now (same .exit)) places size ⌝ }
+    ensures { λ r. ⌜ KeepsPair (now (same .entry)) (now (same .exit)) places size ⌝ }
 {
     if size != 0 {
         return;
@@ -157,9 +157,9 @@ fn compare_places<'a>(
     same: &mut [u32],
 ) -> Compared
     requires { ⌜ (length (now one) ≤ 2 ^ 15) × (length (now other) ≤ 2 ^ 15) × Rises kind (itemAt kind (now one) (places .first)) × Rises kind (itemAt kind (now other) (places .second))
-        × Holds kind direction (now one) (now other) (now block) last × Kept kind direction (now one) (now other) (now same) ⌝ }
-    ensures { λ r. ⌜ (r .places ≡ places) × Holds kind direction (now (one .entry)) (now (other .entry)) (now (block .exit)) r
-        × Kept kind direction (now (one .entry)) (now (other .entry)) (now (same .exit)) ⌝ }
+        × LastCompared kind direction (now one) (now other) (now block) last × SamePairs kind direction (now one) (now other) (now same) ⌝ }
+    ensures { λ r. ⌜ (r .places ≡ places) × LastCompared kind direction (now (one .entry)) (now (other .entry)) (now (block .exit)) r
+        × SamePairs kind direction (now (one .entry)) (now (other .entry)) (now (same .exit)) ⌝ }
 {
     if same_places(last.places, places) {
         return last;
@@ -243,7 +243,7 @@ fn put_by<'a>(
     list: &mut [u16],
     to: usize,
 ) -> usize
-    requires { ⌜ Comparable (now one) (now other) sources × (5 * 128 ≤ length (now block)) × Blank (now same) × (to < 2 ^ 56) ⌝ }
+    requires { ⌜ Comparable (now one) (now other) sources × (5 * 128 ≤ length (now block)) × AllNowhere (now same) × (to < 2 ^ 56) ⌝ }
     ensures { λ r. ⌜ Stores (now (list .entry)) (now (list .exit)) to r (glyphsDiffer direction (now (one .entry)) (now (other .entry)) sources) × (r ≤ to + 2 ^ 26) ⌝ }
 {
     let mut runs = diff_stretches::begin(one, other, sources);

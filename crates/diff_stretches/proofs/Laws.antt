@@ -16,12 +16,12 @@ use Rattle.write_glyphs.specs.Places.{runPlace, Sound}
 use Rattle.write_glyphs.proofs.Laws.{place-before, place-one, run-item}
 use Rattle.diff_stretches.specs.declared.Sources.{Sources}
 use Rattle.diff_stretches.specs.declared.Stretch.{Stretch}
-use Rattle.diff_stretches.specs.Stretches.{itemBy, baseOf, ServesBy, Tells, BothTell, Even, Splits}
+use Rattle.diff_stretches.specs.Stretches.{itemBy, baseOf, ServesBy, RunTells, BothTell, Even, Splits}
 
 -- ---- runs
 
 pub tells-none : (kind : Kind) (t : List ℕ) (n : ℕ) (source : Source) (r : Run) → r .until ≡ 0 → r .place ≡ 0 → ServesBy t source 0 (r .cursor)
-    → Tells kind t n source 0 r
+    → RunTells kind t n source 0 r
 tells-none kind t n source r e p s = record {
   near = omega arith;
   ends = omega arith;
@@ -30,7 +30,7 @@ tells-none kind t n source r e p s = record {
 }
 
 module _ (kind : Kind) (t : List ℕ) (n glyph : ℕ) (short : length t ≤ 2 ^ 15) (few : n < 2 ^ 16) where
-  pub follows-tells : (at base : ℕ) (r : Run) → Follows t at glyph r → Tells kind t n (Lookup at base) glyph r × (glyph < r .until)
+  pub follows-tells : (at base : ℕ) (r : Run) → Follows t at glyph r → RunTells kind t n (Lookup at base) glyph r × (glyph < r .until)
   follows-tells at base r w = (
     record {
       near = w .near;
@@ -41,7 +41,7 @@ module _ (kind : Kind) (t : List ℕ) (n glyph : ℕ) (short : length t ≤ 2 ^ 
     omega (arith, w .begins, w .more),
   )
 
-  pub absent-tells : glyph < n → (r : Run) → r .from ≡ 65536 → r .until ≡ 65537 → r .place ≡ 0 → Tells kind t n Absent glyph r × (glyph < r .until)
+  pub absent-tells : glyph < n → (r : Run) → r .from ≡ 65536 → r .until ≡ 65537 → r .place ≡ 0 → RunTells kind t n Absent glyph r × (glyph < r .until)
   absent-tells g r f u p = (
     record {
       near = omega arith;
@@ -82,8 +82,8 @@ module _ (r : Run) (glyph e : ℕ) (among : glyph < r .until) where
 
 -- ---- stretches
 
-module _ (kind : Kind) (t : List ℕ) (n : ℕ) (source : Source) (glyph : ℕ) (r : Run) (w : Tells kind t n source glyph r) where
-  pub tells-later : (e : ℕ) → glyph ≤ e → e ≤ r .until → Tells kind t n source e r
+module _ (kind : Kind) (t : List ℕ) (n : ℕ) (source : Source) (glyph : ℕ) (r : Run) (w : RunTells kind t n source glyph r) where
+  pub tells-later : (e : ℕ) → glyph ≤ e → e ≤ r .until → RunTells kind t n source e r
   tells-later e h u = record { near = w .near; ends = u; items = λ x l k m. w .items x (omega arith) k m; serves = w .serves }
 
   pub place-items : (e until p : ℕ) → Even r glyph until → e ≤ until → e ≤ n → p ≡ runPlace kind t (baseOf source) (r .from) (r .place) (r .array) glyph

@@ -12,7 +12,7 @@ use Rattle.lookup_targets.specs.declared.Source.{Source}
 use Rattle.lookup_targets.specs.declared.Source.the-variants.{Lookup, Absent}
 use Rattle.write_glyphs.specs.Places.{glyphItem, Sound, runPlace}
 use Rattle.diff_stretches.specs.declared.Sources.{Sources}
-use Rattle.diff_stretches.specs.declared.Runs.{Runs}
+use Rattle.diff_stretches.specs.declared.RunPair.{RunPair}
 use Rattle.diff_stretches.specs.declared.Stretch.{Stretch}
 
 -- what a glyph of n has
@@ -30,7 +30,7 @@ ServesBy t (Lookup at base) glyph c = Serves t at glyph c
 ServesBy t Absent glyph c = Unit {0}
 
 -- a run tells what the glyphs from `glyph` on and before its end have, and its cursor serves those after it
-pub record Tells (kind : Kind) (t : List ℕ) (n : ℕ) (source : Source) (glyph : ℕ) (r : Run) : Type 0 where
+pub record RunTells (kind : Kind) (t : List ℕ) (n : ℕ) (source : Source) (glyph : ℕ) (r : Run) : Type 0 where
   pub near : r .place < 2 ^ 41
   pub ends : glyph ≤ r .until
   pub items : (x : ℕ) → glyph ≤ x → x < r .until → x < n
@@ -38,9 +38,9 @@ pub record Tells (kind : Kind) (t : List ℕ) (n : ℕ) (source : Source) (glyph
   pub serves : ServesBy t source (r .until) (r .cursor)
 
 -- a run of each table does
-pub record BothTell (t u : List ℕ) (s : Sources) (glyph : ℕ) (r : Runs) : Type 0 where
-  pub first : Tells (s .kind) t (s .glyphs) (s .first) glyph (r .first)
-  pub second : Tells (s .kind) u (s .glyphs) (s .second) glyph (r .second)
+pub record BothTell (t u : List ℕ) (s : Sources) (glyph : ℕ) (r : RunPair) : Type 0 where
+  pub first : RunTells (s .kind) t (s .glyphs) (s .first) glyph (r .first)
+  pub second : RunTells (s .kind) u (s .glyphs) (s .second) glyph (r .second)
 
 -- both tables have at most 32,768 bytes, and sources that a pass can go over
 pub record BothSound (t u : List ℕ) (s : Sources) : Type 0 where

@@ -4,7 +4,7 @@ ghost use mathlib.Core.Path.{_≡_};
 ghost use Prim.Native.Nat.{_≤_, _<_, _^_};
 ghost use lib.ListN.{length};
 ghost use Rattle.write_glyphs.specs.Places.{Sound, runPlace};
-ghost use Rattle.diff_stretches.specs.Stretches.{baseOf, ServesBy, Tells, BothTell, BothSound, Even, Splits};
+ghost use Rattle.diff_stretches.specs.Stretches.{baseOf, ServesBy, RunTells, BothTell, BothSound, Even, Splits};
 use lookup::Cursor;
 use lookup_runs::Run;
 use lookup_targets::Kind;
@@ -19,7 +19,7 @@ pub struct Sources {
 }
 
 // A run of each table.
-pub struct Runs {
+pub struct RunPair {
     pub first: Run,
     pub second: Run,
 }
@@ -34,7 +34,7 @@ pub struct Places {
 pub struct Stretch {
     pub end: usize,
     pub places: Places,
-    pub runs: Runs,
+    pub runs: RunPair,
 }
 
 // A run of no glyphs, before all others.
@@ -53,7 +53,7 @@ fn no_glyphs(cursor: Cursor) -> Run
 // The run of a table that a pass begins with.
 fn first_run(table: &[u8], glyphs: usize, source: Source) -> Run
     requires { ⌜ Sound (now table) glyphs source ⌝ }
-    ensures { λ r. ⌜ ((kind : Kind) → Tells kind (now (table .entry)) glyphs source 0 r) ⌝ }
+    ensures { λ r. ⌜ ((kind : Kind) → RunTells kind (now (table .entry)) glyphs source 0 r) ⌝ }
 {
     match source {
         Source::Lookup { at, base: _ } => no_glyphs(lookup::begin(table, at)),
@@ -62,13 +62,13 @@ fn first_run(table: &[u8], glyphs: usize, source: Source) -> Run
 }
 
 // Where a pass begins.
-pub fn begin<'a>(one: &'a [u8], other: &'a [u8], sources: Sources) -> Runs
+pub fn begin<'a>(one: &'a [u8], other: &'a [u8], sources: Sources) -> RunPair
     requires { ⌜ BothSound (now one) (now other) sources ⌝ }
     ensures { λ r. ⌜ BothTell (now (one .entry)) (now (other .entry)) sources 0 r ⌝ }
 {
     let source = sources.first;
     let beside = sources.second;
-    Runs {
+    RunPair {
         first: first_run(one, sources.glyphs, source),
         second: first_run(other, sources.glyphs, beside),
     }
@@ -84,7 +84,7 @@ fn next_of(
     glyph: usize,
 ) -> Run
     requires { ⌜ (length (now table) ≤ 2 ^ 15) × (glyphs < 2 ^ 16) × (glyph < glyphs) × Sound (now table) glyphs source × ServesBy (now table) source glyph cursor ⌝ }
-    ensures { λ r. ⌜ Tells kind (now (table .entry)) glyphs source glyph r × (glyph < r .until) ⌝ }
+    ensures { λ r. ⌜ RunTells kind (now (table .entry)) glyphs source glyph r × (glyph < r .until) ⌝ }
 {
     match source {
         Source::Lookup { at, base: _ } => lookup_runs::next_run(
@@ -106,8 +106,8 @@ fn next_of(
 
 // The run itself where it tells what `glyph` has, else the next one.
 fn onward(table: &[u8], glyphs: usize, kind: Kind, source: Source, run: Run, glyph: usize) -> Run
-    requires { ⌜ (length (now table) ≤ 2 ^ 15) × (glyphs < 2 ^ 16) × (glyph < glyphs) × Sound (now table) glyphs source × Tells kind (now table) glyphs source glyph run ⌝ }
-    ensures { λ r. ⌜ Tells kind (now (table .entry)) glyphs source glyph r × (glyph < r .until) ⌝ }
+    requires { ⌜ (length (now table) ≤ 2 ^ 15) × (glyphs < 2 ^ 16) × (glyph < glyphs) × Sound (now table) glyphs source × RunTells kind (now table) glyphs source glyph run ⌝ }
+    ensures { λ r. ⌜ RunTells kind (now (table .entry)) glyphs source glyph r × (glyph < r .until) ⌝ }
 {
     if glyph < run.until {
         return run;
@@ -153,7 +153,7 @@ pub fn next_stretch<'a>(
     one: &'a [u8],
     other: &'a [u8],
     sources: Sources,
-    runs: Runs,
+    runs: RunPair,
     glyph: usize,
 ) -> Stretch
     requires { ⌜ BothSound (now one) (now other) sources × BothTell (now one) (now other) sources glyph runs × (glyph < sources .glyphs) ⌝ }
@@ -172,7 +172,7 @@ pub fn next_stretch<'a>(
             first: place_of(one, kind, source, a, glyph),
             second: place_of(other, kind, beside, b, glyph),
         },
-        runs: Runs {
+        runs: RunPair {
             first: a,
             second: b,
         },

@@ -30,7 +30,7 @@ use Rattle.actions.specs.Notes.{Passing}
 use Rattle.actions.proofs.Notes.{set-here, no-note, each-fewer, blank-passed}
 use Rattle.lookup_targets.specs.declared.Kind.{Kind}
 use Rattle.lookup_targets.specs.declared.Kind.the-variants.{Clusters, Lists}
-use Rattle.lookup_targets.specs.Values.{spotOf, itemFault, spotFault, placeFault, glyphFault, fromGlyph, Tells, besides, Judged, Told, Ahead, noteAt, noteEach, noteAlong, Noted}
+use Rattle.lookup_targets.specs.Values.{spotOf, itemFault, spotFault, placeFault, glyphFault, fromGlyph, NoteTells, besides, Judged, Told, Ahead, noteAt, noteEach, noteAlong, Noted}
 
 -- what is judged of a value, from what its steps found
 pub place-of : (t : List ℕ) (glyphs : ℕ) (kind : Kind) (base p : ℕ) {fault : Fault} {spot : Spot}
@@ -39,7 +39,7 @@ unfolding placeFault
 place-of t glyphs kind base p f s = f ∙ ap (spotFault t glyphs kind) s
 
 -- what a value leads to has no fault where that is noted, and where it leads nowhere
-pub told-at : (t : List ℕ) (kind : Kind) (base p : ℕ) (judged : List ℕ) (at : ℕ) → At at ≡ spotOf kind base (Value (u16At t p)) → Tells kind (getD judged at 0)
+pub told-at : (t : List ℕ) (kind : Kind) (base p : ℕ) (judged : List ℕ) (at : ℕ) → At at ≡ spotOf kind base (Value (u16At t p)) → NoteTells kind (getD judged at 0)
     → Told t kind base judged p
 told-at t kind base p judged at s e = record { clear = λ glyphs m. sym (place-of t glyphs kind base p (sym (m .clear kind at e)) s) }
 
@@ -60,7 +60,7 @@ told-next {t} {kind} {base} {judged} place count left p fewer here before told i
 pub blank-judged : (t : List ℕ) (glyphs : ℕ) (judged : List ℕ) → ((i : ℕ) → getD judged i 0 ≡ 0) → Judged t glyphs judged
 blank-judged t glyphs judged blank = record { clear = λ kind i e. absurd (none kind i e); passed = blank-passed t glyphs judged blank }
   where
-    none : (kind : Kind) (i : ℕ) → Tells kind (getD judged i 0) → ⊥
+    none : (kind : Kind) (i : ℕ) → NoteTells kind (getD judged i 0) → ⊥
     none Clusters i e = omega (arith, blank i)
     none Lists i e = omega (arith, blank i)
 
@@ -71,12 +71,12 @@ none-judged t glyphs n = blank-judged t glyphs (replicate n 0) (no-note n)
 pub actions-judged : {t : List ℕ} {glyphs : ℕ} {before after : List ℕ} → Judged t glyphs before → Passing t glyphs before after → Judged t glyphs after
 actions-judged {t} {glyphs} {before} {after} j p = record { clear = clear; passed = p .passed }
   where
-    clear : (kind : Kind) (i : ℕ) → Tells kind (getD after i 0) → itemFault t glyphs kind i ≡ Clear
+    clear : (kind : Kind) (i : ℕ) → NoteTells kind (getD after i 0) → itemFault t glyphs kind i ≡ Clear
     clear Clusters i e = j .clear Clusters i (omega (arith, p .rest i))
     clear Lists i e = j .clear Lists i (omega (arith, p .rest i))
 
 -- what a note tells besides, it tells of one kind
-besides-told : (kind k : Kind) (note : ℕ) → Tells k (besides kind note) → (k ≡ kind) ⊎ Tells k note
+besides-told : (kind k : Kind) (note : ℕ) → NoteTells k (besides kind note) → (k ≡ kind) ⊎ NoteTells k note
 besides-told Clusters Clusters note e = inl refl
 besides-told Clusters Lists note e = inr (omega arith)
 besides-told Lists Clusters note e = let h : (note / 2 * 2 + 1) / 2 ≡ note / 2 = omega arith in inr (ap (λ (k : ℕ). k % 2) (sym h) ∙ e)
@@ -92,20 +92,20 @@ pub item-judged : {t : List ℕ} {glyphs : ℕ} {judged : List ℕ} (kind : Kind
 item-judged {t} {glyphs} {judged} kind at byte j found e =
     record { clear = λ k i o. clear k i o (ℕ-discrete i at); passed = record { clear = λ i. ap (λ (k : ℕ). actionsFault t glyphs k i) (passed i (ℕ-discrete i at)) ∙ j .passed .clear i } }
   where
-    here : (k : Kind) → Tells k (getD (set judged at byte) at 0) → itemFault t glyphs k at ≡ Clear
+    here : (k : Kind) → NoteTells k (getD (set judged at byte) at 0) → itemFault t glyphs k at ≡ Clear
     here k o =
         ⊎-elim
         (λ s.
         ⊎-elim
         (λ q. ap (λ (x : Kind). itemFault t glyphs x at) q ∙ found)
         (λ w. j .clear k at w)
-        (besides-told kind k (getD judged at 0) (subst (Tells k) (s ∙ e) o)))
-        (λ s. j .clear k at (subst (Tells k) s o))
+        (besides-told kind k (getD judged at 0) (subst (NoteTells k) (s ∙ e) o)))
+        (λ s. j .clear k at (subst (NoteTells k) s o))
         (set-here judged at byte)
 
-    clear : (k : Kind) (i : ℕ) → Tells k (getD (set judged at byte) i 0) → Dec (i ≡ at) → itemFault t glyphs k i ≡ Clear
+    clear : (k : Kind) (i : ℕ) → NoteTells k (getD (set judged at byte) i 0) → Dec (i ≡ at) → itemFault t glyphs k i ≡ Clear
     clear k i o (yes q) = ap (itemFault t glyphs k) q ∙ here k (rw q at o)
-    clear k i o (no n) = j .clear k i (subst (Tells k) (getD-set-other judged at i byte 0 n) o)
+    clear k i o (no n) = j .clear k i (subst (NoteTells k) (getD-set-other judged at i byte 0 n) o)
 
     passed-here : getD (set judged at byte) at 0 / 4 ≡ getD judged at 0 / 4
     passed-here = ⊎-elim (λ s. ap (λ (m : ℕ). m / 4) (s ∙ e) ∙ besides-passed kind (getD judged at 0)) (λ s. ap (λ (m : ℕ). m / 4) s) (set-here judged at byte)

@@ -81,9 +81,9 @@ listHere t (At p) = listAt t p
 listHere t Nowhere = []
 
 -- what a note tells of a cluster, and of a list
-abbrev pub Tells : Kind → ℕ → Type 0
-Tells Clusters note = note / 2 % 2 ≡ 1
-Tells Lists note = note % 2 ≡ 1
+abbrev pub NoteTells : Kind → ℕ → Type 0
+NoteTells Clusters note = note / 2 % 2 ≡ 1
+NoteTells Lists note = note % 2 ≡ 1
 
 -- a note that tells it besides what it told
 abbrev pub besides : Kind → ℕ → ℕ
@@ -92,7 +92,7 @@ besides Lists note = note / 2 * 2 + 1
 
 -- the notes of clusters, lists and actions, one for each position of the table, are true
 pub record Judged (t : List ℕ) (glyphs : ℕ) (judged : List ℕ) : Type 0 where
-  pub clear : (kind : Kind) (i : ℕ) → Tells kind (getD judged i 0) → itemFault t glyphs kind i ≡ Clear
+  pub clear : (kind : Kind) (i : ℕ) → NoteTells kind (getD judged i 0) → itemFault t glyphs kind i ≡ Clear
   pub passed : Passed t glyphs judged
 
 -- the notes in `judged` tell that what the value at `place` leads to has no fault

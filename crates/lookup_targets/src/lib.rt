@@ -10,7 +10,7 @@ ghost use Rattle.lookup.specs.declared.Found.the-variants.{Value};
 ghost use Rattle.lookup.specs.Lookup.{lookupFault};
 ghost use Rattle.lookup.specs.Pass.{Serves};
 ghost use Rattle.actions.specs.Actions.{Below};
-ghost use Rattle.lookup_targets.specs.Values.{spotOf, itemFault, placeFault, glyphFault, fromGlyph, valuesFault, Tells, besides, Judged, Told, Ahead, noteAt, noteEach, noteAlong};
+ghost use Rattle.lookup_targets.specs.Values.{spotOf, itemFault, placeFault, glyphFault, fromGlyph, valuesFault, NoteTells, besides, Judged, Told, Ahead, noteAt, noteEach, noteAlong};
 use actions::Spot;
 use fields::Fault;
 use lookup::Cursor;
@@ -67,7 +67,7 @@ fn item_fault(table: &[u8], glyphs: usize, kind: Kind, at: usize, judged: &mut [
 
 // Whether a note tells that the cluster or the list there has no fault.
 fn tells(kind: Kind, note: usize) -> bool
-    ensures { λ r. ⌜ (r ≡ true → Tells kind note) ⌝ }
+    ensures { λ r. ⌜ (r ≡ true → NoteTells kind note) ⌝ }
 {
     match kind {
         Kind::Clusters => note / 2 % 2 == 1,

@@ -32,7 +32,7 @@ use Rattle.line_rule.specs.Line.{Line, knownEdition, gapOf, walkMachine, column
 use Rattle.line_call.specs.Justified.{Lent, justifies, refuses, settled, roomTest, workedFault, lineFault, justified}
 use Rattle.line_call.specs.Settle.{lineBy, lentBy}
 use Rattle.line_call.proofs.Tests.{lengths-hold}
-use Rattle.samples.specs.Samples.{Proper, Empty, Stuck, sideFor, cases, Holds}
+use Rattle.samples.specs.Samples.{Proper, Empty, Stuck, sideFor, cases, CaseHolds}
 use Rattle.samples.proofs.Lines.{empty-line, stuck-line}
 
 -- ---- a line that refusals 1 to 13 do not bar
@@ -165,7 +165,7 @@ own-class class ty content g size = rw (eq-eqb class class refl)
 
 -- ---- all
 
-pub all-hold : All Holds cases
+pub all-hold : All CaseHolds cases
 unfolding factorOf shares stageMoves stageLeft stages movesBy leftBy lineMoves lineLeft lineFits u16At u32At breaks typeFires
 all-hold = (
   record { factor = refl; units = refl },

@@ -157,8 +157,8 @@ pub record LineHolds (c : LineCase) : Type 0 where
   pub each-line : (t : List ℕ) (n : ℕ) (l : Line) (b : Lent) → Proper t n l b → Shaped (c .shape) t n l
       → justified t n l b ≡ record { answer = c .answer; lent = b }
 
-abbrev pub Holds : Case → Type 0
-Holds (factor c) = FactorHolds c
-Holds (shares c) = ShareHolds c
-Holds (ligature c) = LigatureHolds c
-Holds (line c) = LineHolds c
+abbrev pub CaseHolds : Case → Type 0
+CaseHolds (factor c) = FactorHolds c
+CaseHolds (shares c) = ShareHolds c
+CaseHolds (ligature c) = LigatureHolds c
+CaseHolds (line c) = LineHolds c

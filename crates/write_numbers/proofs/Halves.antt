@@ -10,7 +10,7 @@ use Rattle.encoding.specs.Tests.{Says}
 use Rattle.lookup_targets.specs.declared.Kind.{Kind}
 use Rattle.write_item.specs.Items.{Item, Earlier}
 use Rattle.write_item.proofs.Earlier.{earlier-trans}
-use Rattle.write_numbers.specs.Numbered.{otherOf, Sorted, Split}
+use Rattle.write_numbers.specs.Numbered.{otherOf, Sorted, Ranked}
 
 -- where the search stands: the first `low` come before x, and none from `high` on
 pub record Halves (kind : Kind) (t firsts others : List ℕ) (x : Item kind) (low high : ℕ) : Type 0 where
@@ -32,7 +32,7 @@ module _ (kind : Kind) (t firsts others : List ℕ) (x : Item kind) where
         after = λ s l h. absurd (omega arith);
       }
 
-  pub halves-last : (low high : ℕ) → high ≤ low → Halves kind t firsts others x low high → Split kind t firsts others x low
+  pub halves-last : (low high : ℕ) → high ≤ low → Halves kind t firsts others x low high → Ranked kind t firsts others x low
   halves-last low high l h =
       record {
         most = omega (arith, h .least, h .most);

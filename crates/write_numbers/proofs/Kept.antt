@@ -14,7 +14,7 @@ use Rattle.encoding.proofs.DistinctLaws.{index-le, getD-index, once-more}
 use Rattle.lookup_targets.specs.declared.Kind.{Kind}
 use Rattle.write_item.specs.Items.{Item, itemAt, item-discrete, itemHash, Earlier}
 use Rattle.write_item.proofs.Earlier.{earlier-not, earlier-total}
-use Rattle.write_numbers.specs.Numbered.{placed, numberOf, itemOf, otherOf, Sorted, Split, Inserted, Listed, slotOf, Found, Kept, Entered, Blank}
+use Rattle.write_numbers.specs.Numbered.{placed, numberOf, itemOf, otherOf, Sorted, Ranked, Inserted, AmongOthers, slotOf, Found, Kept, Entered, Blank}
 use Rattle.write_numbers.proofs.Laws.{map-length, map-more}
 use Rattle.write_numbers.proofs.NoneLaws.{number-some}
 
@@ -192,7 +192,7 @@ module _ (kind : Kind) (t firsts others slots : List ℕ) (k place p : ℕ) (hf 
 
   -- ---- among the others: its slot has another one, and of the listed ones that do not come before it the first is not it
 
-  module _ (n : ℕ) (split : Split kind t firsts others x n) (full : getD slots p 0 ≡ 0 → ⊥) (miss : item (getD slots p 0 - 1) ≡ x → ⊥)
+  module _ (n : ℕ) (split : Ranked kind t firsts others x n) (full : getD slots p 0 ≡ 0 → ⊥) (miss : item (getD slots p 0 - 1) ≡ x → ⊥)
       (absent : (n < getD others 0 0) × (other n ≡ x) → ⊥) where
     not-listed : (s : ℕ) → s < getD others 0 0 → other s ≡ x → ⊥
     not-listed s l e = go (side s n)
@@ -258,10 +258,10 @@ module _ (kind : Kind) (t firsts others slots : List ℕ) (k place p : ℕ) (hf 
           go (same e) = omega (arith, ap (λ (i : ℕ). getD others′ (i + 1) 0) e, inserted .here)
           go (above b) = omega (arith, index-after s b l, c .sorted .within (s - 1) (omega (arith, inserted .more)))
 
-      listed′ : (j : ℕ) → Listed others j → Listed others′ j
+      listed′ : (j : ℕ) → AmongOthers others j → AmongOthers others′ j
       listed′ j w = go (decLt (w .0) n)
         where
-          go : Dec (w .0 < n) → Listed others′ j
+          go : Dec (w .0 < n) → AmongOthers others′ j
           go (yes l) = (w .0, omega (arith, w .1, inserted .more), inserted .before (w .0) l ∙ w .2)
           go (no l) =
               let i : w .0 + 1 + 1 ≡ w .0 + 2 = omega arith in (

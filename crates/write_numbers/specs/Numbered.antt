@@ -44,7 +44,7 @@ pub record Sorted (kind : Kind) (t firsts others : List ℕ) (k : ℕ) : Type 0 
   pub rising : (a b : ℕ) → a < b → b < getD others 0 0 → Earlier kind (otherOf kind t firsts others a) (otherOf kind t firsts others b)
 
 -- the first n of those listed come before x, and no others
-pub record Split (kind : Kind) (t firsts others : List ℕ) (x : Item kind) (n : ℕ) : Type 0 where
+pub record Ranked (kind : Kind) (t firsts others : List ℕ) (x : Item kind) (n : ℕ) : Type 0 where
   pub most : n ≤ getD others 0 0
   pub before : (s : ℕ) → s < n → Earlier kind (otherOf kind t firsts others s) x
   pub after : (s : ℕ) → n ≤ s → s < getD others 0 0 → Earlier kind (otherOf kind t firsts others s) x → ⊥
@@ -57,8 +57,8 @@ pub record Inserted (others₀ others : List ℕ) (n index : ℕ) : Type 0 where
   pub after : (s : ℕ) → n ≤ s → s < getD others₀ 0 0 → getD others (s + 2) 0 ≡ getD others₀ (s + 1) 0
 
 -- an index is listed
-abbrev pub Listed : List ℕ → ℕ → Type 0
-Listed others j = (s : ℕ) × (s < getD others 0 0) × (getD others (s + 1) 0 ≡ j)
+abbrev pub AmongOthers : List ℕ → ℕ → Type 0
+AmongOthers others j = (s : ℕ) × (s < getD others 0 0) × (getD others (s + 1) 0 ≡ j)
 
 -- the slot of an item, told by its hash
 abbrev pub slotOf : (kind : Kind) → Item kind → List ℕ → ℕ
@@ -66,7 +66,7 @@ slotOf kind x slots = itemHash kind x % length slots
 
 -- what an item's slot holds: the item's number, or that of another one, and then the item's index is listed
 abbrev pub Found : List ℕ → ℕ → ℕ → Type 0
-Found others slot j = (slot ≡ j + 1) ⊎ ((slot ≡ 0 → ⊥) × Listed others j)
+Found others slot j = (slot ≡ j + 1) ⊎ ((slot ≡ 0 → ⊥) × AmongOthers others j)
 
 -- the items at the first k of `firsts`, no two of which are the same: each slot has the number, counted from 1, of the first one whose slot it is, 0
 -- for none; the ones that found their slot taken are listed in `others`, sorted

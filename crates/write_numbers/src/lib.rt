@@ -9,7 +9,7 @@ ghost use lib.ListN.{length, getD, set, replicate};
 ghost use Rattle.fields.specs.Field.{u32At};
 ghost use Rattle.encoding.specs.Tests.{Says};
 ghost use Rattle.write_item.specs.Items.{itemAt, itemHash};
-ghost use Rattle.write_numbers.specs.Numbered.{otherOf, Sorted, Split, Inserted, Kept, Entered, KnownAs, Seen};
+ghost use Rattle.write_numbers.specs.Numbered.{otherOf, Sorted, Ranked, Inserted, Kept, Entered, KnownAs, Seen};
 use lookup_targets::Kind;
 
 // Sets every element.
@@ -36,7 +36,7 @@ fn other_place(firsts: &[u16], others: &[u16], s: usize) -> u16
 fn earlier_count(table: &[u8], kind: Kind, firsts: &[u16], others: &[u16], place: u16) -> usize
     requires { ⌜ (length (now table) ≤ 2 ^ 15) × (getD (now others) 0 0 < length (now others)) ⌝ }
     requires { ⌜ Sorted kind (now table) (now firsts) (now others) (length (now firsts)) ⌝ }
-    ensures { λ r. ⌜ Split kind (now (table .entry)) (now (firsts .entry)) (now (others .entry)) (itemAt kind (now (table .entry)) place) r ⌝ }
+    ensures { λ r. ⌜ Ranked kind (now (table .entry)) (now (firsts .entry)) (now (others .entry)) (itemAt kind (now (table .entry)) place) r ⌝ }
 {
     let mut low: usize = 0;
     let mut high = others[0] as usize;

@@ -1,6 +1,6 @@
 -- `diff_glyphs::put_by` meets its contract.
 use Rattle.diff_glyphs.proofs.Laws.{holds-none, kept-blank, first-rises, second-rises, stretch-stored, glyphs-whole}
-use Rattle.diff_glyphs.specs.Glyphs.{glyphDiffers, Holds, Kept}
+use Rattle.diff_glyphs.specs.Glyphs.{glyphDiffers, LastCompared, SamePairs}
 use Rattle.diff_rule.proofs.Filled.{Filled, filled-none, filled-more, filled-all, filled-length}
 use Rattle.diff_rule.specs.declared.Difference.{Difference}
 use Rattle.diff_stretches.specs.Stretches.{BothTell}
@@ -16,7 +16,7 @@ use Rattle.diff_glyphs.proofs.put_by.Tie as tie
 
 abbrev Inv-loop : tie.InvT-loop
 Inv-loop one other sources direction block₀ same₀ list₀ to runs₀ last₀ glyph₀ at₀ block same list runs last glyph at =
-    (glyph ≤ sources .glyphs) × BothTell one other sources glyph runs × Holds (sources .kind) direction one other block last × Kept (sources .kind) direction one other same
+    (glyph ≤ sources .glyphs) × BothTell one other sources glyph runs × LastCompared (sources .kind) direction one other block last × SamePairs (sources .kind) direction one other same
     × (at ≤ to + 640 * glyph) × Filled (glyphDiffers direction one other sources) list₀ list to at 0 glyph × (length block ≡ length block₀) × (length same ≡ length same₀)
 
 abbrev μ-loop : tie.MeasureT-loop

@@ -1,6 +1,6 @@
 -- `diff_stretches::next_of` meets its contract.
 use Rattle.diff_stretches.proofs.Laws.{follows-tells, absent-tells}
-use Rattle.diff_stretches.specs.Stretches.{ServesBy, Tells}
+use Rattle.diff_stretches.specs.Stretches.{ServesBy, RunTells}
 use Rattle.write_glyphs.specs.Places.{Sound}
 use Rattle.lookup_targets.specs.declared.Source.{Source}
 use Rattle.lookup_runs.specs.declared.Run.{Run}
@@ -33,7 +33,7 @@ returns c =
     let a = c .before .before .before .before .before .before .args in
     let p = c .before .before .before .before .before .before .pre in
     let r = c .next-run .result in
-    subst (λ (s : Source). Tells (a .kind) (a .table .now) (a .glyphs) s (a .glyph) r × (a .glyph < r .until)) (sym (c .before .before .before .source .given .1))
+    subst (λ (s : Source). RunTells (a .kind) (a .table .now) (a .glyphs) s (a .glyph) r × (a .glyph < r .until)) (sym (c .before .before .before .source .given .1))
     (follows-tells (a .kind) (a .table .now) (a .glyphs) (a .glyph) (p .0) (p .1) _ _ r (c .next-run .ensures .1))
 
 returns-2 : tie.Need-returns-2
@@ -41,7 +41,7 @@ returns-2 c =
     let a = c .before .before .before .args in
     let p = c .before .before .before .pre in
     let r : Run = record { from = 65536; until = 65537; place = 0; array = false; cursor = a .cursor } in
-    subst (λ (s : Source). Tells (a .kind) (a .table .now) (a .glyphs) s (a .glyph) r × (a .glyph < r .until)) (sym (c .enum-told .given .1))
+    subst (λ (s : Source). RunTells (a .kind) (a .table .now) (a .glyphs) s (a .glyph) r × (a .glyph < r .until)) (sym (c .enum-told .given .1))
     (absent-tells (a .kind) (a .table .now) (a .glyphs) (a .glyph) (p .0) (p .1) (p .2) r refl refl refl)
 
 pub next-of-spec : {M : Type 1} → statement M

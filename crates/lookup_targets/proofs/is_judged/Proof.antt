@@ -1,6 +1,6 @@
 -- `lookup_targets::is_judged` meets its contract.
 use Rattle.lookup_targets.proofs.Laws.{told-at, told-nowhere}
-use Rattle.lookup_targets.specs.Values.{Tells}
+use Rattle.lookup_targets.specs.Values.{NoteTells}
 use mathlib.Core.Path.{_∙_, sym, subst}
 use denote.Ref.{now}
 use borrow.Author.Needs.{needs}
@@ -23,7 +23,7 @@ enum-told : tie.Need-enum-told
 enum-told c = search needs
 
 returns : tie.Need-returns
-returns c = let a = c .before .before .before .before .before .before .before .before .args in λ e. told-at (now (a .table)) (a .kind) (a .base) (a .place) (now (a .judged)) _ (sym (c .before .before .before .at .given .1) ∙ c .before .before .before .before .before .spot-at .ensures) (subst (Tells (a .kind)) (c .before .u8-at .ensures .0) (c .tells .ensures e))
+returns c = let a = c .before .before .before .before .before .before .before .before .args in λ e. told-at (now (a .table)) (a .kind) (a .base) (a .place) (now (a .judged)) _ (sym (c .before .before .before .at .given .1) ∙ c .before .before .before .before .before .spot-at .ensures) (subst (NoteTells (a .kind)) (c .before .u8-at .ensures .0) (c .tells .ensures e))
 
 returns-2 : tie.Need-returns-2
 returns-2 c = let a = c .before .before .before .before .before .args in λ e. told-nowhere (now (a .table)) (a .kind) (a .base) (a .place) (now (a .judged)) (sym (c .enum-told .given .1) ∙ c .before .before .spot-at .ensures)
