@@ -217,7 +217,7 @@ fn lay_parts(
 {
     let direction = shape.direction;
     let clusters = table_ask::lookup_in(table, direction, Kind::Clusters);
-    let mut sums = [0u64; 16];
+    let mut sums = [0u64; share::PRIORITIES as usize];
     let mut i = 0;
     while i < glyphs.len() {
         let sought = record_for(table, count, direction, clusters, glyphs[i], classes[i]);

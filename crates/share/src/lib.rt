@@ -19,7 +19,7 @@ const MOST: u64 = 8589934592;
 const STAGES: u8 = 4;
 
 // Flags have room for so many priorities.
-const PRIORITIES: u8 = 16;
+pub const PRIORITIES: u8 = 16;
 
 // ShareStep 1's formula on its way from side to side: the amount, the total that it is shared over, and the quotient and remainder of
 // the amount times the running total, by that total. The quotient is what the sides so far have been given.
