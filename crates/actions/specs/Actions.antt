@@ -48,9 +48,9 @@ unfoldable pub placeOf : List ℕ → ℕ → ℕ → Spot
 placeOf t at number = cond (ltb number (u32At t at)) (At (placeAfter t number (at + 4))) Nowhere
 
 -- a spot's offset, if it has one, is below a number
-abbrev pub Below : ℕ → Spot → Type 0
-Below n (At p) = p < n
-Below n Nowhere = Unit {0}
+abbrev pub SpotBelow : ℕ → Spot → Type 0
+SpotBelow n (At p) = p < n
+SpotBelow n Nowhere = Unit {0}
 
 -- where the glyphs of the action at `at` stand, without their count; an empty stretch if it is not of type 0
 unfoldable pub componentsAt : List ℕ → ℕ → Stretch

@@ -9,7 +9,7 @@ ghost use Rattle.fields.specs.Field.{u32At};
 ghost use Rattle.meaning.specs.Ask.{held};
 ghost use Rattle.actions.specs.Faults.{glyphFault, addedFault, countFault, glyphsFault, type0Fault, type2Fault, type4Fault, type5Fault, dataFault, dataSize, lengthFault, actionFault, actionsFault, listFault};
 ghost use Rattle.actions.specs.Notes.{Passed, Passing};
-ghost use Rattle.actions.specs.Actions.{bytesAt, contentAt, actionAt, placeAfter, placeOf, Below, componentsAt, padded, clipped};
+ghost use Rattle.actions.specs.Actions.{bytesAt, contentAt, actionAt, placeAfter, placeOf, SpotBelow, componentsAt, padded, clipped};
 use fields::Fault;
 use fields::Refusal;
 use types::HeldAction;
@@ -27,7 +27,7 @@ pub struct Stretch {
 }
 
 // How many actions that follow each other were found without fault, and how many known ones were stepped over on the way.
-struct Walked {
+struct SteppedOver {
     passed: usize,
     over: usize,
 }
@@ -360,7 +360,7 @@ fn step_through(
     most: usize,
     enough: usize,
     judged: &mut [u8],
-) -> Walked
+) -> SteppedOver
     requires { ⌜ (first ≤ length (now table)) × (most ≤ 255) ⌝ }
     requires { ⌜ Passed (now table) glyphs (now judged) ⌝ }
     ensures { λ r. ⌜ (actionsFault (now (table .entry)) glyphs (r .passed) first ≡ Clear) × Passing (now (table .entry)) glyphs (now (judged .entry)) (now (judged .exit)) ⌝ }
@@ -374,7 +374,7 @@ fn step_through(
             let known = note / 4;
             if fields::lower(most - passed, enough) <= known {
                 let passed = passed + known;
-                return Walked { passed, over };
+                return SteppedOver { passed, over };
             }
             at += fields::u32_at(table, at + 4);
             over += 1;
@@ -382,14 +382,14 @@ fn step_through(
         } else {
             let end = clear_end(table, glyphs, at);
             if end == 0 {
-                return Walked { passed, over };
+                return SteppedOver { passed, over };
             }
             fields::put_u8(judged, at, (note + 4) as u8);
             at = end;
             passed += 1;
         }
     }
-    Walked { passed, over }
+    SteppedOver { passed, over }
 }
 
 // Notes at each of `count` actions from `first` on, which have no fault, how many are known from it on: as far as a note has
@@ -479,7 +479,7 @@ fn place_after(table: &[u8], first: usize, count: u16) -> usize
 // Where the action with a number stands, of the list at `at`.
 pub fn place_of(table: &[u8], at: usize, number: u16) -> Spot
     requires { ⌜ at < 2 ^ 40 ⌝ }
-    ensures { λ r. ⌜ (r ≡ placeOf (now (table .entry)) at number) × Below (2 ^ 50) r ⌝ }
+    ensures { λ r. ⌜ (r ≡ placeOf (now (table .entry)) at number) × SpotBelow (2 ^ 50) r ⌝ }
 {
     if fields::u32_at(table, at) <= number as usize {
         return Spot::Nowhere;

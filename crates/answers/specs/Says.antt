@@ -21,8 +21,8 @@ use Rattle.answers.specs.declared.CellAnswer.{CellAnswer}
 use Rattle.answers.specs.declared.CellAnswer.the-variants as cell
 use Rattle.answers.specs.declared.RecordAnswer.{RecordAnswer}
 use Rattle.answers.specs.declared.RecordAnswer.the-variants as width
-use Rattle.answers.specs.declared.Sought.{Sought}
-use Rattle.answers.specs.declared.Sought.the-variants as sought
+use Rattle.answers.specs.declared.ActionSought.{ActionSought}
+use Rattle.answers.specs.declared.ActionSought.the-variants as sought
 use Rattle.answers.specs.declared.ActionAnswer.{ActionAnswer}
 
 -- what a call that only judges says: accepted, or the refusal's number and its offset from the table's start, which is 0 but for 4 to 8
@@ -77,7 +77,7 @@ saysRecord (width.Refused r at) = refused (numberOf r) at
 abbrev pub actionIn : HeldAction → Action
 actionIn h = record { class = h .class; ty = h .ty; content = take (h .size) (h .bytes) }
 
-abbrev pub saysSought : Sought → HeldAction → Reply
+abbrev pub saysSought : ActionSought → HeldAction → Reply
 saysSought sought.Found h = given (act (actionIn h))
 saysSought sought.Nothing h = given nothing
 saysSought (sought.Refused r at) h = refused (numberOf r) at

@@ -48,7 +48,7 @@ pub enum RecordAnswer {
 }
 
 // Whether an action was found.
-pub enum Sought {
+pub enum ActionSought {
     Found,
     Nothing,
     Refused { refusal: Refusal, at: usize },
@@ -56,12 +56,12 @@ pub enum Sought {
 
 // The action of a glyph and a number; all zeros where none was found.
 pub struct ActionAnswer {
-    pub sought: Sought,
+    pub sought: ActionSought,
     pub action: HeldAction,
 }
 
 // An answer without an action: all zeros stand in its place.
-pub fn no_action(sought: Sought) -> ActionAnswer
+pub fn no_action(sought: ActionSought) -> ActionAnswer
     ensures { λ r. ⌜ r ≡ record { sought = sought; action = noAction } ⌝ }
 {
     ActionAnswer {

@@ -11,7 +11,7 @@ use borrow.Author.Tests.{eq-eqb, ne-eqb, lt-ltb, le-ltb}
 use Rattle.machine.specs.Cells.{classAt, classCount}
 use Rattle.class_walk.specs.declared.Walked.{Walked}
 use Rattle.class_walk.specs.Walk.{Conf, Walk, going, stopped, Fits, columnAt}
-use Rattle.class_walk.specs.Line.{machineAt, lineOf, lineColumn, lineColumns, handedOut, HandedOut, Sound, Columns}
+use Rattle.class_walk.specs.Line.{machineAt, lineOf, lineColumn, lineColumns, handedOut, HandedOut, SoundMachine, Columns}
 
 -- ---- the machine's classes of a line
 
@@ -30,7 +30,7 @@ pub column-end : (t : List ℕ) (here : ℕ) (line : List ℕ) (ends : Bool) (pl
     → columnAt (lineColumns t here line) ends place ≡ cond ends 0 3
 column-end t here line ends place h = rw (length-map line (lineColumn t here), le-ltb place (length line) h)
 
-pub fits-of : {t : List ℕ} {here : ℕ} {columns : List ℕ} (starts ends : Bool) → Sound t here → Columns t here columns → Fits (machineAt t here) (lineOf columns starts ends)
+pub fits-of : {t : List ℕ} {here : ℕ} {columns : List ℕ} (starts ends : Bool) → SoundMachine t here → Columns t here columns → Fits (machineAt t here) (lineOf columns starts ends)
 fits-of starts ends ok line =
     record { rows-low = ok .rows-low; classes-low = ok .classes-low; closed = ok .closed; columns-low = line .low }
 

@@ -15,7 +15,7 @@ use borrow.Author.Tests.{leb-true, leb-false, le-ltb}
 use Rattle.types.specs.declared.Entry.{Entry}
 use Rattle.units.specs.Flags.{setsMark, stays, markClass, currentClass}
 use Rattle.class_walk.specs.Walk.{Machine, Line, Conf, going, stopped, Fits, glyphs, columnAt, current, give, met, givenBy, onAt, begin, Ends, walked}
-use Rattle.class_walk.specs.Line.{HandedOut, rowPlace, Sound}
+use Rattle.class_walk.specs.Line.{HandedOut, rowPlace, SoundMachine}
 use Rattle.class_walk.proofs.Theory.{give-length, At, at-first, at-stays, at-moves, at-stops, spent-never}
 use Rattle.class_walk.proofs.Laws.{ends-walked, never-walked}
 use Rattle.class_walk.proofs.Line.{handed-stopped, handed-never}
@@ -67,7 +67,7 @@ module _ (t : List ℕ) (here row column k : ℕ) (ek : k ≡ entryTable t here)
   met-flags f e = e ∙ ap₂ (λ (x y : ℕ). u16At t (x + 4 * getD t (y + column) 0 + 2)) ek eb
 
   -- where its new row stands
-  pub met-base : Sound t here → (r : ℕ) → r ≡ here + u16At t (k + 4 * getD t (base + column) 0) → row < rowCount t here → column < classCount t here
+  pub met-base : SoundMachine t here → (r : ℕ) → r ≡ here + u16At t (k + 4 * getD t (base + column) 0) → row < rowCount t here → column < classCount t here
       → r ≡ rowPlace t here (cellAt t here row column .row)
   met-base ok r e h q = e ∙ ap₂ (λ (x y : ℕ). here + u16At t (x + 4 * getD t (y + column) 0)) ek eb ∙ ok .exact row column h q
 

@@ -41,7 +41,7 @@ pub record HandedOut (w : Walk) (r : Walked) (room : List ℕ) : Type 0 where
   pub classes : (cs : List ℕ) (k : ℕ) → w ≡ stopped cs k → room ≡ cs
 
 -- the machine at `here` is an accepted one: its rows lead below its row count, and an entry says where its new row stands
-pub record Sound (t : List ℕ) (here : ℕ) : Type 0 where
+pub record SoundMachine (t : List ℕ) (here : ℕ) : Type 0 where
   pub near : here < 2 ^ 32
   pub rows-low : 2 ≤ rowCount t here
   pub rows-high : rowCount t here ≤ 256

@@ -9,7 +9,7 @@ ghost use Rattle.fields.specs.Field.{u16At};
 ghost use Rattle.machine.specs.Classes.{Near, ClassesAt};
 ghost use Rattle.units.specs.Flags.{setsMark, stays, markClass, currentClass};
 ghost use Rattle.class_walk.specs.Walk.{give, columnAt, current, walked};
-ghost use Rattle.class_walk.specs.Line.{machineAt, lineOf, lineColumn, lineColumns, HandedOut, rowPlace, Sound, Columns};
+ghost use Rattle.class_walk.specs.Line.{machineAt, lineOf, lineColumn, lineColumns, HandedOut, rowPlace, SoundMachine, Columns};
 use machine::ClassTable;
 
 // A walk that ended, with its count of entries; of one that never ends the count is 0.
@@ -127,7 +127,7 @@ pub fn walk_line(
     ends: bool,
     classes: &mut [u8],
 ) -> Walked
-    requires { ⌜ Sound (now table) here × Columns (now table) here (lineColumns (now table) here (now glyphs)) ⌝ }
+    requires { ⌜ SoundMachine (now table) here × Columns (now table) here (lineColumns (now table) here (now glyphs)) ⌝ }
     requires { ⌜ now classes ≡ replicate (length (now glyphs)) 0 ⌝ }
     ensures { λ r. ⌜ HandedOut (walked (machineAt (now (table .entry)) here) (lineOf (lineColumns (now (table .entry)) here (now (glyphs .entry))) starts ends)) r (now (classes .exit)) ⌝ }
 {

@@ -20,7 +20,7 @@ use Rattle.write_item.specs.Items.{Item, noItem, itemAt}
 use Rattle.write_item.proofs.Laws.{item-past}
 use Rattle.diff_stretches.specs.declared.Places.{Places}
 use Rattle.diff_stretches.specs.declared.Sources.{Sources}
-use Rattle.diff_stretches.specs.declared.Stretch.{Stretch}
+use Rattle.diff_stretches.specs.declared.GlyphStretch.{GlyphStretch}
 use Rattle.diff_stretches.specs.Stretches.{Splits}
 use Rattle.diff_rule.specs.declared.Mark.the-variants.{Changed, OnlyFirst, OnlySecond}
 use Rattle.diff_rule.specs.declared.Difference.{Difference}
@@ -201,7 +201,7 @@ module _ (kind : Kind) (d : Direction) (t u : List ℕ) where
 -- ---- a pass over all glyphs
 
 module _ (d : Direction) (t u : List ℕ) (s : Sources) where
-  module _ (glyph : ℕ) (r : Stretch) (w : Splits t u s glyph r) where
+  module _ (glyph : ℕ) (r : GlyphStretch) (w : Splits t u s glyph r) where
     pub first-rises : AllRise (s .kind) t (s .glyphs) (s .first) → Rises (s .kind) (itemAt (s .kind) t (r .places .first))
     first-rises h = subst (Rises (s .kind)) (w .first glyph (omega arith) (w .more)) (h .each glyph (omega (arith, w .more, w .most)))
 

@@ -132,7 +132,7 @@ fn is_kept(same: &[u32], places: Places) -> bool
     false
 }
 
-// KeepsPair two places, where comparing them left no numbers.
+// Keeps two places, where comparing them left no numbers.
 fn keep(same: &mut [u32], places: Places, size: usize)
     requires { ⌜ 64 ≤ length (now same) ⌝ }
     ensures { λ r. ⌜ KeepsPair (now (same .entry)) (now (same .exit)) places size ⌝ }

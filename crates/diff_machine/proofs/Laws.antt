@@ -35,26 +35,26 @@ use Rattle.diff_rule.proofs.Through.{through-same, from-start}
 use Rattle.diff_rule.proofs.Filled.{through-within}
 use Rattle.diff_machine.specs.declared.Machines.{Machines}
 use Rattle.diff_machine.specs.declared.Span.{Span}
-use Rattle.diff_machine.specs.Machines.{SizesAt, Spans, classBy, classesBy, cellBy, rowBy, cellsBy, machinesBy}
+use Rattle.diff_machine.specs.Machines.{SizesAt, Spans, classDiffers, classesBy, cellDiffers, rowBy, cellsBy, machinesBy}
 
 module _ (t u : List ℕ) (m : Machines) where
-  class-equal : (x : ℕ) → classAt t (m .first) x ≡ 1 → classAt u (m .second) x ≡ 1 → classBy t u m x ≡ []
+  class-equal : (x : ℕ) → classAt t (m .first) x ≡ 1 → classAt u (m .second) x ≡ 1 → classDiffers t u m x ≡ []
   class-equal x p q = ap (noted (m .direction) Class x 0) (sym (mark-same ℕ-discrete (classAt t (m .first) x) (classAt u (m .second) x) (p ∙ sym q)))
 
   -- glyphs that neither class table covers are of class 1 in both
   pub classes-whole : (classes beside : ClassTable) (span : Span) → ClassesAt t (m .first) classes → ClassesAt u (m .second) beside
-      → Spans classes beside (m .glyphs) span → through (classBy t u m) (span .until - span .from) (span .from) ≡ classesBy t u m
+      → Spans classes beside (m .glyphs) span → through (classDiffers t u m) (span .until - span .from) (span .from) ≡ classesBy t u m
   unfolding classesBy
   classes-whole classes beside span w v s =
-      sym (through-within (classBy t u m) (m .glyphs) (span .from) (span .until) (s .rises) (s .most)
+      sym (through-within (classDiffers t u m) (m .glyphs) (span .from) (span .until) (s .rises) (s .most)
       (λ x l. class-equal x (class-before t (m .first) x (omega (arith, w .first, s .low x l .0))) (class-before u (m .second) x (omega (arith, v .first, s .low x l .1))))
       (λ x l k. class-equal x
       (class-after t (m .first) x (omega (arith, w .first, s .high x l k .0)) (omega (arith, w .first, w .count, s .high x l k .0)))
       (class-after u (m .second) x (omega (arith, v .first, s .high x l k .1)) (omega (arith, v .first, v .count, s .high x l k .1)))))
 
-  pub row-whole : (r : ℕ) → through (cellBy t u m r) (m .classes - 0) 0 ≡ rowBy t u m r
+  pub row-whole : (r : ℕ) → through (cellDiffers t u m r) (m .classes - 0) 0 ≡ rowBy t u m r
   unfolding rowBy
-  row-whole r = from-start (cellBy t u m r) (m .classes)
+  row-whole r = from-start (cellDiffers t u m r) (m .classes)
 
   pub cells-whole : through (rowBy t u m) (m .rows - 0) 0 ≡ cellsBy t u m
   unfolding cellsBy
@@ -103,7 +103,7 @@ module _ (t u : List ℕ) (m : Machines) where
   unfolding classesDiffer classesBy machineAt
   classes-differ =
       through-same (λ g. noted (m .direction) Class g 0 (markOf ℕ-discrete (getElem? (upto (classAt t (m .first)) (m .glyphs)) g) (getElem? (upto (classAt u (m .second)) (m .glyphs)) g)))
-      (classBy t u m) (m .glyphs) 0
+      (classDiffers t u m) (m .glyphs) 0
       (λ g h l. ap₂ (λ (x y : Option ℕ). noted (m .direction) Class g 0 (markOf ℕ-discrete x y)) (elem-upto (classAt t (m .first)) (m .glyphs) g (omega arith)) (elem-upto (classAt u (m .second)) (m .glyphs) g (omega arith)))
 
   sizes-apart : (same-rows && same-classes) ≡ false → noted (m .direction) Sizes 0 0 (some Changed) ≡ machinesBy t u m
@@ -122,7 +122,7 @@ module _ (t u : List ℕ) (m : Machines) where
       classes-apart h = sizes-apart (ap₂ (λ (x y : Bool). x && y) rows-same (ne-eqb classes (classCount u (m .second)) (λ q. h (s .classes ∙ q))))
 
       module _ (ec : m .classes ≡ classCount u (m .second)) where
-        cell-differs : (r c : ℕ) → r < m .rows → c < m .classes → noted (m .direction) Cell r c (markOf Entry-discrete (cellOf one r c) (cellOf other r c)) ≡ cellBy t u m r c
+        cell-differs : (r c : ℕ) → r < m .rows → c < m .classes → noted (m .direction) Cell r c (markOf Entry-discrete (cellOf one r c) (cellOf other r c)) ≡ cellDiffers t u m r c
         cell-differs r c h k =
             ap₂ (λ (x y : Option Entry). noted (m .direction) Cell r c (markOf Entry-discrete x y))
             (cell-read t (m .glyphs) (m .first) r c (omega (arith, s .rows)) (omega (arith, s .classes))) (cell-read u (m .glyphs) (m .second) r c (omega arith) (omega arith))
@@ -130,7 +130,7 @@ module _ (t u : List ℕ) (m : Machines) where
         row-differs : (r : ℕ) → r < m .rows → through (λ c. noted (m .direction) Cell r c (markOf Entry-discrete (cellOf one r c) (cellOf other r c))) (m .classes) 0 ≡ rowBy t u m r
         unfolding rowBy
         row-differs r h =
-            through-same (λ c. noted (m .direction) Cell r c (markOf Entry-discrete (cellOf one r c) (cellOf other r c))) (cellBy t u m r) (m .classes) 0
+            through-same (λ c. noted (m .direction) Cell r c (markOf Entry-discrete (cellOf one r c) (cellOf other r c))) (cellDiffers t u m r) (m .classes) 0
             (λ c a l. cell-differs r c h (omega arith))
 
         cells-differ : cellsDiffer (m .direction) one other ≡ cellsBy t u m

@@ -15,18 +15,18 @@ use Rattle.diff_rule.specs.Differences.{markOf, noted, through, machinesDiffer}
 use Rattle.diff_machine.specs.declared.Machines.{Machines}
 use Rattle.diff_machine.specs.declared.Span.{Span}
 
-abbrev pub classBy : List ℕ → List ℕ → Machines → ℕ → List Difference
-classBy t u m g = noted (m .direction) Class g 0 (markOf ℕ-discrete (some (classAt t (m .first) g)) (some (classAt u (m .second) g)))
+abbrev pub classDiffers : List ℕ → List ℕ → Machines → ℕ → List Difference
+classDiffers t u m g = noted (m .direction) Class g 0 (markOf ℕ-discrete (some (classAt t (m .first) g)) (some (classAt u (m .second) g)))
 
 unfoldable pub classesBy : List ℕ → List ℕ → Machines → List Difference
-classesBy t u m = through (classBy t u m) (m .glyphs) 0
+classesBy t u m = through (classDiffers t u m) (m .glyphs) 0
 
-abbrev pub cellBy : List ℕ → List ℕ → Machines → ℕ → ℕ → List Difference
-cellBy t u m r c = noted (m .direction) Cell r c (markOf Entry-discrete (some (cellAt t (m .first) r c)) (some (cellAt u (m .second) r c)))
+abbrev pub cellDiffers : List ℕ → List ℕ → Machines → ℕ → ℕ → List Difference
+cellDiffers t u m r c = noted (m .direction) Cell r c (markOf Entry-discrete (some (cellAt t (m .first) r c)) (some (cellAt u (m .second) r c)))
 
 -- a row's cells, and those of all rows
 unfoldable pub rowBy : List ℕ → List ℕ → Machines → ℕ → List Difference
-rowBy t u m r = through (cellBy t u m r) (m .classes) 0
+rowBy t u m r = through (cellDiffers t u m r) (m .classes) 0
 
 unfoldable pub cellsBy : List ℕ → List ℕ → Machines → List Difference
 cellsBy t u m = through (rowBy t u m) (m .rows) 0

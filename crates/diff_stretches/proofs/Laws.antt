@@ -12,10 +12,10 @@ use Rattle.write_item.specs.Items.{itemAt}
 use Rattle.write_item.proofs.Laws.{item-past}
 use Rattle.lookup_targets.specs.declared.Source.{Source}
 use Rattle.lookup_targets.specs.declared.Source.the-variants.{Lookup, Absent}
-use Rattle.write_glyphs.specs.Places.{runPlace, Sound}
+use Rattle.write_glyphs.specs.Places.{runPlace, SoundSource}
 use Rattle.write_glyphs.proofs.Laws.{place-before, place-one, run-item}
 use Rattle.diff_stretches.specs.declared.Sources.{Sources}
-use Rattle.diff_stretches.specs.declared.Stretch.{Stretch}
+use Rattle.diff_stretches.specs.declared.GlyphStretch.{GlyphStretch}
 use Rattle.diff_stretches.specs.Stretches.{itemBy, baseOf, ServesBy, RunTells, BothTell, Even, Splits}
 
 -- ---- runs
@@ -91,7 +91,7 @@ module _ (kind : Kind) (t : List ℕ) (n : ℕ) (source : Source) (glyph : ℕ) 
   place-items e until p v h k q x l m =
       sym (w .items x l (omega (arith, v .most)) (omega arith)) ∙ ap (itemAt kind t) (v .same kind t (baseOf source) x l (omega arith) ∙ sym q)
 
-module _ (t u : List ℕ) (s : Sources) (glyph : ℕ) (r : Stretch) (w : BothTell t u s glyph (r .runs)) where
+module _ (t u : List ℕ) (s : Sources) (glyph : ℕ) (r : GlyphStretch) (w : BothTell t u s glyph (r .runs)) where
   pub splits : (ea eb : ℕ) → glyph < s .glyphs → Even (r .runs .first) glyph ea → Even (r .runs .second) glyph eb → r .end ≡ min (min ea eb) (s .glyphs)
       → r .places .first ≡ runPlace (s .kind) t (baseOf (s .first)) (r .runs .first .from) (r .runs .first .place) (r .runs .first .array) glyph
       → r .places .second ≡ runPlace (s .kind) u (baseOf (s .second)) (r .runs .second .from) (r .runs .second .place) (r .runs .second .array) glyph
@@ -113,6 +113,6 @@ module _ (t u : List ℕ) (s : Sources) (glyph : ℕ) (r : Stretch) (w : BothTel
       }
 
 -- a sound source's base is a 16-bit number
-pub base-near : (t : List ℕ) (n : ℕ) (source : Source) → Sound t n source → baseOf source < 2 ^ 16
+pub base-near : (t : List ℕ) (n : ℕ) (source : Source) → SoundSource t n source → baseOf source < 2 ^ 16
 base-near t n (Lookup at base) s = s .1
 base-near t n Absent s = omega arith

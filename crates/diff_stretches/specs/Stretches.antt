@@ -10,10 +10,10 @@ use Rattle.lookup_targets.specs.declared.Kind.{Kind}
 use Rattle.write_item.specs.Items.{Item, noItem, itemAt}
 use Rattle.lookup_targets.specs.declared.Source.{Source}
 use Rattle.lookup_targets.specs.declared.Source.the-variants.{Lookup, Absent}
-use Rattle.write_glyphs.specs.Places.{glyphItem, Sound, runPlace}
+use Rattle.write_glyphs.specs.Places.{glyphItem, SoundSource, runPlace}
 use Rattle.diff_stretches.specs.declared.Sources.{Sources}
 use Rattle.diff_stretches.specs.declared.RunPair.{RunPair}
-use Rattle.diff_stretches.specs.declared.Stretch.{Stretch}
+use Rattle.diff_stretches.specs.declared.GlyphStretch.{GlyphStretch}
 
 -- what a glyph of n has
 abbrev pub itemBy : (kind : Kind) → List ℕ → ℕ → Source → ℕ → Item kind
@@ -47,8 +47,8 @@ pub record BothSound (t u : List ℕ) (s : Sources) : Type 0 where
   pub short : length t ≤ 2 ^ 15
   pub beside : length u ≤ 2 ^ 15
   pub few : s .glyphs < 2 ^ 16
-  pub first : Sound t (s .glyphs) (s .first)
-  pub second : Sound u (s .glyphs) (s .second)
+  pub first : SoundSource t (s .glyphs) (s .first)
+  pub second : SoundSource u (s .glyphs) (s .second)
 
 -- the glyphs of a run from `glyph` on and before e have one place
 pub record Even (r : Run) (glyph e : ℕ) : Type 0 where
@@ -58,7 +58,7 @@ pub record Even (r : Run) (glyph e : ℕ) : Type 0 where
       → runPlace kind t base (r .from) (r .place) (r .array) x ≡ runPlace kind t base (r .from) (r .place) (r .array) glyph
 
 -- what the glyphs from `glyph` on and before the stretch's end have stands at its places, and its runs tell what those after them have
-pub record Splits (t u : List ℕ) (s : Sources) (glyph : ℕ) (r : Stretch) : Type 0 where
+pub record Splits (t u : List ℕ) (s : Sources) (glyph : ℕ) (r : GlyphStretch) : Type 0 where
   pub more : glyph < r .end
   pub most : r .end ≤ s .glyphs
   pub first : (x : ℕ) → glyph ≤ x → x < r .end → itemBy (s .kind) t (s .glyphs) (s .first) x ≡ itemAt (s .kind) t (r .places .first)

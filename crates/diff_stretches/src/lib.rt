@@ -3,7 +3,7 @@
 ghost use mathlib.Core.Path.{_≡_};
 ghost use Prim.Native.Nat.{_≤_, _<_, _^_};
 ghost use lib.ListN.{length};
-ghost use Rattle.write_glyphs.specs.Places.{Sound, runPlace};
+ghost use Rattle.write_glyphs.specs.Places.{SoundSource, runPlace};
 ghost use Rattle.diff_stretches.specs.Stretches.{baseOf, ServesBy, RunTells, BothTell, BothSound, Even, Splits};
 use lookup::Cursor;
 use lookup_runs::Run;
@@ -31,7 +31,7 @@ pub struct Places {
 }
 
 // The glyphs before `end` have what stands at these places; the runs tell what the glyphs after them have.
-pub struct Stretch {
+pub struct GlyphStretch {
     pub end: usize,
     pub places: Places,
     pub runs: RunPair,
@@ -52,7 +52,7 @@ fn no_glyphs(cursor: Cursor) -> Run
 
 // The run of a table that a pass begins with.
 fn first_run(table: &[u8], glyphs: usize, source: Source) -> Run
-    requires { ⌜ Sound (now table) glyphs source ⌝ }
+    requires { ⌜ SoundSource (now table) glyphs source ⌝ }
     ensures { λ r. ⌜ ((kind : Kind) → RunTells kind (now (table .entry)) glyphs source 0 r) ⌝ }
 {
     match source {
@@ -83,7 +83,7 @@ fn next_of(
     cursor: Cursor,
     glyph: usize,
 ) -> Run
-    requires { ⌜ (length (now table) ≤ 2 ^ 15) × (glyphs < 2 ^ 16) × (glyph < glyphs) × Sound (now table) glyphs source × ServesBy (now table) source glyph cursor ⌝ }
+    requires { ⌜ (length (now table) ≤ 2 ^ 15) × (glyphs < 2 ^ 16) × (glyph < glyphs) × SoundSource (now table) glyphs source × ServesBy (now table) source glyph cursor ⌝ }
     ensures { λ r. ⌜ RunTells kind (now (table .entry)) glyphs source glyph r × (glyph < r .until) ⌝ }
 {
     match source {
@@ -106,7 +106,7 @@ fn next_of(
 
 // The run itself where it tells what `glyph` has, else the next one.
 fn onward(table: &[u8], glyphs: usize, kind: Kind, source: Source, run: Run, glyph: usize) -> Run
-    requires { ⌜ (length (now table) ≤ 2 ^ 15) × (glyphs < 2 ^ 16) × (glyph < glyphs) × Sound (now table) glyphs source × RunTells kind (now table) glyphs source glyph run ⌝ }
+    requires { ⌜ (length (now table) ≤ 2 ^ 15) × (glyphs < 2 ^ 16) × (glyph < glyphs) × SoundSource (now table) glyphs source × RunTells kind (now table) glyphs source glyph run ⌝ }
     ensures { λ r. ⌜ RunTells kind (now (table .entry)) glyphs source glyph r × (glyph < r .until) ⌝ }
 {
     if glyph < run.until {
@@ -155,7 +155,7 @@ pub fn next_stretch<'a>(
     sources: Sources,
     runs: RunPair,
     glyph: usize,
-) -> Stretch
+) -> GlyphStretch
     requires { ⌜ BothSound (now one) (now other) sources × BothTell (now one) (now other) sources glyph runs × (glyph < sources .glyphs) ⌝ }
     ensures { λ r. ⌜ Splits (now (one .entry)) (now (other .entry)) sources glyph r ⌝ }
 {
@@ -166,7 +166,7 @@ pub fn next_stretch<'a>(
     let a = onward(one, glyphs, kind, source, runs.first, glyph);
     let b = onward(other, glyphs, kind, beside, runs.second, glyph);
     let both = fields::lower(even_end(a, glyph), even_end(b, glyph));
-    Stretch {
+    GlyphStretch {
         end: fields::lower(both, glyphs),
         places: Places {
             first: place_of(one, kind, source, a, glyph),

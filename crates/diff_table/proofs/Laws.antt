@@ -17,13 +17,13 @@ use Rattle.lookup_targets.specs.declared.Kind.{Kind}
 use Rattle.lookup_targets.specs.declared.Kind.the-variants.{Clusters, Lists}
 use Rattle.lookup_targets.specs.declared.Source.{Source}
 use Rattle.lookup_targets.specs.declared.Source.the-variants.{Lookup, Absent}
-use Rattle.lookup_targets.specs.Values.{Near, sourceFault}
+use Rattle.lookup_targets.specs.Values.{NearSource, sourceFault}
 use Rattle.table.specs.Table.{directionAt, machinePlace, sourceAt, machinePart, tableFault, Accepted}
 use Rattle.table.specs.Means.{directionOf, meaningOf}
 use Rattle.table.proofs.Laws.{machine-clear, source-clear}
 use Rattle.table_laws.proofs.Valid.{valid-meaning}
 use Rattle.write_item.specs.Items.{noItem}
-use Rattle.write_glyphs.specs.Places.{itemsFrom, glyphItem, Sound}
+use Rattle.write_glyphs.specs.Places.{itemsFrom, glyphItem, SoundSource}
 use Rattle.write_direction.proofs.Laws.{by-sources, direction-is, source-sound, side-clear}
 use Rattle.diff_stretches.specs.Stretches.{itemBy}
 use Rattle.diff_rule.specs.declared.Difference.{Difference}
@@ -34,7 +34,7 @@ use Rattle.diff_rule.proofs.Order.{differences-few}
 use Rattle.diff_rule.proofs.Stored.{numbers-length}
 use Rattle.diff_rule.proofs.Through.{through-same}
 use Rattle.diff_glyphs.specs.Glyphs.{itemDiffers, glyphDiffers, glyphsDiffer, Rises, AllRise, Comparable}
-use Rattle.diff_table.specs.declared.Sides.{Sides}
+use Rattle.diff_table.specs.declared.DirectionPair.{DirectionPair}
 use Rattle.diff_table.specs.Sides.{GoodSide, GoodSides, sidesOf, sourcesOf, machinesIn, kindIn, sidesIn}
 
 -- ---- a direction by its sources
@@ -44,7 +44,7 @@ unfolding itemsFrom
 item-get kind t n (Lookup at base) g l = getD-upto (glyphItem kind t n at base) n g (noItem kind) l
 item-get kind t n Absent g l = getD-replicate n g (noItem kind) (noItem kind) l
 
-module _ (t u : List ℕ) (s : Sides) where
+module _ (t u : List ℕ) (s : DirectionPair) where
   abbrev one : Side
   one = by-sources t (s .glyphs) (s .first)
 
@@ -93,7 +93,7 @@ module _ (t : List ℕ) (n at : ℕ) (good : GoodSide t n at) where
   pub place-clear : (p : ℕ) → p ≡ machinePlace t at → machinePart t n p ≡ Clear
   place-clear p e = ap (machinePart t n) e ∙ machine-clear t at n (good .clear .clear)
 
-  kind-sound : (kind : Kind) (s : Source) → (s ≡ sourceAt t at kind) × Near s → Sound t n s
+  kind-sound : (kind : Kind) (s : Source) → (s ≡ sourceAt t at kind) × NearSource s → SoundSource t n s
   kind-sound kind s e = source-sound t n kind s (e .1) (ap (sourceFault t n kind) (e .0) ∙ source-clear t at n (good .clear .clear) kind)
 
   kind-rises : (kind : Kind) (s : Source) → s ≡ sourceAt t at kind → AllRise kind t n s
@@ -101,7 +101,7 @@ module _ (t : List ℕ) (n at : ℕ) (good : GoodSide t n at) where
       subst (AllRise kind t n) (sym e) (record { each = all-rise kind t n at (subst (OkSide n) (direction-is t n at) (good .limits)) })
 
 -- the sources of two
-pub comparable : (t u : List ℕ) (s : Sides) (kind : Kind) (x y : Source) → GoodSides t u s → (x ≡ sourceAt t (s .first) kind) × Near x → (y ≡ sourceAt u (s .second) kind) × Near y
+pub comparable : (t u : List ℕ) (s : DirectionPair) (kind : Kind) (x y : Source) → GoodSides t u s → (x ≡ sourceAt t (s .first) kind) × NearSource x → (y ≡ sourceAt u (s .second) kind) × NearSource y
     → Comparable t u (record { kind = kind; glyphs = s .glyphs; first = x; second = y })
 comparable t u s kind x y good a b = record {
   sound = record {
@@ -131,10 +131,10 @@ module _ (t : List ℕ) (n : ℕ) (e : tableFault t n ≡ Clear) (bytes : Bytes 
 
 module _ (t u : List ℕ) (n : ℕ) where
   -- horizontal, then vertical
-  pub both-sides : (h v : Sides) → h ≡ sidesOf t u n Horizontal → v ≡ sidesOf t u n Vertical
+  pub both-sides : (h v : DirectionPair) → h ≡ sidesOf t u n Horizontal → v ≡ sidesOf t u n Vertical
       → sidesIn t u h ++ sidesIn t u v ≡ differences (meaningOf t n) (meaningOf u n)
   unfolding differences meaningOf
-  both-sides h v eh ev = ap₂ (λ (x y : Sides). sidesIn t u x ++ sidesIn t u y) eh ev
+  both-sides h v eh ev = ap₂ (λ (x y : DirectionPair). sidesIn t u x ++ sidesIn t u y) eh ev
 
   pub size-few : Bytes t → tableFault t n ≡ Clear → length (allNumbers (differences (meaningOf t n) (meaningOf u n))) < 2 ^ 30
   unfolding Accepted

@@ -36,7 +36,7 @@ fn same_bytes<'a>(one: &'a [u8], other: &'a [u8]) -> bool
 }
 
 // A direction of two tables that are read with one glyph count, and its offset in each, 0 where it is absent.
-struct Sides {
+struct DirectionPair {
     direction: Direction,
     glyphs: usize,
     first: usize,
@@ -44,11 +44,16 @@ struct Sides {
 }
 
 // A direction of two accepted tables.
-fn sides_of<'a>(one: &'a [u8], other: &'a [u8], glyphs: usize, direction: Direction) -> Sides
+fn sides_of<'a>(
+    one: &'a [u8],
+    other: &'a [u8],
+    glyphs: usize,
+    direction: Direction,
+) -> DirectionPair
     requires { ⌜ (tableFault (now one) glyphs ≡ Clear) × (tableFault (now other) glyphs ≡ Clear) ⌝ }
     ensures { λ r. ⌜ (r ≡ sidesOf (now (one .entry)) (now (other .entry)) glyphs direction) × GoodSides (now (one .entry)) (now (other .entry)) r ⌝ }
 {
-    Sides {
+    DirectionPair {
         direction,
         glyphs,
         first: table::direction_at(one, direction),
@@ -57,7 +62,7 @@ fn sides_of<'a>(one: &'a [u8], other: &'a [u8], glyphs: usize, direction: Direct
 }
 
 // Where the glyphs' clusters, or their lists, come from.
-fn sources_of<'a>(one: &'a [u8], other: &'a [u8], sides: Sides, kind: Kind) -> Sources
+fn sources_of<'a>(one: &'a [u8], other: &'a [u8], sides: DirectionPair, kind: Kind) -> Sources
     requires { ⌜ GoodSides (now one) (now other) sides ⌝ }
     ensures { λ r. ⌜ (r ≡ sourcesOf (now (one .entry)) (now (other .entry)) sides kind) × Comparable (now (one .entry)) (now (other .entry)) r ⌝ }
 {
@@ -73,7 +78,7 @@ fn sources_of<'a>(one: &'a [u8], other: &'a [u8], sides: Sides, kind: Kind) -> S
 fn put_kind<'a>(
     one: &'a [u8],
     other: &'a [u8],
-    sides: Sides,
+    sides: DirectionPair,
     kind: Kind,
     list: &mut [u16],
     to: usize,
@@ -90,7 +95,7 @@ fn put_kind<'a>(
 fn put_machines<'a>(
     one: &'a [u8],
     other: &'a [u8],
-    sides: Sides,
+    sides: DirectionPair,
     list: &mut [u16],
     to: usize,
 ) -> usize
@@ -104,7 +109,13 @@ fn put_machines<'a>(
 }
 
 // Stores the differences of one direction, and answers where they end.
-fn put_side<'a>(one: &'a [u8], other: &'a [u8], sides: Sides, list: &mut [u16], to: usize) -> usize
+fn put_side<'a>(
+    one: &'a [u8],
+    other: &'a [u8],
+    sides: DirectionPair,
+    list: &mut [u16],
+    to: usize,
+) -> usize
     requires { ⌜ GoodSides (now one) (now other) sides × (to < 2 ^ 54) ⌝ }
     ensures { λ r. ⌜ Stores (now (list .entry)) (now (list .exit)) to r (sidesIn (now (one .entry)) (now (other .entry)) sides) × (r ≤ to + 2 ^ 40) ⌝ }
 {

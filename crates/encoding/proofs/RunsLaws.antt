@@ -13,18 +13,18 @@ use Rattle.encoding.proofs.ListLaws.{all-append, all-replicate}
 
 module _ {A : Type 0} where
   -- the first run does not touch index j with value v
-  abbrev pub Apart : ℕ → A → List (Run A) → Type 0
-  Apart j v [] = Unit {0}
-  Apart j v (r ∷ rs) = r .first ≡ j → r .value ≡ v → ⊥
+  abbrev pub ApartAt : ℕ → A → List (Run A) → Type 0
+  ApartAt j v [] = Unit {0}
+  ApartAt j v (r ∷ rs) = r .first ≡ j → r .value ≡ v → ⊥
 
   replicate-cons : (k m : ℕ) (v : A) → k ≡ suc m → replicate k v ≡ v ∷ replicate m v
   replicate-cons k m v e = ap (λ (n : ℕ). replicate n v) e
 
-  pub apart : (skip : A) (n i : ℕ) (w : A) (rs : List (Run A)) → OkRuns skip n i w rs → Apart i w rs
+  pub apart : (skip : A) (n i : ℕ) (w : A) (rs : List (Run A)) → OkRuns skip n i w rs → ApartAt i w rs
   apart skip n i w [] h = tt
   apart skip n i w (r ∷ rs) h = h .4
 
-  pub ok-later : (skip : A) (n i j : ℕ) (w v : A) (rs : List (Run A)) → j ≤ i → (j ≡ i → Apart i v rs)
+  pub ok-later : (skip : A) (n i j : ℕ) (w v : A) (rs : List (Run A)) → j ≤ i → (j ≡ i → ApartAt i v rs)
       → OkRuns skip n i w rs → OkRuns skip n j v rs
   ok-later skip n i j w v [] h a o = omega arith
   ok-later skip n i j w v (r ∷ rs) h a o =
@@ -57,7 +57,7 @@ module _ {A : Type 0} (eq : Discrete A) where
       → push eq i x (r ∷ rs) ≡ record { first = i; last = r .last; value = x } ∷ rs
   push-joins i x r rs hf hv = if-pos (ℕ-discrete (r .first) (suc i)) hf _ _ ∙ if-pos (eq (r .value) x) hv _ _
 
-  pub push-apart : (i : ℕ) (x : A) (rs : List (Run A)) → Apart (suc i) x rs → push eq i x rs ≡ one i x ∷ rs
+  pub push-apart : (i : ℕ) (x : A) (rs : List (Run A)) → ApartAt (suc i) x rs → push eq i x rs ≡ one i x ∷ rs
   push-apart i x [] h = refl
   push-apart i x (r ∷ rs) h = go (ℕ-discrete (r .first) (suc i)) (eq (r .value) x)
     where
@@ -70,7 +70,7 @@ module _ {A : Type 0} (eq : Discrete A) where
   -- either the first run touches i + 1 with value x, or it does not
   data Meets (i : ℕ) (x : A) : List (Run A) → Type 0 where
     joins : (r : Run A) (rs : List (Run A)) → r .first ≡ suc i → r .value ≡ x → Meets i x (r ∷ rs)
-    stays : (rs : List (Run A)) → Apart (suc i) x rs → Meets i x rs
+    stays : (rs : List (Run A)) → ApartAt (suc i) x rs → Meets i x rs
 
   meets : (i : ℕ) (x : A) (rs : List (Run A)) → Meets i x rs
   meets i x [] = stays [] tt
@@ -144,11 +144,11 @@ module _ {A : Type 0} (eq : Discrete A) (skip : A) where
   runs-skips (suc k) i ys =
       if-pos (eq skip skip) refl _ _ ∙ runs-skips k (suc i) ys ∙ ap (λ (j : ℕ). runs eq skip j ys) (omega arith)
 
-  pub runs-block : (k i l : ℕ) (v : A) (ys : List A) → l ≡ i + k → (v ≡ skip → ⊥) → Apart (suc l) v (runs eq skip (suc l) ys)
+  pub runs-block : (k i l : ℕ) (v : A) (ys : List A) → l ≡ i + k → (v ≡ skip → ⊥) → ApartAt (suc l) v (runs eq skip (suc l) ys)
       → runs eq skip i (replicate (suc k) v ++ ys) ≡ record { first = i; last = l; value = v } ∷ runs eq skip (suc l) ys
   runs-block zero i l v ys e hs a =
       let f : l ≡ i = omega arith in
-      let a′ : Apart (suc i) v (runs eq skip (suc i) ys) = subst (λ (m : ℕ). Apart (suc m) v (runs eq skip (suc m) ys)) f a in
+      let a′ : ApartAt (suc i) v (runs eq skip (suc i) ys) = subst (λ (m : ℕ). ApartAt (suc m) v (runs eq skip (suc m) ys)) f a in
       if-neg (eq v skip) hs _ _ ∙ push-apart eq i v (runs eq skip (suc i) ys) a′
       ∙ ap (λ (m : ℕ). record { first = i; last = m; value = v } ∷ runs eq skip (suc m) ys) (sym f)
   runs-block (suc k) i l v ys e hs a =
@@ -165,8 +165,8 @@ module _ {A : Type 0} (eq : Discrete A) (skip : A) where
       let ih : runs eq skip (suc (r .last)) t ≡ rs = runs-unrun rs n (suc (r .last)) (r .value) (o .5) in
       let e : suc (r .last) - r .first ≡ suc k = omega (arith, o .1) in
       let f : i + (r .first - i) ≡ r .first = omega (arith, o .0) in
-      let a : Apart (suc (r .last)) (r .value) (runs eq skip (suc (r .last)) t) =
-      subst (Apart (suc (r .last)) (r .value)) (sym ih) (apart skip n (suc (r .last)) (r .value) rs (o .5)) in
+      let a : ApartAt (suc (r .last)) (r .value) (runs eq skip (suc (r .last)) t) =
+      subst (ApartAt (suc (r .last)) (r .value)) (sym ih) (apart skip n (suc (r .last)) (r .value) rs (o .5)) in
       runs-skips (r .first - i) i (replicate (suc (r .last) - r .first) (r .value) ++ t)
       ∙ ap₂ (λ (j m : ℕ). runs eq skip j (replicate m (r .value) ++ t)) f e
       ∙ runs-block k (r .first) (r .last) (r .value) t (omega (arith, o .1)) (o .3) a

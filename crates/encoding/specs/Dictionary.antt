@@ -28,7 +28,7 @@ abbrev pub Free : {A : Type 0} → (A → List ℕ) → Type 0
 Free words = PrefixFree words (λ x. Unit {0})
 
 -- two lists begin alike, and what is left of them, if anything, begins with two items that differ, `one a` and `other b`: these tell which list comes before
-pub record Apart {A : Type 0} (words : A → List ℕ) (one other : ℕ → A) (xs ys : List A) (left a b : ℕ) : Type 0 where
+pub record ApartAt {A : Type 0} (words : A → List ℕ) (one other : ℕ → A) (xs ys : List A) (left a b : ℕ) : Type 0 where
   pub same : left ≡ 0 → xs ≡ ys
   pub differ : 0 < left → xs ≡ ys → ⊥
   pub tells : 0 < left → (earlier : Bool) → Says earlier (Before (words (one a)) (words (other b)))

@@ -3,10 +3,10 @@ use Prim.Native.Nat.{ℕ}
 use mathlib.Core.List.{List}
 use mathlib.Core.Path.{_≡_, sym, ap, _∙_}
 use Rattle.types.specs.declared.HeldAction.{HeldAction}
-use Rattle.answers.specs.declared.Sought.{Sought}
-use Rattle.answers.specs.declared.Sought.the-variants.{Found, Nothing, Refused}
+use Rattle.answers.specs.declared.ActionSought.{ActionSought}
+use Rattle.answers.specs.declared.ActionSought.the-variants.{Found, Nothing, Refused}
 use Rattle.answers.specs.Says.{Reply, saysSought, roomAfter}
-use Rattle.sheet_write.specs.Written.{Said, refused, bytes, Outcome}
+use Rattle.sheet_write.specs.Written.{Said, refused, bytes, SheetOutcome}
 use Rattle.diff_call.specs.Calls.{ListAnswer}
 use Rattle.just_c.specs.declared.JustLength.{JustLength}
 use Rattle.just_c.specs.declared.JustCount.{JustCount}
@@ -15,7 +15,7 @@ use Rattle.just_c.specs.WriterInC.{lengthIn, OutcomeInC, outcomeIn}
 use Rattle.just_c.specs.DiffInC.{ListedInC, listedIn}
 
 -- an action's answer, with the room that its reply asks for, is the reply's struct
-pub action-given : (s : Sought) (h : HeldAction) (r : Reply) → saysSought s h ≡ r → h ≡ roomAfter r → actionOut s h ≡ actionIn r
+pub action-given : (s : ActionSought) (h : HeldAction) (r : Reply) → saysSought s h ≡ r → h ≡ roomAfter r → actionOut s h ≡ actionIn r
 action-given Found h r e k = ap (actionOut Found) (k ∙ ap roomAfter (sym e)) ∙ ap actionIn e
 action-given Nothing h r e k = ap (actionOut Nothing) (k ∙ ap roomAfter (sym e)) ∙ ap actionIn e
 action-given (Refused x at) h r e k = ap (actionOut (Refused x at)) (k ∙ ap roomAfter (sym e)) ∙ ap actionIn e
@@ -28,8 +28,8 @@ pub length-refused : (n k at : ℕ) (s : Said) → n ≡ k → s ≡ refused k a
 length-refused n k at s i e = cc
 
 -- the same, with the room that the writer was lent
-pub outcome-given : (a : JustLength) (s : Said) (after : List ℕ) (o : Outcome) → a ≡ lengthIn s
-    → _≡_ {A = Outcome} (record { said = s; room = after }) o
+pub outcome-given : (a : JustLength) (s : Said) (after : List ℕ) (o : SheetOutcome) → a ≡ lengthIn s
+    → _≡_ {A = SheetOutcome} (record { said = s; room = after }) o
     → _≡_ {A = OutcomeInC} (record { answer = a; room = after }) (outcomeIn o)
 outcome-given a s after o e k = cc
 

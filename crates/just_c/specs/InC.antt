@@ -6,8 +6,8 @@ use Rattle.types.specs.declared.Entry.{Entry}
 use Rattle.types.specs.declared.Pair.{Pair}
 use Rattle.types.specs.declared.HeldAction.{HeldAction}
 use Rattle.meaning.specs.Ask.{Answer, nothing, number, both, entry, pair, act, held}
-use Rattle.answers.specs.declared.Sought.{Sought}
-use Rattle.answers.specs.declared.Sought.the-variants as sought
+use Rattle.answers.specs.declared.ActionSought.{ActionSought}
+use Rattle.answers.specs.declared.ActionSought.the-variants as sought
 use Rattle.answers.specs.Says.{Judgement, accepted, barred, Reply, refused, given, noAction}
 use Rattle.actions.specs.declared.Stretch.{Stretch}
 use Rattle.just_c.specs.declared.JustChecked.{JustChecked}
@@ -126,7 +126,7 @@ abbrev pub actionIn : Reply → JustAction
 actionIn = replyIn noHeld actionGiven
 
 -- an action's answer with its room, as it was found or not
-abbrev pub actionOut : Sought → HeldAction → JustAction
+abbrev pub actionOut : ActionSought → HeldAction → JustAction
 actionOut sought.Found h = record { refusal = 0; offset = 0; found = true; action = h }
 actionOut sought.Nothing h = record { refusal = 0; offset = 0; found = false; action = h }
 actionOut (sought.Refused r at) h = record { refusal = numberOf r; offset = at; found = false; action = h }

@@ -19,13 +19,13 @@ ghost use Rattle.just_c.specs.WriterInC.{lengthIn, OutcomeInC, outcomeIn
 ghost use Rattle.diff_call.specs.Calls.{differencesCounted, differencesListed};
 ghost use Rattle.just_c.specs.DiffInC.{ListedInC, listedIn};
 use answers::ActionAnswer;
+use answers::ActionSought;
 use answers::CellAnswer;
 use answers::Checked;
 use answers::ClassAnswer;
 use answers::CountAnswer;
 use answers::RecordAnswer;
 use answers::SizesAnswer;
-use answers::Sought;
 use font_open::JustFont;
 use sheet_write::LengthAnswer;
 use sheet_write::WriteAnswer;
@@ -244,19 +244,19 @@ fn action_out(answer: ActionAnswer) -> JustAction
     let sought = answer.sought;
     let action = answer.action;
     match sought {
-        Sought::Found => JustAction {
+        ActionSought::Found => JustAction {
             refusal: 0,
             offset: 0,
             found: true,
             action,
         },
-        Sought::Nothing => JustAction {
+        ActionSought::Nothing => JustAction {
             refusal: 0,
             offset: 0,
             found: false,
             action,
         },
-        Sought::Refused { refusal, at } => JustAction {
+        ActionSought::Refused { refusal, at } => JustAction {
             refusal: fields::number_of(refusal),
             offset: at as u64,
             found: false,

@@ -32,7 +32,7 @@ use Rattle.line_call.specs.declared.Worked.{Worked}
 use Rattle.line_call.specs.declared.Worked.the-variants as worked
 use Rattle.line_call.specs.Justified.{justifies, roomTest, workedFault, lineFault, settled, justified}
 use Rattle.line_call.specs.Settle.{lentBy, settlementIs, settlementIn, Room, Tells}
-use Rattle.line_call.specs.Steps.{inputFault, Judged, workFault, restFault, workedBy, MovesOf, WorkedOut, Counted, LineRoom, refusedBy, Deliverable, Delivered, SettledIn}
+use Rattle.line_call.specs.Steps.{inputFault, Admitted, workFault, restFault, workedBy, MovesOf, WorkedOut, Counted, LineRoom, refusedBy, Deliverable, Delivered, SettledIn}
 use Rattle.line_call.proofs.Tests.{lengths-hold, sizes-small}
 use Rattle.line_call.proofs.Work.{barred}
 
@@ -124,7 +124,7 @@ module _ (s : Side) (n : ℕ) (l : Line) (room : ℕ) where
 
     module _ (tally : Tally) (q : w ≡ worked.Done tally) where
       -- what the verdicts are asked of
-      pub has-moves : {t : List ℕ} {m : ℕ} (sizes glyphs : List ℕ) → Judged t m sizes glyphs → length cs ≡ length glyphs → length ms ≡ 2 * length glyphs
+      pub has-moves : {t : List ℕ} {m : ℕ} (sizes glyphs : List ℕ) → Admitted t m sizes glyphs → length cs ≡ length glyphs → length ms ≡ 2 * length glyphs
           → HasMoves t m sizes cs ms glyphs
       has-moves {t} {m} sizes glyphs j ec em =
           let low = worked-clear o tally q .moves .low in
@@ -237,7 +237,7 @@ module _ (t : List ℕ) (n : ℕ) (l : Line) (cs : List ℕ) (bs fs : List ℤ) 
 
   -- what holds where the table's refusals, 9, 10, 18 and 11 do not bar the line
   pub record Input : Type 0 where
-    pub judged : Judged t n (l .sizes) (l .glyphs)
+    pub judged : Admitted t n (l .sizes) (l .glyphs)
     pub room : LineRoom (length (l .glyphs)) cs bs fs
 
   pub input-clear : {f : Fault} → f ≡ input → f ≡ Clear → Input

@@ -11,7 +11,7 @@ use lib.ListN.{length, getD, take, drop, set, drop-of-length-le}
 use lib.Seq.{drop-cons}
 use borrow.Author.Tests.{leb-true, ltb-true, eqb-true}
 use Rattle.share.proofs.Fill.{fill-again, fill-end}
-use Rattle.line_moves.specs.Parts.{Known, SmallSizes}
+use Rattle.line_moves.specs.Parts.{KnownGlyphs, SmallSizes}
 use Rattle.line_call.specs.Justified.{allLong, goodSize, goodSizes, allKnown}
 
 -- ---- conjunctions
@@ -91,7 +91,7 @@ sizes-small [] e place = omega arith
 sizes-small (z ∷ zs) e zero = leb-true z 67108864 (and-right (leb 1 z) (leb z 67108864) (and-left (goodSize z) (goodSizes zs) e))
 sizes-small (z ∷ zs) e (suc place) = sizes-small zs (and-right (goodSize z) (goodSizes zs) e) place
 
-pub known-each : (n : ℕ) (gs : List ℕ) → allKnown n gs ≡ true → Known n gs
+pub known-each : (n : ℕ) (gs : List ℕ) → allKnown n gs ≡ true → KnownGlyphs n gs
 known-each n [] e place h = absurd (omega arith)
 known-each n (g ∷ gs) e zero h = go (ltb g n) refl (and-left (ltb g n || eqb g 0xFFFF) (allKnown n gs) e)
   where

@@ -30,7 +30,7 @@ use Rattle.share.specs.Line.{Glyph, evens, odds, lineMoves, lineLeft, beforeMov
 use Rattle.share.proofs.Lines.{line-sum-signed, line-remainder, line-limits, line-full, line-lengths}
 use Rattle.line_rule.specs.Line.{Line, goesBack, gapOf, shrinks, gapSize, walkMachine, columnOf, walkOf, hasStopped, classesOf, entriesOf, partsFor, beforeOf, afterOf, remainderOf, verdictsOf}
 use Rattle.line_rule.proofs.Still.{none-signed}
-use Rattle.line_moves.specs.Parts.{Known}
+use Rattle.line_moves.specs.Parts.{KnownGlyphs}
 use Rattle.line_moves.proofs.Walks.{walk-length}
 use Rattle.line_moves.proofs.Parts.{parts-length}
 use Rattle.line_call.specs.Justified.{Lent, justifies, refuses, lengthsOf, workedFault, lineFault, settled, justified}
@@ -139,7 +139,7 @@ module _ (t : List ℕ) (n : ℕ) (l : Line) (b : Lent) where
   pub record Cleared : Type 0 where
     pub accepted : tableFault t n ≡ Clear
     pub short : length (l .glyphs) ≤ 1024
-    pub known : Known n (l .glyphs)
+    pub known : KnownGlyphs n (l .glyphs)
     pub stops : hasStopped (walkOf (side .machine) l) ≡ true
     pub classes : length (classesOf (walkOf (side .machine) l)) ≡ length (l .glyphs)
     pub before : length (beforeOf side l) ≡ length (l .glyphs)
@@ -207,7 +207,7 @@ limits-full t n l b z k v two e other =
 -- ---- the class walk
 
 -- a machine that keeps its limits, and a line of known glyphs, fit each other
-module _ (n : ℕ) (m : Machine) (ok : OkMachine n m) (gs : List ℕ) (known : Known n gs) (starts ends : Bool) where
+module _ (n : ℕ) (m : Machine) (ok : OkMachine n m) (gs : List ℕ) (known : KnownGlyphs n gs) (starts ends : Bool) where
   column-low : (g : ℕ) → (g ≡ 0xFFFF) ⊎ (g < n) → columnOf m g < m .classes
   column-low g w = go (ℕ-discrete g 0xFFFF) w
     where
@@ -219,7 +219,7 @@ module _ (n : ℕ) (m : Machine) (ok : OkMachine n m) (gs : List ℕ) (known : K
       go (no e) (inl q) = absurd (e q)
       go (no e) (inr q) = rw (ne-eqb g 0xFFFF e) (all-at (λ (c : ℕ). c < m .classes) (m .columns) 1 g (ok .columns) (omega (arith, ok .column-count)))
 
-  columns-low : (xs : List ℕ) → Known n xs → (place : ℕ) → place < length (map (columnOf m) xs) → getD (map (columnOf m) xs) place 0 < m .classes
+  columns-low : (xs : List ℕ) → KnownGlyphs n xs → (place : ℕ) → place < length (map (columnOf m) xs) → getD (map (columnOf m) xs) place 0 < m .classes
   columns-low [] w place h = absurd (omega arith)
   columns-low (x ∷ xs) w zero h = column-low x (w 0 (omega arith))
   columns-low (x ∷ xs) w (suc place) h = columns-low xs (λ i q. w (suc i) (omega arith)) place (omega arith)
@@ -233,7 +233,7 @@ module _ (n : ℕ) (m : Machine) (ok : OkMachine n m) (gs : List ℕ) (known : K
         columns-low = columns-low gs known;
       }
 
-module _ (n : ℕ) (m : Machine) (ok : OkMachine n m) (l : Line) (known : Known n (l .glyphs)) where
+module _ (n : ℕ) (m : Machine) (ok : OkMachine n m) (l : Line) (known : KnownGlyphs n (l .glyphs)) where
   -- THE WALK ENDS with the classes and the count that are reported, and takes at most S × (glyphs + 1) entries
   pub walk-ends : hasStopped (walkOf (some m) l) ≡ true
       → Ends (walkMachine m) (lineOf (map (columnOf m) (l .glyphs)) (l .starts) (l .ends)) (classesOf (walkOf (some m) l)) (entriesOf (walkOf (some m) l))

@@ -52,7 +52,7 @@ unfoldable pub gapIn : Line → Gap
 gapIn l = cond (goodAdvances l) (gap.Of (inUnits (gapOf l))) gap.Unfit
 
 -- what is known of a table and a line that none of these bars
-pub record Judged (t : List ℕ) (n : ℕ) (zs gs : List ℕ) : Type 0 where
+pub record Admitted (t : List ℕ) (n : ℕ) (zs gs : List ℕ) : Type 0 where
   pub accepted : tableFault t n ≡ Clear
   pub short : length gs ≤ 1024
   pub sizes : length zs ≡ length gs
@@ -129,11 +129,11 @@ pub record SettledIn (s : Side) (n : ℕ) (l : Line) (room : ℕ) (cs : List ℕ
   pub tells : Tells (answer .stored) (verdictsOf s l) work
 
 -- a table, a line's glyphs with their sizes and advances, and what the call says beside them: the line, and the meaning of its direction
-abbrev pub lineIn : Call → List ℕ → List ℕ → List ℤ → Line
-lineIn call zs gs advances = lineBy (call .shape) zs gs advances
+abbrev pub calledLine : Call → List ℕ → List ℕ → List ℤ → Line
+calledLine call zs gs advances = lineBy (call .shape) zs gs advances
 
 abbrev pub sideIn : List ℕ → Call → Side
 sideIn t call = sideOf (call .shape .direction) (meaningOf t (call .count))
 
 abbrev pub SettledCall : List ℕ → Call → List ℕ → List ℕ → List ℤ → List ℕ → List ℤ → List ℤ → Settled → List ℕ → List ℤ → List ℤ → List ℕ → Type 0
-SettledCall t call zs gs advances = SettledIn (sideIn t call) (call .count) (lineIn call zs gs advances) (call .room)
+SettledCall t call zs gs advances = SettledIn (sideIn t call) (call .count) (calledLine call zs gs advances) (call .room)

@@ -14,7 +14,7 @@ ghost use Rattle.line_rule.specs.Line.{verdictsOf};
 ghost use Rattle.line_call.specs.declared.Worked.the-variants.{Bad};
 ghost use Rattle.line_call.specs.Justified.{allLong, goodSize, goodSizes, allKnown, justified};
 ghost use Rattle.line_call.specs.Settle.{lineBy, lentBy, settlementIs, settlementIn, Room, Tells};
-ghost use Rattle.line_call.specs.Steps.{measuredLine, sumIn, gapIn, inputFault, Judged, workFault, sideIn, lineIn, WorkedOut, Counted, WorkRoom, LineRoom, refusedBy, Deliverable, Delivered, SettledCall};
+ghost use Rattle.line_call.specs.Steps.{measuredLine, sumIn, gapIn, inputFault, Admitted, workFault, sideIn, calledLine, WorkedOut, Counted, WorkRoom, LineRoom, refusedBy, Deliverable, Delivered, SettledCall};
 use fields::Fault;
 use fields::Refusal;
 use line_moves::Shared;
@@ -257,8 +257,8 @@ fn share_out(
     moves: &mut [u64],
     factors: &mut [u64],
 ) -> Worked
-    requires { ⌜ Judged (now table) (call .count) (now sizes) (now glyphs) × WorkRoom (length (now glyphs)) (now held) (now moves) (now factors) ⌝ }
-    ensures { λ r. ⌜ WorkedOut (workFault (sideIn (now (table .entry)) call) (call .count) (lineIn call (now (sizes .entry)) (now (glyphs .entry)) (now (advances .entry)))) 0 (sideIn (now (table .entry)) call) (lineIn call (now (sizes .entry)) (now (glyphs .entry)) (now (advances .entry))) r (now (held .exit)) (now (moves .exit)) ⌝ }
+    requires { ⌜ Admitted (now table) (call .count) (now sizes) (now glyphs) × WorkRoom (length (now glyphs)) (now held) (now moves) (now factors) ⌝ }
+    ensures { λ r. ⌜ WorkedOut (workFault (sideIn (now (table .entry)) call) (call .count) (calledLine call (now (sizes .entry)) (now (glyphs .entry)) (now (advances .entry)))) 0 (sideIn (now (table .entry)) call) (calledLine call (now (sizes .entry)) (now (glyphs .entry)) (now (advances .entry))) r (now (held .exit)) (now (moves .exit)) ⌝ }
 {
     let count = call.count;
     let shape = call.shape;
@@ -306,8 +306,8 @@ fn work_out<'a, 'b>(
     moves: &'a mut [u64],
     work: &'b mut [u64],
 ) -> Worked
-    requires { ⌜ Judged (now table) (call .count) (now sizes) (now glyphs) × WorkRoom (length (now glyphs)) (now held) (now moves) (now work) ⌝ }
-    ensures { λ r. ⌜ Counted (sideIn (now (table .entry)) call) (call .count) (lineIn call (now (sizes .entry)) (now (glyphs .entry)) (now (advances .entry))) (call .room) r (now (held .exit)) (now (moves .exit)) (now (work .exit)) ⌝ }
+    requires { ⌜ Admitted (now table) (call .count) (now sizes) (now glyphs) × WorkRoom (length (now glyphs)) (now held) (now moves) (now work) ⌝ }
+    ensures { λ r. ⌜ Counted (sideIn (now (table .entry)) call) (call .count) (calledLine call (now (sizes .entry)) (now (glyphs .entry)) (now (advances .entry))) (call .room) r (now (held .exit)) (now (moves .exit)) (now (work .exit)) ⌝ }
 {
     let shared = share_out(table, call, sizes, glyphs, advances, held, moves, work);
     let Worked::Done(tally) = shared else {
@@ -386,7 +386,7 @@ fn settle_in<'a, 'b>(
     after: &'b mut [i32],
     work: &'b mut [u64],
 ) -> Settled
-    requires { ⌜ Judged (now table) (call .count) (now sizes) (now glyphs) × WorkRoom (length (now glyphs)) (now held) (now moves) (now work) × LineRoom (length (now glyphs)) (now classes) (now before) (now after) ⌝ }
+    requires { ⌜ Admitted (now table) (call .count) (now sizes) (now glyphs) × WorkRoom (length (now glyphs)) (now held) (now moves) (now work) × LineRoom (length (now glyphs)) (now classes) (now before) (now after) ⌝ }
     ensures { λ r. ⌜ SettledCall (now (table .entry)) call (now (sizes .entry)) (now (glyphs .entry)) (now (advances .entry)) (now (classes .entry)) (now (before .entry)) (now (after .entry)) r (now (classes .exit)) (now (before .exit)) (now (after .exit)) (now (work .exit)) ⌝ }
 {
     let worked = work_out(table, call, sizes, glyphs, advances, held, moves, work);
@@ -408,7 +408,7 @@ fn settle_with_room<'a, 'b>(
     after: &'b mut [i32],
     work: &'b mut [u64],
 ) -> Settled
-    requires { ⌜ Judged (now table) (call .count) (now sizes) (now glyphs) × (length (now work) ≡ 2 * length (now glyphs)) × LineRoom (length (now glyphs)) (now classes) (now before) (now after) ⌝ }
+    requires { ⌜ Admitted (now table) (call .count) (now sizes) (now glyphs) × (length (now work) ≡ 2 * length (now glyphs)) × LineRoom (length (now glyphs)) (now classes) (now before) (now after) ⌝ }
     ensures { λ r. ⌜ SettledCall (now (table .entry)) call (now (sizes .entry)) (now (glyphs .entry)) (now (advances .entry)) (now (classes .entry)) (now (before .entry)) (now (after .entry)) r (now (classes .exit)) (now (before .exit)) (now (after .exit)) (now (work .exit)) ⌝ }
 {
     let n = glyphs.len();

@@ -5,7 +5,7 @@ use mathlib.Core.List.{List, [], _∷_}
 use native.Mathlib.Omega.{arith}
 use lib.ListN.{length, set, drop, length-drop}
 use Rattle.types.specs.declared.Verdict.{Verdict}
-use Rattle.line_verdicts.specs.declared.Cursor.{Cursor}
+use Rattle.line_verdicts.specs.declared.VerdictCursor.{VerdictCursor}
 use Rattle.line_verdicts.specs.declared.VerdictStep.{VerdictStep}
 use Rattle.line_verdicts.specs.Bits.{told, leftAt, startCursor, Serves}
 use Rattle.line_verdicts.proofs.Told.{start-left, start-serves}
@@ -44,7 +44,7 @@ drop-next (x ∷ vs) zero v rest e = cc
 drop-next (x ∷ vs) (suc i) v rest e = drop-next vs i v rest e
 
 -- a cursor where i of the verdicts are taken
-pub record Taken (bits : List ℕ) (i : ℕ) (c : Cursor) : Type 0 where
+pub record Taken (bits : List ℕ) (i : ℕ) (c : VerdictCursor) : Type 0 where
   pub left : leftAt bits c ≡ drop i (told bits)
   pub serves : Serves bits c
 
@@ -53,7 +53,7 @@ module _ (bits : List ℕ) where
   pub taken-none : Taken bits 0 startCursor
   taken-none = record { left = start-left bits; serves = start-serves bits }
 
-  module _ (i : ℕ) (c : Cursor) (k : Taken bits i c) where
+  module _ (i : ℕ) (c : VerdictCursor) (k : Taken bits i c) where
     -- where there are more, one is left
     pub one-left : i < length (told bits) → 0 < length (leftAt bits c)
     one-left h = omega (arith, h, length-drop i (told bits), ap (λ (vs : List Verdict). length vs) (k .left))

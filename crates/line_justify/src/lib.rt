@@ -10,7 +10,7 @@ ghost use Rattle.line_justify.specs.Outcome.{outcomeIs};
 ghost use Rattle.line_justify.specs.Stored.{filledWith, Storable};
 use line_call::LineAnswer;
 use line_rule::LineShape;
-use line_verdicts::Cursor;
+use line_verdicts::VerdictCursor;
 use types::Verdict;
 
 // The one place where a record is stored.
@@ -26,7 +26,7 @@ fn fill<'v, 'a>(list: &'v mut [Verdict], bits: &'a [u64], n: usize)
     requires { ⌜ Storable (now bits) n (length (now list)) ⌝ }
     ensures { λ _. ⌜ now (list .exit) ≡ filledWith (told (now (bits .entry))) n (now (list .entry)) ⌝ }
 {
-    let mut cursor = Cursor {
+    let mut cursor = VerdictCursor {
         next: 0,
         number: 0,
         fires: 0,

@@ -24,7 +24,7 @@ use Rattle.lookup.specs.Lookup.{formatFault, lookupFault}
 use Rattle.cluster.specs.Faults.{classAt, classFault, growFault, shrinkFault, flagsFault, pairFault, clusterFault}
 use Rattle.lookup_targets.specs.Values.{placeFault, glyphFault, valuesFault}
 use Rattle.table.specs.Table.{Accepted, present, headerFault, offsetsFault, machinePart, actionPart, directionFault, tableFault}
-use Rattle.table_laws.specs.Order.{Free}
+use Rattle.table_laws.specs.Order.{NoFault}
 use Rattle.table_laws.proofs.Faults.{rule-bad}
 use Rattle.line_rule.specs.Line.{Line, knownEdition}
 use Rattle.line_call.specs.Justified.{Lent, lengthsOf, equalLengths, goodSizes, workTests, roomTest, refuses, workedFault, lineFault, justified}
@@ -58,14 +58,14 @@ module _ (t : List ℕ) (n : ℕ) (l : Line) (b : Lent) where
       spared-behind : All (Spares UnknownEdition) behind
       spared-behind = (rule-spares PointSize _ refl, (rule-spares Advances _ refl, (rule-spares UnknownGlyph _ refl, (rule-spares EndlessWalk _ refl, (rule-spares StageTotal _ refl, (rule-spares ShortRoom _ refl, tt))))))
 
-      free : Accepted t n → OneLength l b → length (l .glyphs) ≤ 1024 → Free ahead
+      free : Accepted t n → OneLength l b → length (l .glyphs) ≤ 1024 → NoFault ahead
       free ok one short = (ok, (rule-clear UnequalLengths 0 (lengths-are l b .1 one), (rule-clear LongLine 0 (le-leb _ _ short), tt)))
 
       unknown : (known : Bool) → knownEdition (l .edition) ≡ known → (KnownEdition (l .edition) → ⊥) → knownEdition (l .edition) ≡ false
       unknown true e h = absurd (h (edition-is (l .edition) .0 e))
       unknown false e h = e
 
-      refused : Free ahead × (named ≡ Bad UnknownEdition 0) → Accepted t n × OneLength l b × (length (l .glyphs) ≤ 1024) × (KnownEdition (l .edition) → ⊥)
+      refused : NoFault ahead × (named ≡ Bad UnknownEdition 0) → Accepted t n × OneLength l b × (length (l .glyphs) ≤ 1024) × (KnownEdition (l .edition) → ⊥)
       refused ((ok, (p9, (p10, _))), q) = (
         ok,
         lengths-are l b .0 (rule-holds _ UnequalLengths 0 p9),

@@ -29,7 +29,7 @@ use Rattle.cluster.specs.Pairs.{pairAt, pairsAt, clusterAt}
 use Rattle.lookup_targets.specs.Values.{placeFault, glyphFault, valuesFault, clusterOf}
 use Rattle.table.specs.Table.{Accepted, present, headerFault, offsetsFault, machinePart, actionPart, directionFault, tableFault}
 use Rattle.table.specs.Means.{machineOf, listsOf, sideAt, directionOf, meaningOf}
-use Rattle.table_laws.specs.Order.{Free}
+use Rattle.table_laws.specs.Order.{NoFault}
 use Rattle.table_laws.proofs.Faults.{rule-bad}
 use Rattle.share.specs.Share.{stages, shares, stageMoves, stageLeft, movesBy, leftBy}
 use Rattle.share.specs.Line.{lineFits, lineMoves, lineLeft}
@@ -99,13 +99,13 @@ module _ (t : List ℕ) (n : ℕ) (l : Line) (b : Lent) where
       spared-behind : All (Spares PointSize) behind
       spared-behind = (rule-spares Advances _ refl, (rule-spares UnknownGlyph _ refl, (rule-spares EndlessWalk _ refl, (rule-spares StageTotal _ refl, (rule-spares ShortRoom _ refl, tt)))))
 
-      free : Accepted t n → OneLength l b → length (l .glyphs) ≤ 1024 → KnownEdition (l .edition) → Free ahead
+      free : Accepted t n → OneLength l b → length (l .glyphs) ≤ 1024 → KnownEdition (l .edition) → NoFault ahead
       free ok one short known = (
         ok,
         (rule-clear UnequalLengths 0 (lengths-are l b .1 one), (rule-clear LongLine 0 (le-leb _ _ short), (rule-clear UnknownEdition 0 (edition-is (l .edition) .1 known), tt))),
       )
 
-      refused : Free ahead × (sized ≡ Bad PointSize 0) → Accepted t n × OneLength l b × (length (l .glyphs) ≤ 1024) × KnownEdition (l .edition) × OutOfRange (l .sizes)
+      refused : NoFault ahead × (sized ≡ Bad PointSize 0) → Accepted t n × OneLength l b × (length (l .glyphs) ≤ 1024) × KnownEdition (l .edition) × OutOfRange (l .sizes)
       refused ((ok, (p9, (p10, (p18, _)))), q) = (
         ok,
         lengths-are l b .0 (rule-holds _ UnequalLengths 0 p9),

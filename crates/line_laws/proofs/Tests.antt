@@ -12,7 +12,7 @@ use borrow.Author.Tests.{leb-true, le-leb, eqb-true, eq-eqb, lt-ltb}
 use Rattle.share.specs.Share.{total, stages, most}
 use Rattle.share.specs.Line.{Glyph, lineFits, sumℤ}
 use Rattle.line_rule.specs.Line.{Line, knownEdition}
-use Rattle.line_moves.specs.Parts.{Known}
+use Rattle.line_moves.specs.Parts.{KnownGlyphs}
 use Rattle.line_call.specs.Justified.{Lent, equalLengths, lengthsOf, goodSize, goodSizes, within, noneNegative, goodAdvances, allKnown}
 use Rattle.line_call.proofs.Tests.{and-left, and-right, lengths-hold, known-each}
 use Rattle.line_laws.specs.Bars.{OneLength, KnownEdition, Sized, Measured, stageTotal, SmallTotals}
@@ -127,7 +127,7 @@ advances-are l = (holds, tested)
 
 -- ---- 13
 
-pub glyphs-are : (n : ℕ) (gs : List ℕ) → (allKnown n gs ≡ true) ↔ Known n gs
+pub glyphs-are : (n : ℕ) (gs : List ℕ) → (allKnown n gs ≡ true) ↔ KnownGlyphs n gs
 glyphs-are n gs = (known-each n gs, tested gs)
   where
     one : (g : ℕ) → (g ≡ 0xFFFF) ⊎ (g < n) → (ltb g n || eqb g 0xFFFF) ≡ true
@@ -138,7 +138,7 @@ glyphs-are n gs = (known-each n gs, tested gs)
         go true = refl
         go false = eq-eqb g 0xFFFF e
 
-    tested : (xs : List ℕ) → Known n xs → allKnown n xs ≡ true
+    tested : (xs : List ℕ) → KnownGlyphs n xs → allKnown n xs ≡ true
     tested [] h = refl
     tested (x ∷ xs) h = and-both (one x (h 0 (omega arith))) (tested xs (λ place q. h (suc place) (omega arith)))
 

@@ -27,11 +27,11 @@ use Rattle.class_walk.proofs.Laws.{never-walked}
 use Rattle.share.specs.Line.{lineFits}
 use Rattle.table.specs.Table.{Accepted, tableFault}
 use Rattle.table.specs.Means.{meaningOf}
-use Rattle.table_laws.specs.Order.{Free}
+use Rattle.table_laws.specs.Order.{NoFault}
 use Rattle.table_laws.proofs.Faults.{rule-bad}
 use Rattle.table_laws.proofs.Valid.{valid-meaning}
 use Rattle.line_rule.specs.Line.{Line, knownEdition, walkMachine, walkOf, hasStopped, classesOf, entriesOf, partsFor}
-use Rattle.line_moves.specs.Parts.{Known}
+use Rattle.line_moves.specs.Parts.{KnownGlyphs}
 use Rattle.line_call.specs.Justified.{Lent, lengthsOf, equalLengths, goodSizes, goodAdvances, allKnown, roomTest, justifies, refuses, justified}
 use Rattle.line_call.proofs.Theorems.{answered, cleared, walk-ends, walk-never}
 use Rattle.line_laws.specs.Bars.{sideFor, walkLine, NeverEnds, EndsWith, Walkable}
@@ -52,7 +52,7 @@ module _ (t : List ℕ) (n : ℕ) (l : Line) (b : Lent) (bytes : Bytes t) where
 
   -- ---- refusal 14
 
-  never-of : (m : Option Machine) → OkMaybe n m → Known n (l .glyphs) → hasStopped (walkOf m l) ≡ false → NeverEnds m l
+  never-of : (m : Option Machine) → OkMaybe n m → KnownGlyphs n (l .glyphs) → hasStopped (walkOf m l) ≡ false → NeverEnds m l
   unfolding walkOf
   never-of none ok known e = true≢false e
   never-of (some m) ok known e = walk-never n m ok l known e
@@ -96,7 +96,7 @@ module _ (t : List ℕ) (n : ℕ) (l : Line) (b : Lent) (bytes : Bytes t) where
       spared-behind : All (Spares EndlessWalk) behind
       spared-behind = (rule-spares StageTotal _ refl, (rule-spares ShortRoom _ refl, tt))
 
-      free : Accepted t n → Walkable n l b → Free ahead
+      free : Accepted t n → Walkable n l b → NoFault ahead
       free ok h = (
         ok,
         (
@@ -114,7 +114,7 @@ module _ (t : List ℕ) (n : ℕ) (l : Line) (b : Lent) (bytes : Bytes t) where
         ),
       )
 
-      refused : Free ahead × (walks ≡ Bad EndlessWalk 0) → Accepted t n × Walkable n l b × NeverEnds machine l
+      refused : NoFault ahead × (walks ≡ Bad EndlessWalk 0) → Accepted t n × Walkable n l b × NeverEnds machine l
       refused ((ok, (p9, (p10, (p18, (p11, (p12, (p13, _))))))), q) =
           let known = glyphs-are n (l .glyphs) .0 (rule-holds _ UnknownGlyph 0 p13) in (
             ok,
@@ -135,7 +135,7 @@ module _ (t : List ℕ) (n : ℕ) (l : Line) (b : Lent) (bytes : Bytes t) where
   unfolding walkOf
   no-machine = (refl, refl)
 
-  ends-of : (m : Option Machine) → OkMaybe n m → Known n (l .glyphs) → hasStopped (walkOf m l) ≡ true → EndsWith m l (classesOf (walkOf m l)) (entriesOf (walkOf m l))
+  ends-of : (m : Option Machine) → OkMaybe n m → KnownGlyphs n (l .glyphs) → hasStopped (walkOf m l) ≡ true → EndsWith m l (classesOf (walkOf m l)) (entriesOf (walkOf m l))
   ends-of none ok known e = no-machine
   ends-of (some m) ok known e = walk-ends n m ok l known e
 

@@ -17,7 +17,7 @@ use Rattle.share.specs.Line.{Glyph, sideStages, sideFactors}
 use Rattle.table.specs.Table.{tableFault}
 use Rattle.table.specs.Means.{meaningOf}
 use Rattle.line_rule.specs.Line.{Line, walkMachine, columnOf}
-use Rattle.line_moves.specs.Parts.{Known}
+use Rattle.line_moves.specs.Parts.{KnownGlyphs}
 use Rattle.line_call.specs.Justified.{Lent, lengthsOf, inputTests, workTests, roomTest}
 
 -- the direction of a line in the meaning of its table
@@ -97,4 +97,4 @@ pub record Walkable (n : ℕ) (l : Line) (b : Lent) : Type 0 where
   pub edition : KnownEdition (l .edition)
   pub sizes : Sized (l .sizes)
   pub measured : Measured l
-  pub known : Known n (l .glyphs)
+  pub known : KnownGlyphs n (l .glyphs)

@@ -46,7 +46,7 @@ use Rattle.share.proofs.Lists.{div-mono}
 use Rattle.share.proofs.Fill.{fill-again, fill-end}
 use Rattle.line_rule.specs.Line.{recordFor, unitsOf, partBy, partOf, partsOf}
 use Rattle.line_moves.specs.Parts.{SmallSizes, Small, IsSize, PartOf, glyphOf, Layable, putSides, Laying, Laid, LaidOut, Sharable}
-use Rattle.line_moves.specs.declared.Part.{Part}
+use Rattle.line_moves.specs.declared.GlyphPart.{GlyphPart}
 
 -- ---- factors
 
@@ -179,7 +179,7 @@ pub small-grow : (p : Pair) {o : Option Pair} → o ≡ some p → Small o → (
 small-grow p {o} e w = let l = subst Small e w in (omega (arith, l .0 .0), omega (arith, l .1 .0))
 
 -- a part by limits in 64 bits
-pub part-wide : {p : Part} (size flags b a : ℕ) → b ≤ 2 ^ 31 → a ≤ 2 ^ 31 → PartOf p (partBy size flags (natAbs (toZ w64 b)) (natAbs (toZ w64 a))) → {g : Glyph} → partBy size flags b a ≡ g → PartOf p g
+pub part-wide : {p : GlyphPart} (size flags b a : ℕ) → b ≤ 2 ^ 31 → a ≤ 2 ^ 31 → PartOf p (partBy size flags (natAbs (toZ w64 b)) (natAbs (toZ w64 a))) → {g : Glyph} → partBy size flags b a ≡ g → PartOf p g
 part-wide {p} size flags b a hb ha w {g} e =
     subst (PartOf p) (ap₂ (λ (x y : ℕ). partBy size flags x y) (limit-size b hb) (limit-size a ha) ∙ e) w
 
@@ -195,10 +195,10 @@ plain-fits {z} f e = rw (toZ-ofZ w64 z f) (at-size (natAbs z) e)
 
 -- ---- one glyph's part is stored
 
-part-glyph : {p : Part} {g : Glyph} → PartOf p g → glyphOf p ≡ g
+part-glyph : {p : GlyphPart} {g : Glyph} → PartOf p g → glyphOf p ≡ g
 part-glyph {p} {g} w = rw (w .priority, w .extra, w .before, w .after)
 
-pub part-plain : {p : Part} {g : Glyph} → PartOf p g → PartOf p (glyphOf p)
+pub part-plain : {p : GlyphPart} {g : Glyph} → PartOf p g → PartOf p (glyphOf p)
 part-plain {p} {g} w =
     record { priority = refl; extra = refl; before = not-below (g .before) (w .before); after = not-below (g .after) (w .after) }
 
@@ -206,7 +206,7 @@ module _ (s : Side) (shrink : Bool) {t : List ℕ} {n : ℕ} {zs gs cs : List �
   pub parts-count : length (partsOf s shrink zs gs cs) ≡ length gs
   parts-count = parts-length s shrink zs gs cs (w .sizes) (w .classes)
 
-  module _ (p : Part) (i : ℕ) (o : Option Pair) (e : PartOf p (partOf shrink (getD zs i 0) o)) where
+  module _ (p : GlyphPart) (i : ℕ) (o : Option Pair) (e : PartOf p (partOf shrink (getD zs i 0) o)) where
     pub may-lay : Small o → Layable (glyphOf p)
     may-lay l = subst Layable (sym (part-glyph e)) (part-layable shrink (getD zs i 0) o l (w .small i))
 

@@ -31,13 +31,13 @@ use Rattle.table_ask.specs.Places.{machineIn}
 use Rattle.table_ask.proofs.Rows.{cell-by, index-below}
 use Rattle.table_ask.proofs.Asked.{side-is, machine-is}
 use Rattle.class_walk.specs.Walk.{Machine, Line, Conf, Walk, going, stopped, Fits, glyphs, columnAt, met, onAt, givenBy, taken, step, begin, after, most, walked, noWalk}
-use Rattle.class_walk.specs.Line.{machineAt, lineOf, lineColumn, lineColumns, HandedOut, Sound, Columns}
+use Rattle.class_walk.specs.Line.{machineAt, lineOf, lineColumn, lineColumns, HandedOut, SoundMachine, Columns}
 use Rattle.class_walk.specs.declared.Walked.{Walked}
 use Rattle.class_walk.proofs.Laws.{walked-ends, ends-length}
 use Rattle.class_walk.proofs.Line.{fits-of, columns-of, handed-same, handed-ended, handed-going}
 use Rattle.line_rule.specs.Line.{walkMachine, columnOf, walkOf, hasStopped, classesOf, entriesOf}
 use Rattle.line_rule.specs.Line as lines
-use Rattle.line_moves.specs.Parts.{Known, bareLine}
+use Rattle.line_moves.specs.Parts.{KnownGlyphs, bareLine}
 
 -- ---- two machines with the same cells walk alike
 
@@ -109,7 +109,7 @@ module _ (t : List ℕ) (n here : ℕ) where
   same-cells r c h k =
       sym (getD-upto (cellBy t here) (rowCount t here * classCount t here) (r * classCount t here + c) (record { row = 0; flags = 0 }) (index-below _ _ r c h k) ∙ cell-by t here r c)
 
-  same-columns : (gs : List ℕ) → Known n gs → lineColumns t here gs ≡ map (columnOf (means.machineAt t n here)) gs
+  same-columns : (gs : List ℕ) → KnownGlyphs n gs → lineColumns t here gs ≡ map (columnOf (means.machineAt t n here)) gs
   unfolding means.machineAt
   same-columns [] w = refl
   same-columns (g ∷ gs) w = rw (one (ℕ-discrete g 0xFFFF) (w 0 (omega arith)), same-columns gs (λ place h. w (suc place) (omega arith)))
@@ -120,7 +120,7 @@ module _ (t : List ℕ) (n here : ℕ) where
       one (no e) (inr q) = rw (ne-eqb g 0xFFFF e, getD-upto (classAt t here) n g 1 q)
 
   module _ (near : here < 2 ^ 32) (clear : machineFault t n here ≡ Clear) where
-    pub sound : Sound t here
+    pub sound : SoundMachine t here
     sound =
         record {
           near = near;
@@ -132,7 +132,7 @@ module _ (t : List ℕ) (n here : ℕ) where
           exact = cell-exact t n here clear;
         }
 
-    module _ (gs : List ℕ) (short : length gs ≤ 1024) (known : Known n gs) where
+    module _ (gs : List ℕ) (short : length gs ≤ 1024) (known : KnownGlyphs n gs) where
       pub columns : Columns t here (lineColumns t here gs)
       columns = columns-of t here n (classes-least t n here clear) (class-below t n here clear) gs short known
 
@@ -171,7 +171,7 @@ module _ (t : List ℕ) (n : ℕ) (d : Direction) where
     unfolding walkOf
     no-walk z gs starts ends = ap (λ (m : Option meaning.Machine). walkOf m (bareLine gs starts ends)) (none-there z)
 
-    pub a-walk : (z : o ≡ 0 → ⊥) (near : o + 8 < 2 ^ 32) (ok : tableFault t n ≡ Clear) (gs : List ℕ) → length gs ≤ 1024 → Known n gs → (starts ends : Bool)
+    pub a-walk : (z : o ≡ 0 → ⊥) (near : o + 8 < 2 ^ 32) (ok : tableFault t n ≡ Clear) (gs : List ℕ) → length gs ≤ 1024 → KnownGlyphs n gs → (starts ends : Bool)
         → walked (machineAt t (o + 8)) (lineOf (lineColumns t (o + 8) gs) starts ends)
         ≡ walkOf (sideOf d (meaningOf t n) .machine) (bareLine gs starts ends)
     a-walk z near ok gs short known starts ends =

@@ -21,13 +21,13 @@ use Rattle.share.specs.Line.{Glyph, sideStages, sideFactors, sideExtras, lineMo
 use Rattle.share.specs.Sides.{stagesIn, extrasIn, TotalsOf}
 use Rattle.share.specs.declared.Totals.{Totals}
 use Rattle.line_rule.specs.Line.{Line, goesBack, partsOf}
-use Rattle.line_moves.specs.declared.Part.{Part}
+use Rattle.line_moves.specs.declared.GlyphPart.{GlyphPart}
 use Rattle.line_moves.specs.declared.Shared.{Shared}
 use Rattle.line_moves.specs.declared.Shared.the-variants.{Left, Over}
 
 -- every glyph of a line is below N, or deleted
-abbrev pub Known : ℕ → List ℕ → Type 0
-Known n gs = (place : ℕ) → place < length gs → (getD gs place 0 ≡ 0xFFFF) ⊎ (getD gs place 0 < n)
+abbrev pub KnownGlyphs : ℕ → List ℕ → Type 0
+KnownGlyphs n gs = (place : ℕ) → place < length gs → (getD gs place 0 ≡ 0xFFFF) ⊎ (getD gs place 0 < n)
 
 -- a line of which only that is said which the class walk looks at: its glyphs, and whether it starts and ends the text; no size and no edition
 abbrev pub bareLine : List ℕ → Bool → Bool → Line
@@ -49,14 +49,14 @@ pub record IsSize (limit : ℤ) : Type 0 where
   pub low : natAbs limit ≤ 2 ^ 31
 
 -- what the code has of a glyph is its part
-pub record PartOf (p : Part) (g : Glyph) : Type 0 where
+pub record PartOf (p : GlyphPart) (g : Glyph) : Type 0 where
   pub priority : p .priority ≡ g .stage
   pub extra : p .extra ≡ g .extra
   pub before : p .before .0 ≡ pos (g .before)
   pub after : p .after .0 ≡ pos (g .after)
 
 -- the part that the code has of a glyph
-abbrev pub glyphOf : Part → Glyph
+abbrev pub glyphOf : GlyphPart → Glyph
 glyphOf p = record { stage = p .priority; extra = p .extra; before = natAbs (p .before .0); after = natAbs (p .after .0) }
 
 -- a part that a side's number has room for, with factors no wider than sharing may multiply

@@ -16,7 +16,7 @@ ghost use Rattle.table.specs.Means.{meaningOf};
 ghost use Rattle.table_ask.specs.Places.{lookupIn, Readable};
 ghost use Rattle.class_walk.specs.Line.{HandedOut};
 ghost use Rattle.line_rule.specs.Line.{walkOf, recordFor, unitsOf, stageOf, partBy, partOf, partsOf};
-ghost use Rattle.line_moves.specs.Parts.{Known, bareLine, Small, IsSize, PartOf, glyphOf, Layable, Laying, LaidOut, Sharable, SharedGap};
+ghost use Rattle.line_moves.specs.Parts.{KnownGlyphs, bareLine, Small, IsSize, PartOf, glyphOf, Layable, Laying, LaidOut, Sharable, SharedGap};
 use actions::Spot;
 use class_walk::Walked;
 use cluster::Sought;
@@ -30,7 +30,7 @@ use units::Units;
 
 // A glyph's part in the sharing of the gap: its stage priority, 1 where it is unlimited and else 0, and the factors of
 // its before and its after side.
-struct Part {
+struct GlyphPart {
     pub priority: u8,
     pub extra: u8,
     pub before: Units,
@@ -57,7 +57,7 @@ pub fn line_walk(
     classes: &mut [u8],
 ) -> Walked
     requires { ⌜ (tableFault (now table) count ≡ Clear) × (length (now glyphs) ≤ 1024) ⌝ }
-    requires { ⌜ Known count (now glyphs) × (now classes ≡ replicate (length (now glyphs)) 0) ⌝ }
+    requires { ⌜ KnownGlyphs count (now glyphs) × (now classes ≡ replicate (length (now glyphs)) 0) ⌝ }
     ensures { λ r. ⌜ HandedOut (walkOf (sideOf (shape .direction) (meaningOf (now (table .entry)) count) .machine) (bareLine (now (glyphs .entry)) (shape .starts) (shape .ends))) r (now (classes .exit)) ⌝ }
 {
     let direction = shape.direction;
@@ -95,11 +95,11 @@ fn extra_of(flags: u16) -> u8
 }
 
 // A glyph's part by the flags and limits of one direction of the gap.
-fn part_by(size: u32, flags: u16, before: Ems, after: Ems) -> Part
+fn part_by(size: u32, flags: u16, before: Ems, after: Ems) -> GlyphPart
     requires { ⌜ IsSize (before .0) × IsSize (after .0) ⌝ }
     ensures { λ r. ⌜ PartOf r (partBy size flags (natAbs (before .0)) (natAbs (after .0))) ⌝ }
 {
-    Part {
+    GlyphPart {
         priority: stage_of(flags),
         extra: extra_of(flags),
         before: units_of(before, size),
@@ -108,12 +108,12 @@ fn part_by(size: u32, flags: u16, before: Ems, after: Ems) -> Part
 }
 
 // The part of a glyph with this width record, or with none.
-fn part_of(shrink: bool, size: u32, sought: Sought) -> Part
+fn part_of(shrink: bool, size: u32, sought: Sought) -> GlyphPart
     requires { ⌜ Small (soughtPair sought) ⌝ }
     ensures { λ r. ⌜ PartOf r (partOf shrink size (soughtPair sought)) ⌝ }
 {
     let Sought::Record(pair) = sought else {
-        return Part {
+        return GlyphPart {
             priority: APART,
             extra: 0,
             before: Units(0),
@@ -184,7 +184,7 @@ fn record_for(
 }
 
 // One glyph's part, stored at its place: its two sides and their factors. Answers the two factors together.
-fn lay_part(part: Part, place: usize, sides: &mut [u8], factors: &mut [u64]) -> u64
+fn lay_part(part: GlyphPart, place: usize, sides: &mut [u8], factors: &mut [u64]) -> u64
     requires { ⌜ PartOf part (glyphOf part) × Layable (glyphOf part) ⌝ }
     requires { ⌜ (2 * place + 1 < length (now sides)) × (2 * place + 1 < length (now factors)) ⌝ }
     ensures { λ r. ⌜ Laying (glyphOf part) place (now (sides .entry)) (now (factors .entry)) r (now (sides .exit)) (now (factors .exit)) ⌝ }

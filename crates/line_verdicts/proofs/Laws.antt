@@ -20,7 +20,7 @@ use Rattle.actions.specs.declared.Spot.{Spot}
 use Rattle.actions.specs.declared.Spot.the-variants.{At, Nowhere}
 use Rattle.actions.specs.Faults.{actionFault, actionsFault, listFault}
 use Rattle.encoding.proofs.UptoLaws.{getD-from}
-use Rattle.actions.specs.Actions.{bytesAt, contentAt, actionAt, actionsAt, listAt, Below}
+use Rattle.actions.specs.Actions.{bytesAt, contentAt, actionAt, actionsAt, listAt, SpotBelow}
 use Rattle.actions.proofs.Laws.{action-inside, list-count, list-length}
 use Rattle.lookup_targets.specs.declared.Kind.the-variants.{Lists}
 use Rattle.lookup_targets.specs.Values.{listHere}
@@ -80,8 +80,8 @@ module _ (t : List ℕ) (n : ℕ) (d : Direction) where
   pub lists-none : Absent ≡ lookupIn t d Lists → (g : ℕ) → length (getD (sideOf d (meaningOf t n) .lists) g []) ≤ 0
   lists-none e g = omega (arith, ap (λ (l : List Action). length l) (list-here g Nowhere (spot-found t n d Lists g e)))
 
-pub spot-below : (n p : ℕ) (s : Spot) → Below n s → s ≡ At p → p < n
-spot-below n p s h e = subst (Below n) e h
+pub spot-below : (n p : ℕ) (s : Spot) → SpotBelow n s → s ≡ At p → p < n
+spot-below n p s h e = subst (SpotBelow n) e h
 
 -- ---- the first action of a list
 

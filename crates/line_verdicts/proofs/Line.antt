@@ -14,7 +14,7 @@ use Rattle.share.specs.Line.{signedOf, evens, odds}
 use Rattle.share.proofs.Halves.{length-halves}
 use Rattle.line_rule.specs.Line.{firings, verdictsFrom}
 use Rattle.line_verdicts.specs.declared.GlyphBits.{GlyphBits}
-use Rattle.line_verdicts.specs.Moves.{Moved, moved, Fits}
+use Rattle.line_verdicts.specs.Moves.{Moved, moved, FitsGlyphs}
 use Rattle.line_verdicts.specs.Lines.{verdictsIn, KeepsLine}
 use Rattle.line_verdicts.specs.Bits.{told, toldFrom, Keeps}
 use Rattle.line_verdicts.proofs.Growth.{growth-is}
@@ -37,7 +37,7 @@ pub record Keeping (s : Side) (shrink : Bool) (zs cs ms glyphs bits : List ℕ) 
   pub counted : total ≡ length (told (take (2 * place) bits))
 
 module _ (s : Side) (glyphs : List ℕ) where
-  verdicts-next : (shrink : Bool) (zs cs ms : List ℕ) → Fits zs cs ms glyphs → (k : ℕ) → k < length glyphs
+  verdicts-next : (shrink : Bool) (zs cs ms : List ℕ) → FitsGlyphs zs cs ms glyphs → (k : ℕ) → k < length glyphs
       → verdictsAt s glyphs (moved shrink zs cs ms) k
       ≡ firings k (getD cs k 0) (getD zs k 0) (growthAt shrink ms k) 0 (getD (s .lists) (getD glyphs k 0) []) ++ verdictsAt s glyphs (moved shrink zs cs ms) (k + 1)
   unfolding verdictsAt verdictsFrom
@@ -71,7 +71,7 @@ module _ {s : Side} {shrink : Bool} {zs cs ms glyphs : List ℕ} where
     keeping-most =
         omega (arith, i .counted, ap (λ (vs : List Verdict). length vs) (i .splits), length-append (told (take (2 * k) bits)) (verdictsAt s glyphs (moved shrink zs cs ms) k))
 
-    pub keeping-next : Fits zs cs ms glyphs → (b : GlyphBits) (growth : ℤ) → growth ≡ growthAt shrink ms k
+    pub keeping-next : FitsGlyphs zs cs ms glyphs → (b : GlyphBits) (growth : ℤ) → growth ≡ growthAt shrink ms k
         → Keeps (getD cs k 0) growth (getD zs k 0) (getD (s .lists) (getD glyphs k 0) []) b → k < length glyphs
         → Keeping s shrink zs cs ms glyphs (set (set bits (2 * k) (b .fires)) (2 * k + 1) (b .substitutes)) (total + b .count) (k + 1)
     keeping-next fits b growth g w h =

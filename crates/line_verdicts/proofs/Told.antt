@@ -10,7 +10,7 @@ use lib.Dec.{eqb}
 use lib.ListN.{length, getD, take, drop, set, length-set, length-drop}
 use lib.Seq.{drop-cons, length-take-le, take-suc-set, take-at, drop-at}
 use Rattle.types.specs.declared.Verdict.{Verdict}
-use Rattle.line_verdicts.specs.declared.Cursor.{Cursor}
+use Rattle.line_verdicts.specs.declared.VerdictCursor.{VerdictCursor}
 use Rattle.line_verdicts.specs.declared.VerdictStep.{VerdictStep}
 use Rattle.line_verdicts.specs.Bits.{verdictOf, bitsTell, tellFrom, toldFrom, told, leftAt, startCursor, BitPairs, Serves, AtHand, tellAt, Takes}
 use Rattle.line_verdicts.proofs.Bits.{half-low, tell-zero}
@@ -22,7 +22,7 @@ abbrev pub toldAt : List ℕ → ℕ → List Verdict
 toldAt bits k = toldFrom k (drop (2 * k) bits)
 
 -- the cursor at a glyph of which nothing is taken
-abbrev pub begunAt : List ℕ → ℕ → Cursor
+abbrev pub begunAt : List ℕ → ℕ → VerdictCursor
 begunAt bits k = record { next = k + 1; number = 0; fires = getD bits (2 * k) 0; substitutes = getD bits (2 * k + 1) 0 }
 
 module _ (bits : List ℕ) (k : ℕ) (h : 2 * k + 1 < length bits) where
@@ -123,31 +123,31 @@ module _ (bits : List ℕ) where
   start-left = ap (λ (vs : List Verdict). vs ++ told bits) (tell-zero 64 0 0 0)
 
   -- nothing is left of the glyph at hand
-  pub left-spent : (c : Cursor) → c .fires ≡ 0 → leftAt bits c ≡ toldAt bits (c .next)
+  pub left-spent : (c : VerdictCursor) → c .fires ≡ 0 → leftAt bits c ≡ toldAt bits (c .next)
   unfolding leftAt
   left-spent c e =
       ap (λ (vs : List Verdict). vs ++ toldAt bits (c .next))
       (ap (λ (f : ℕ). tellFrom (c .next - 1) (c .number) f (c .substitutes)) e ∙ tell-zero (64 - c .number) (c .next - 1) (c .number) (c .substitutes))
 
-  some-begun : (c : Cursor) → Serves bits c → (c .fires ≡ 0 → ⊥) → 0 < c .next
+  some-begun : (c : VerdictCursor) → Serves bits c → (c .fires ≡ 0 → ⊥) → 0 < c .next
   some-begun c s h = go (c .next) refl
     where
       go : (k : ℕ) → c .next ≡ k → 0 < k
       go zero e = absurd (h (s .begun e))
       go (suc k) e = omega arith
 
-  pub hand-left : (c : Cursor) → BitPairs bits → Serves bits c → (c .fires ≡ 0 → ⊥) → AtHand c
+  pub hand-left : (c : VerdictCursor) → BitPairs bits → Serves bits c → (c .fires ≡ 0 → ⊥) → AtHand c
   hand-left c k s h =
       record { begun = some-begun c s h; few = omega (arith, k .even, k .few, s .within); some = omega (arith, h); low = s .low }
 
   -- one is taken
-  pub left-taken : (c : Cursor) (r : VerdictStep) → Takes c r → leftAt bits c ≡ r .verdict ∷ leftAt bits (r .next)
+  pub left-taken : (c : VerdictCursor) (r : VerdictStep) → Takes c r → leftAt bits c ≡ r .verdict ∷ leftAt bits (r .next)
   unfolding leftAt
   left-taken c r t =
       ap (λ (vs : List Verdict). vs ++ toldAt bits (c .next)) (t .first)
       ∙ ap (λ (k : ℕ). r .verdict ∷ (tellAt (r .next) ++ toldAt bits k)) (sym (t .stays))
 
-  pub serves-taken : (c : Cursor) (r : VerdictStep) → Serves bits c → AtHand c → Takes c r → Serves bits (r .next)
+  pub serves-taken : (c : VerdictCursor) (r : VerdictStep) → Serves bits c → AtHand c → Takes c r → Serves bits (r .next)
   serves-taken c r s a t =
       record { within = omega (arith, t .stays, s .within); begun = λ e. absurd (omega (arith, t .stays, a .begun)); number = t .number; low = t .low }
 

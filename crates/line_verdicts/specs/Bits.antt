@@ -15,7 +15,7 @@ use Rattle.verdict.specs.declared.Fires.{Fires}
 use Rattle.verdict.specs.declared.Fires.the-variants.{No, Plain, Substitutes}
 use Rattle.line_rule.specs.Line.{firings}
 use Rattle.line_verdicts.specs.declared.GlyphBits.{GlyphBits}
-use Rattle.line_verdicts.specs.declared.Cursor.{Cursor}
+use Rattle.line_verdicts.specs.declared.VerdictCursor.{VerdictCursor}
 use Rattle.line_verdicts.specs.declared.VerdictStep.{VerdictStep}
 
 -- ---- what is told
@@ -44,15 +44,15 @@ abbrev pub told : List ℕ → List Verdict
 told bits = toldFrom 0 bits
 
 -- what is left at a cursor of the glyph before `next`: the actions from `number` on
-abbrev pub tellAt : Cursor → List Verdict
+abbrev pub tellAt : VerdictCursor → List Verdict
 tellAt c = tellFrom (c .next - 1) (c .number) (c .fires) (c .substitutes)
 
 -- what is left of the line: that, then the glyphs from `next` on
-unfoldable pub leftAt : List ℕ → Cursor → List Verdict
+unfoldable pub leftAt : List ℕ → VerdictCursor → List Verdict
 leftAt bits c = tellAt c ++ toldFrom (c .next) (drop (2 * c .next) bits)
 
 -- nothing is taken
-abbrev pub startCursor : Cursor
+abbrev pub startCursor : VerdictCursor
 startCursor = record { next = 0; number = 0; fires = 0; substitutes = 0 }
 
 -- the two numbers of each of so many glyphs, which are at most 1,024
@@ -62,7 +62,7 @@ pub record BitPairs (bits : List ℕ) : Type 0 where
   pub few : glyphs ≤ 1024
 
 -- a cursor into them: no bit stands past the last action, and none before a glyph is begun
-pub record Serves (bits : List ℕ) (c : Cursor) : Type 0 where
+pub record Serves (bits : List ℕ) (c : VerdictCursor) : Type 0 where
   pub within : 2 * c .next ≤ length bits
   pub begun : c .next ≡ 0 → c .fires ≡ 0
   pub number : c .number ≤ 64
@@ -71,14 +71,14 @@ pub record Serves (bits : List ℕ) (c : Cursor) : Type 0 where
 -- ---- taking the next
 
 -- a cursor at a glyph of which an action is left
-pub record AtHand (c : Cursor) : Type 0 where
+pub record AtHand (c : VerdictCursor) : Type 0 where
   pub begun : 0 < c .next
   pub few : c .next ≤ 1024
   pub some : 0 < c .fires
   pub low : c .fires < 2 ^ (64 - c .number)
 
 -- a step takes the first that is left of that glyph
-pub record Takes (c : Cursor) (r : VerdictStep) : Type 0 where
+pub record Takes (c : VerdictCursor) (r : VerdictStep) : Type 0 where
   pub first : tellAt c ≡ r .verdict ∷ tellAt (r .next)
   pub stays : r .next .next ≡ c .next
   pub number : r .next .number ≤ 64

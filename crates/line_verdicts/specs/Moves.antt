@@ -22,7 +22,7 @@ moved shrink sizes classes moves =
     record { sizes = sizes; classes = classes; before = map (signedOf shrink) (evens moves); after = map (signedOf shrink) (odds moves) }
 
 -- the sizes and the classes have an element for each glyph, of which there are at most 1,024, and the movements two, none above that of the widest gap
-pub record Fits (zs cs ms glyphs : List ℕ) : Type 0 where
+pub record FitsGlyphs (zs cs ms glyphs : List ℕ) : Type 0 where
   pub few : length glyphs ≤ 1024
   pub sizes : length zs ≡ length glyphs
   pub classes : length cs ≡ length glyphs
@@ -32,4 +32,4 @@ pub record Fits (zs cs ms glyphs : List ℕ) : Type 0 where
 -- what is asked of a table and a line before their verdicts are kept: the table is accepted, the line has its classes and movements
 pub record HasMoves (t : List ℕ) (n : ℕ) (sizes classes moves glyphs : List ℕ) : Type 0 where
   pub accepted : tableFault t n ≡ Clear
-  pub fits : Fits sizes classes moves glyphs
+  pub fits : FitsGlyphs sizes classes moves glyphs

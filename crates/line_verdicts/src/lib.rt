@@ -37,7 +37,7 @@ struct GlyphBits {
 
 // How far a line's verdicts have been taken: the glyphs before `next` are begun; of the last of them the bits from the
 // action with this number on are left, that one's being the lowest.
-pub struct Cursor {
+pub struct VerdictCursor {
     pub next: usize,
     pub number: u16,
     pub fires: u64,
@@ -47,7 +47,7 @@ pub struct Cursor {
 // The next verdict, and the cursor past it.
 pub struct VerdictStep {
     pub verdict: Verdict,
-    pub next: Cursor,
+    pub next: VerdictCursor,
 }
 
 // What the action at `at` does for a glyph of its class, at its growth and its point size, as a number, which is sooner
@@ -223,7 +223,7 @@ pub fn keep_verdicts<'a, 'b>(
 }
 
 // The cursor itself where an action of its glyph is left, else at the next glyph of which one fires.
-fn at_hand(bits: &[u64], cursor: Cursor) -> Cursor
+fn at_hand(bits: &[u64], cursor: VerdictCursor) -> VerdictCursor
     requires { ⌜ BitPairs (now bits) × Serves (now bits) cursor × (0 < length (leftAt (now bits) cursor)) ⌝ }
     ensures { λ r. ⌜ (leftAt (now (bits .entry)) cursor ≡ leftAt (now (bits .entry)) r) × Serves (now (bits .entry)) r × AtHand r ⌝ }
 {
@@ -234,7 +234,7 @@ fn at_hand(bits: &[u64], cursor: Cursor) -> Cursor
     while bits[2 * next] == 0 {
         next += 1;
     }
-    Cursor {
+    VerdictCursor {
         next: next + 1,
         number: 0,
         fires: bits[2 * next],
@@ -243,7 +243,7 @@ fn at_hand(bits: &[u64], cursor: Cursor) -> Cursor
 }
 
 // The first action that is left of the glyph at hand, and the cursor past it.
-fn first_action(cursor: Cursor) -> VerdictStep
+fn first_action(cursor: VerdictCursor) -> VerdictStep
     requires { ⌜ AtHand cursor ⌝ }
     ensures { λ r. ⌜ Takes cursor r ⌝ }
 {
@@ -261,7 +261,7 @@ fn first_action(cursor: Cursor) -> VerdictStep
         action: number,
         substitutes: (substitutes % 2) as u16,
     };
-    let past = Cursor {
+    let past = VerdictCursor {
         next,
         number: number + 1,
         fires: fires / 2,
@@ -274,7 +274,7 @@ fn first_action(cursor: Cursor) -> VerdictStep
 }
 
 // The next verdict at a cursor, and the cursor past it.
-pub fn next_verdict(bits: &[u64], cursor: Cursor) -> VerdictStep
+pub fn next_verdict(bits: &[u64], cursor: VerdictCursor) -> VerdictStep
     requires { ⌜ BitPairs (now bits) × Serves (now bits) cursor × (0 < length (leftAt (now bits) cursor)) ⌝ }
     ensures { λ r. ⌜ (leftAt (now (bits .entry)) cursor ≡ r .verdict ∷ leftAt (now (bits .entry)) (r .next)) × Serves (now (bits .entry)) (r .next) ⌝ }
 {

@@ -67,9 +67,9 @@ sourceFault t glyphs kind (Lookup at base) = valuesFault t glyphs kind at base
 sourceFault t glyphs kind Absent = Clear
 
 -- its lookup, and what the values count from, stand where 16-bit offsets lead
-abbrev pub Near : Source → Type 0
-Near (Lookup at base) = (at < 2 ^ 17) × (base < 2 ^ 16)
-Near Absent = Unit {0}
+abbrev pub NearSource : Source → Type 0
+NearSource (Lookup at base) = (at < 2 ^ 17) × (base < 2 ^ 16)
+NearSource Absent = Unit {0}
 
 -- the cluster, and the action list, of a place; none where there is none
 abbrev pub clusterHere : List ℕ → Spot → List Pair

@@ -9,7 +9,7 @@ ghost use Rattle.fields.specs.Walk.{each};
 ghost use Rattle.lookup.specs.declared.Found.the-variants.{Value};
 ghost use Rattle.lookup.specs.Lookup.{lookupFault};
 ghost use Rattle.lookup.specs.Pass.{Serves};
-ghost use Rattle.actions.specs.Actions.{Below};
+ghost use Rattle.actions.specs.Actions.{SpotBelow};
 ghost use Rattle.lookup_targets.specs.Values.{spotOf, itemFault, placeFault, glyphFault, fromGlyph, valuesFault, NoteTells, besides, Judged, Told, Ahead, noteAt, noteEach, noteAlong};
 use actions::Spot;
 use fields::Fault;
@@ -32,7 +32,7 @@ pub enum Source {
 // Where the list stands that an action value leads to, an offset from `base`; 0 leads nowhere.
 fn list_spot(base: usize, value: u16) -> Spot
     requires { ⌜ base < 2 ^ 16 ⌝ }
-    ensures { λ r. ⌜ (r ≡ spotOf Kind.Lists base (Value value)) × Below (2 ^ 17) r ⌝ }
+    ensures { λ r. ⌜ (r ≡ spotOf Kind.Lists base (Value value)) × SpotBelow (2 ^ 17) r ⌝ }
 {
     if value == 0 {
         return Spot::Nowhere;
@@ -43,7 +43,7 @@ fn list_spot(base: usize, value: u16) -> Spot
 // Where the cluster or the list stands that a value leads to, an offset from `base`.
 pub fn spot_of(kind: Kind, base: usize, found: Found) -> Spot
     requires { ⌜ base < 2 ^ 16 ⌝ }
-    ensures { λ r. ⌜ (r ≡ spotOf kind base found) × Below (2 ^ 17) r ⌝ }
+    ensures { λ r. ⌜ (r ≡ spotOf kind base found) × SpotBelow (2 ^ 17) r ⌝ }
 {
     let Found::Value(value) = found else {
         return Spot::Nowhere;
@@ -359,7 +359,7 @@ fn run_fault(
 }
 
 // Where a pass over a lookup's runs has come: the cursor serves the glyphs from `glyph` on.
-struct Passed {
+struct PassPlace {
     cursor: Cursor,
     glyph: usize,
 }
@@ -375,7 +375,7 @@ fn pass_told(
     base: usize,
     run: Run,
     judged: &[u8],
-) -> Passed
+) -> PassPlace
     requires { ⌜ (at < 2 ^ 32) × ((base < 2 ^ 16) × ((glyphs < 2 ^ 16) × (format ≡ u16At (now table) at))) ⌝ }
     requires { ⌜ Judged (now table) glyphs (now judged) × Serves (now table) at (run .until) (run .cursor) ⌝ }
     ensures { λ r. ⌜ (run .until ≤ r .glyph) × (Serves (now (table .entry)) at (r .glyph) (r .cursor) × (fromGlyph (now (table .entry)) glyphs kind at base (run .until) ≡ fromGlyph (now (table .entry)) glyphs kind at base (r .glyph))) ⌝ }
@@ -383,23 +383,23 @@ fn pass_told(
     let mut cursor = run.cursor;
     let mut glyph = run.until;
     if format != 2 {
-        return Passed { cursor, glyph };
+        return PassPlace { cursor, glyph };
     }
     while glyph < glyphs {
         let next = lookup_runs::next_run(table, 2, at, cursor, glyph);
         if glyphs <= next.from {
-            return Passed { cursor, glyph };
+            return PassPlace { cursor, glyph };
         }
         if next.array {
-            return Passed { cursor, glyph };
+            return PassPlace { cursor, glyph };
         }
         if !is_judged(table, kind, base, next.place, judged) {
-            return Passed { cursor, glyph };
+            return PassPlace { cursor, glyph };
         }
         cursor = next.cursor;
         glyph = next.until;
     }
-    Passed { cursor, glyph }
+    PassPlace { cursor, glyph }
 }
 
 // The first fault of what the values of the lookup at `at`, which has none itself, lead to.

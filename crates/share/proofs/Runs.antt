@@ -1,4 +1,4 @@
--- ShareStep 1's formula from side to side: what is carried, and the running state.
+-- Step 1's formula from side to side: what is carried, and the running state.
 use mathlib.Core.Path.{_≡_, refl, sym, ap, _∙_}
 use Prim.Native.Nat.{ℕ, _+_, _-_, _*_, _/_, _%_, _^_, _≤_, _<_}
 use native.Mathlib.Omega.{arith}

@@ -1,4 +1,4 @@
--- ShareStep 1's formula with a quotient and a remainder carried from side to side (document 02, request 3/14), over plain numbers: the amount r is shared over the total t, and
+-- Step 1's formula with a quotient and a remainder carried from side to side (document 02, request 3/14), over plain numbers: the amount r is shared over the total t, and
 -- the running total is c. No product is wider than that of two numbers of at most 1,073,741,824.
 use Prim.Native.Nat.{ℕ, _+_, _-_, _*_, _/_, _%_, _≤_, _<_}
 use mathlib.Core.Path.{_≡_}

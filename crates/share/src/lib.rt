@@ -21,7 +21,7 @@ const STAGES: u8 = 4;
 // Flags have room for so many priorities.
 pub const PRIORITIES: u8 = 16;
 
-// ShareStep 1's formula on its way from side to side: the amount, the total that it is shared over, and the quotient and remainder of
+// Step 1's formula on its way from side to side: the amount, the total that it is shared over, and the quotient and remainder of
 // the amount times the running total, by that total. The quotient is what the sides so far have been given.
 pub struct Running {
     pub amount: u64,
@@ -261,7 +261,7 @@ fn share_stages(gap: u64, totals: Totals, sides: &[u8], factors: &[u64], moves: 
     left
 }
 
-// ShareStep 3: adds what is left to the first stage with a total above 0; answers the remainder.
+// Step 3: adds what is left to the first stage with a total above 0; answers the remainder.
 fn go_back(left: u64, totals: Totals, sides: &[u8], factors: &[u64], moves: &mut [u64]) -> u64
     requires { ⌜ Sides (now sides) (now factors) × Addable left (now sides) (now moves) × Fit totals (now sides) (now factors) ⌝ }
     ensures { λ r. ⌜ r ≡ backLeft (stagesIn (now (sides .entry))) (now (factors .entry)) stages left ⌝ }

@@ -21,7 +21,7 @@ use Rattle.meaning.proofs.SheetLaws.{few-actions}
 use Rattle.actions.specs.Actions.{bytesAt, contentAt, actionAt, clipped}
 use Rattle.answers.proofs.Laws.{held-is}
 use Rattle.answers.specs.declared.ActionAnswer.{ActionAnswer}
-use Rattle.answers.specs.declared.Sought.the-variants.{Nothing}
+use Rattle.answers.specs.declared.ActionSought.the-variants.{Nothing}
 use Rattle.answers.specs.Says.{given, actionIn, saysAction, noAction, roomAfter}
 use Rattle.sheet_list.specs.Action.{listCode}
 use Rattle.sheet_seek.specs.Passes.{Reaches}

@@ -31,7 +31,7 @@ use Rattle.meaning.specs.Ask.{glyphCount, along, sizes, class, cell, nothing, n
 use Rattle.meaning.specs.Wide.{WideSizes}
 use Rattle.answers.specs.declared.CellAnswer.{CellAnswer}
 use Rattle.answers.specs.Says.{given, saysCell}
-use Rattle.sheet_machine.specs.Machine.{Sizes, Readable}
+use Rattle.sheet_machine.specs.Machine.{Sizes, ReadableCells}
 use Rattle.sheet_machine.proofs.StandLaws.{cells-readable, cell-at}
 use Rattle.sheet_cells.specs.Cells.{entryAt, OkCells}
 use Rattle.sheet_check.proofs.WholeLaws.{opened-sheet}
@@ -237,7 +237,7 @@ module _ (s : List ℕ) (bytes : Bytes s) where
 
 module _ (s : List ℕ) (bytes : Bytes s) (at k rows classes : ℕ) (cells : List Entry) (rest : List ℕ) (z : Sizes rows classes)
     (o : OkCells rows (rows * classes) cells) (e : drop at s ≡ numbered Entry-discrete entryCode cells ++ rest) (h : k < rows * classes) where
-  readable : Readable s (at + 4) (at + 4 + 4 * u32At s at + 4) classes rows
+  readable : ReadableCells s (at + 4) (at + 4 + 4 * u32At s at + 4) classes rows
   readable = cells-readable rows classes z s bytes at cells rest o e
 
   pub cells-room : HasItems 4 s at

@@ -7,7 +7,7 @@ use Rattle.types.specs.declared.Direction.{Direction}
 use Rattle.meaning.specs.Sheet.{IsSheet}
 use Rattle.meaning.specs.Ask.{Question}
 use Rattle.answers.specs.declared.ActionAnswer.{ActionAnswer}
-use Rattle.answers.specs.declared.Sought.the-variants.{Refused}
+use Rattle.answers.specs.declared.ActionSought.the-variants.{Refused}
 use Rattle.answers.specs.Says.{Judgement, accepted, barred, Reply, refused, saysAction, noAction, roomAfter}
 use Rattle.sheet_check.specs.Check.{SheetChecked}
 use Rattle.sheet_ask.specs.Parts.{Answers, ActionOf}

@@ -11,12 +11,12 @@ ghost use Rattle.answers.specs.Says.{saysCount, saysSizes, saysClass, saysCell,
 ghost use Rattle.sheet_ask.specs.Calls.{SheetReply, ActionReply};
 use actions::Spot;
 use answers::ActionAnswer;
+use answers::ActionSought;
 use answers::CellAnswer;
 use answers::ClassAnswer;
 use answers::CountAnswer;
 use answers::RecordAnswer;
 use answers::SizesAnswer;
-use answers::Sought;
 use fields::Refusal;
 use sheet_items::Sort;
 use types::Direction;
@@ -170,15 +170,15 @@ fn action_in(bytes: &[u8], at: usize, number: usize) -> ActionAnswer
     ensures { λ r. ⌜ ActionIn (now (bytes .entry)) at number r ⌝ }
 {
     if fields::u32_at(bytes, at) <= number {
-        return answers::no_action(Sought::Nothing);
+        return answers::no_action(ActionSought::Nothing);
     }
     let place = sheet_seek::action_place(bytes, at, number);
     if bytes.len() < place {
-        return answers::no_action(Sought::Nothing);
+        return answers::no_action(ActionSought::Nothing);
     }
     let action = actions::action_at(&bytes[place..], 0);
     ActionAnswer {
-        sought: Sought::Found,
+        sought: ActionSought::Found,
         action,
     }
 }
@@ -189,7 +189,7 @@ fn action_of(bytes: &[u8], direction: Direction, glyph: u16, number: u16) -> Act
 {
     let spot = item_of(bytes, direction, Sort::Lists, glyph);
     let Spot::At(place) = spot else {
-        return answers::no_action(Sought::Nothing);
+        return answers::no_action(ActionSought::Nothing);
     };
     action_in(bytes, place, number as usize)
 }
@@ -264,7 +264,7 @@ pub fn ask_action(bytes: &[u8], direction: Direction, glyph: u16, number: u16) -
     ensures { λ r. ⌜ ActionReply (now (bytes .entry)) direction glyph number r ⌝ }
 {
     if !sheet_check::is_sheet(bytes) {
-        return answers::no_action(Sought::Refused {
+        return answers::no_action(ActionSought::Refused {
             refusal: Refusal::NotSheet,
             at: 0,
         });

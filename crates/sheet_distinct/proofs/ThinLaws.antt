@@ -13,7 +13,7 @@ use Rattle.encoding.specs.Codes.{All}
 use Rattle.encoding.specs.Tests.{Says}
 use Rattle.encoding.proofs.ListLaws.{all-append, all-map}
 use Rattle.sheet_distinct.specs.Order.{Apart, countFrom}
-use Rattle.sheet_distinct.specs.Slots.{Unused, Rooms, Thinned}
+use Rattle.sheet_distinct.specs.Slots.{Unused, DistinctRooms, Thinned}
 use Rattle.sheet_distinct.proofs.ScanLaws.{apart-at, apart-from, count-length, count-at}
 
 -- ---- one more element at the end
@@ -190,7 +190,7 @@ pub apart-one : (f : ℕ → List ℕ) (n : ℕ) → n < 2 → Apart f (countFro
 apart-one f n h = below-apart f n (λ x y p q e. omega arith)
 
 -- zeros are rooms
-pub rooms : (n k l : ℕ) → n ≤ k → n ≤ l → 0 < l → l ≤ 2 ^ 17 → Rooms n (replicate k 0) (replicate l 0)
+pub rooms : (n k l : ℕ) → n ≤ k → n ≤ l → 0 < l → l ≤ 2 ^ 17 → DistinctRooms n (replicate k 0) (replicate l 0)
 rooms n k l a b c d =
     let e = length-replicate {A = ℕ} k 0 in
     let f = length-replicate {A = ℕ} l 0 in

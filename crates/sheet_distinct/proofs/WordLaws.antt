@@ -8,7 +8,7 @@ use lib.Seq.{slice}
 use Rattle.fields.specs.Field.{u32At, Bytes}
 use Rattle.encoding.specs.Dictionary.{Le}
 use Rattle.encoding.proofs.CodeLaws.{half-bytes, word-halves}
-use Rattle.sheet_distinct.specs.Order.{Shared}
+use Rattle.sheet_distinct.specs.Order.{BeginAlike}
 use Rattle.sheet_distinct.proofs.OrderLaws.{turn-on, turn-back}
 
 -- which of the slices from i and from j comes first, and which of those from x and from y, is one answer
@@ -40,7 +40,7 @@ module _ (s : List ℕ) (bytes : Bytes s) (i j : ℕ) (e : u32At s i ≡ u32At s
         ((λ h. t₄ .0 (t₃ .0 (t₂ .0 (t₁ .0 h)))), (λ h. t₁ .1 (t₂ .1 (t₃ .1 (t₄ .1 h))))))
 
 -- i bytes on is where the slices were found to be alike so far
-pub shared-is : (s : List ℕ) (a ae b be i j : ℕ) → a ≤ i → i + b ≡ j + a → i ≤ length s → j ≤ length s → Alike s ae be a b i j → Shared s a ae b be (i - a)
+pub shared-is : (s : List ℕ) (a ae b be i j : ℕ) → a ≤ i → i + b ≡ j + a → i ≤ length s → j ≤ length s → Alike s ae be a b i j → BeginAlike s a ae b be (i - a)
 shared-is s a ae b be i j h e p q t =
     let x : i ≡ a + (i - a) = omega arith in
     let y : j ≡ b + (i - a) = omega arith in

@@ -12,7 +12,7 @@ use Rattle.encoding.specs.Dictionary.{Le, le-dec}
 use Rattle.encoding.specs.Upto.{from}
 
 -- two slices that begin with the same r bytes: which comes first is told by what follows
-pub record Shared (s : List ℕ) (a ae b be r : ℕ) : Type 0 where
+pub record BeginAlike (s : List ℕ) (a ae b be r : ℕ) : Type 0 where
   pub inside : (a + r ≤ length s) × (b + r ≤ length s)
   pub on : Le (slice a ae s) (slice b be s) → Le (slice (a + r) ae s) (slice (b + r) be s)
   pub back : Le (slice (a + r) ae s) (slice (b + r) be s) → Le (slice a ae s) (slice b be s)

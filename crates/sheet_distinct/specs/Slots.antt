@@ -28,8 +28,8 @@ abbrev pub Unused : List ℕ → Type 0
 Unused firsts = (i : ℕ) → getD firsts i 0 ≡ 0
 
 -- rooms to work in for n items
-abbrev pub Rooms : ℕ → List ℕ → List ℕ → Type 0
-Rooms n numbers firsts = (n ≤ length numbers) × (n ≤ length firsts) × (0 < length firsts) × (length firsts ≤ 2 ^ 17) × Unused firsts
+abbrev pub DistinctRooms : ℕ → List ℕ → List ℕ → Type 0
+DistinctRooms n numbers firsts = (n ≤ length numbers) × (n ≤ length firsts) × (0 < length firsts) × (length firsts ≤ 2 ^ 17) × Unused firsts
 
 -- the first r of the numbers are among those below n, and no two of them are alike exactly where no two of all are
 pub record Thinned (f : ℕ → List ℕ) (n r : ℕ) (numbers : List ℕ) : Type 0 where

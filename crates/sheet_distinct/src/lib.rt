@@ -9,13 +9,13 @@ ghost use lib.ListN.{length, getD};
 ghost use lib.Seq.{slice};
 ghost use Rattle.encoding.specs.Tests.{Says};
 ghost use Rattle.encoding.specs.Dictionary.{Le};
-ghost use Rattle.sheet_distinct.specs.Order.{Shared, stretch, NoLater, Ordered, Sorted, left, Next, Apart, Adjacent, countFrom};
-ghost use Rattle.sheet_distinct.specs.Slots.{mixed, slotOf, Rooms, Thinned};
+ghost use Rattle.sheet_distinct.specs.Order.{BeginAlike, stretch, NoLater, Ordered, Sorted, left, Next, Apart, Adjacent, countFrom};
+ghost use Rattle.sheet_distinct.specs.Slots.{mixed, slotOf, DistinctRooms, Thinned};
 
 // How many bytes, word by word, the bytes from `a` to `ae` and those from `b` to `be` share at their beginning.
 fn shared(bytes: &[u8], a: usize, ae: usize, b: usize, be: usize) -> usize
     requires { ⌜ (a ≤ length (now bytes)) × (ae ≤ length (now bytes)) × (b ≤ length (now bytes)) × (be ≤ length (now bytes)) ⌝ }
-    ensures { λ r. ⌜ Shared (now (bytes .entry)) a ae b be r ⌝ }
+    ensures { λ r. ⌜ BeginAlike (now (bytes .entry)) a ae b be r ⌝ }
 {
     let mut i = a;
     let mut j = b;
@@ -248,7 +248,7 @@ fn thin(
     numbers: &mut [u16],
     firsts: &mut [u16],
 ) -> usize
-    requires { ⌜ (count < 2 ^ 16) × Rooms count (now numbers) (now firsts) ⌝ }
+    requires { ⌜ (count < 2 ^ 16) × DistinctRooms count (now numbers) (now firsts) ⌝ }
     ensures { λ r. ⌜ Thinned (stretch (now (bytes .entry)) (now (offsets .entry))) count r (now (numbers .exit)) ⌝ }
 {
     let slots = firsts.len();
@@ -283,7 +283,7 @@ pub fn distinct(
     numbers: &mut [u16],
     firsts: &mut [u16],
 ) -> bool
-    requires { ⌜ (count < 2 ^ 16) × Rooms count (now numbers) (now firsts) ⌝ }
+    requires { ⌜ (count < 2 ^ 16) × DistinctRooms count (now numbers) (now firsts) ⌝ }
     ensures { λ r. ⌜ Says r (Apart (stretch (now (bytes .entry)) (now (offsets .entry))) (countFrom 0 count)) ⌝ }
 {
     if count < 2 {

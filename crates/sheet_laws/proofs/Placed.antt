@@ -18,7 +18,7 @@ use Rattle.table_laws.specs.Offsets.{Offset, Placed}
 use Rattle.table_laws.proofs.Placed.{placed-bad, placed-table}
 use Rattle.sheet_check.specs.Check.{SheetChecked}
 use Rattle.sheet_ask.specs.Calls.{SheetReply}
-use Rattle.sheet_write.specs.Written.{Said, refused, bytes, Outcome, sheetOf, lengthBy, sheetLength, stored, writtenBy, written}
+use Rattle.sheet_write.specs.Written.{Said, refused, bytes, SheetOutcome, sheetOf, lengthBy, sheetLength, stored, writtenBy, written}
 
 module _ (t : List ℕ) (n number at : ℕ) where
   pub placed-length : sheetLength t n ≡ refused number at → Offset number at
@@ -34,7 +34,7 @@ module _ (t : List ℕ) (n number at : ℕ) where
   unfolding stored
   short sheet room e = go (leb (length sheet) (length room)) e
     where
-      go : (b : Bool) → (cond {A = Outcome} b (record { said = bytes (length sheet); room = sheet ++ drop (length sheet) room }) (record { said = refused 16 0; room = room })) .said ≡ refused number at → at ≡ 0
+      go : (b : Bool) → (cond {A = SheetOutcome} b (record { said = bytes (length sheet); room = sheet ++ drop (length sheet) room }) (record { said = refused 16 0; room = room })) .said ≡ refused number at → at ≡ 0
       go true e = let z : _≡_ {A = ℕ} 0 1 = cc in absurd (omega arith)
       go false e = cc
 

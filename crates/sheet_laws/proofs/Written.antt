@@ -13,9 +13,9 @@ use Rattle.sheet_write.specs.declared.LengthAnswer.{LengthAnswer}
 use Rattle.sheet_write.specs.declared.LengthAnswer.the-variants as length-answer
 use Rattle.sheet_write.specs.declared.WriteAnswer.{WriteAnswer}
 use Rattle.sheet_write.specs.declared.WriteAnswer.the-variants as write-answer
-use Rattle.sheet_write.specs.Written.{sheetOf, Said, refused, bytes, saysLength, saysWritten, Outcome, stored}
+use Rattle.sheet_write.specs.Written.{sheetOf, Said, refused, bytes, saysLength, saysWritten, SheetOutcome, stored}
 use Rattle.sheet_write.proofs.Laws.{length-clear, written-clear, stored-fits}
-use Rattle.sheet_laws.specs.Writing.{Measured, Wrote, First, SheetBy}
+use Rattle.sheet_laws.specs.Writing.{LengthAnswered, Wrote, FirstBytes, SheetBy}
 
 -- ---- an answer by what it says
 
@@ -42,20 +42,20 @@ said-written (write-answer.Refused r at) k e = absurd (no-size k (sym e))
 -- ---- bytes stored in a room
 
 -- where a size is answered, it is the sheet's, and the sheet stands first in the room
-stored-bytes : (sheet room after : List ℕ) (k : ℕ) → _≡_ {A = Outcome} (record { said = bytes k; room = after }) (stored sheet room)
+stored-bytes : (sheet room after : List ℕ) (k : ℕ) → _≡_ {A = SheetOutcome} (record { said = bytes k; room = after }) (stored sheet room)
     → (k ≡ length sheet) × (after ≡ sheet ++ drop (length sheet) room)
 unfolding stored
 stored-bytes sheet room after k = go (leb (length sheet) (length room))
   where
     go : (b : Bool)
-        → _≡_ {A = Outcome} (record { said = bytes k; room = after })
+        → _≡_ {A = SheetOutcome} (record { said = bytes k; room = after })
         (cond b (record { said = bytes (length sheet); room = sheet ++ drop (length sheet) room }) (record { said = refused 16 0; room = room }))
         → (k ≡ length sheet) × (after ≡ sheet ++ drop (length sheet) room)
-    go true e = (one-size k (length sheet) (ap (λ (o : Outcome). o .said) e), ap (λ (o : Outcome). o .room) e)
-    go false e = absurd (no-size k (ap (λ (o : Outcome). o .said) e))
+    go true e = (one-size k (length sheet) (ap (λ (o : SheetOutcome). o .said) e), ap (λ (o : SheetOutcome). o .room) e)
+    go false e = absurd (no-size k (ap (λ (o : SheetOutcome). o .said) e))
 
 -- the first bytes of a room that begins with the sheet, as many as the sheet has
-first-bytes : (size : ℕ) (after s sheet rest : List ℕ) → First size after s → size ≡ length sheet → after ≡ sheet ++ rest → s ≡ sheet
+first-bytes : (size : ℕ) (after s sheet rest : List ℕ) → FirstBytes size after s → size ≡ length sheet → after ≡ sheet ++ rest → s ≡ sheet
 first-bytes size after s sheet rest f l e = cc (take-append-seam sheet rest)
 
 -- ---- an accepted table
@@ -67,7 +67,7 @@ module _ (t : List ℕ) (n : ℕ) (a : Accepted t n) where
       let held = stored-bytes (sheetOf t n) (r .before) (r .after) (r .size) (r .run ∙ sym (written-clear t n (r .before) a)) in
       first-bytes (r .size) (r .after) s (sheetOf t n) _ (r .sheet) (held .0) (held .1)
 
-  pub measured : (l : LengthAnswer) → Measured t n l → l ≡ length-answer.Length (length (sheetOf t n))
+  pub measured : (l : LengthAnswer) → LengthAnswered t n l → l ≡ length-answer.Length (length (sheetOf t n))
   unfolding Accepted
   measured l e = said-length l (length (sheetOf t n)) (e ∙ sym (length-clear t n (length (sheetOf t n)) a refl))
 
@@ -76,7 +76,7 @@ module _ (t : List ℕ) (n : ℕ) (a : Accepted t n) where
   unfolding Accepted
   never-refused before after w e h =
       said-written w (length (sheetOf t n))
-      (ap (λ (o : Outcome). o .said)
+      (ap (λ (o : SheetOutcome). o .said)
       (e ∙ sym (written-clear t n before a) ∙ sym (stored-fits (sheetOf t n) before _ (length (sheetOf t n)) refl h refl)))
 
   -- into a room that is as long as the sheet it is written whole

@@ -19,7 +19,7 @@ use Rattle.sheet_write.specs.declared.LengthAnswer.the-variants.{Length}
 use Rattle.sheet_write.specs.declared.WriteAnswer.{WriteAnswer}
 use Rattle.sheet_write.specs.declared.WriteAnswer.the-variants.{Written}
 use Rattle.sheet_laws.specs.Outcomes.{Outcomes, Parts, Calls, replyTo, Alike}
-use Rattle.sheet_laws.specs.Writing.{Measured, Wrote, SheetBy}
+use Rattle.sheet_laws.specs.Writing.{LengthAnswered, Wrote, SheetBy}
 
 -- s is a sheet: some outcome of the check accepts it
 abbrev pub Sheet : List ℕ → Type 0
@@ -31,7 +31,7 @@ pub record Demand3 : Type 0 where
   -- and one alone, whatever the lent room held before
   pub one-sheet : (t s s′ : List ℕ) (n : ℕ) → Accepted t n → SheetBy t n s → SheetBy t n s′ → s ≡ s′
   -- its length can be asked for; lent that much room or more, the writer is never refused
-  pub sheet-length : (t : List ℕ) (n : ℕ) → Accepted t n → (l : LengthAnswer) → Measured t n l
+  pub sheet-length : (t : List ℕ) (n : ℕ) → Accepted t n → (l : LengthAnswer) → LengthAnswered t n l
       → (k : ℕ) × (l ≡ Length k) × ((s : List ℕ) → SheetBy t n s → length s ≡ k)
       × ((before after : List ℕ) (w : WriteAnswer) → Wrote t n before w after → k ≤ length before → w ≡ Written k)
   -- the sheets of two accepted tables read with the same glyph count are equal exactly when the tables mean the same: equal sheets, equal answers to

@@ -27,7 +27,7 @@ use Rattle.meaning.specs.Wide.{WideEntry}
 use Rattle.meaning.proofs.SheetLaws.{entry-free}
 use Rattle.sheet_cells.specs.Cells.{entryAt, byteAt, OkCells}
 use Rattle.sheet_cells.proofs.CellLaws.{entry-wide, entry-at, byte-at}
-use Rattle.sheet_machine.specs.Machine.{Sizes, LeastBy, rowAt, Readable, Least, OkLeast, OfCells}
+use Rattle.sheet_machine.specs.Machine.{Sizes, LeastBy, rowAt, ReadableCells, Least, OkLeast, OfCells}
 use Rattle.sheet_machine.proofs.LeastLaws.{few-cells}
 
 all-in : (m : ℕ) (is : List ℕ) (k : ℕ) → InOrder m k is → All (λ (i : ℕ). i < m) is
@@ -142,7 +142,7 @@ module _ (rows classes : ℕ) (z : Sizes rows classes) (s : List ℕ) (bytes : B
   unfolding rowAt
   row-is k h = ap (λ (x : Entry). x .row) (cell-at k h)
 
-  pub cells-readable : Readable s (at + 4) (at + 4 + 4 * u32At s at + 4) classes rows
+  pub cells-readable : ReadableCells s (at + 4) (at + 4 + 4 * u32At s at + 4) classes rows
   cells-readable =
       record {
         sizes = z;

@@ -38,7 +38,7 @@ unfoldable pub rowAt : List ℕ → ℕ → ℕ → ℕ → ℕ
 rowAt bytes entries cells k = u16At bytes (entries + 4 * getD bytes (cells + k) 0)
 
 -- the cells stand inside, and lead below the row count
-pub record Readable (bytes : List ℕ) (entries cells classes rows : ℕ) : Type 0 where
+pub record ReadableCells (bytes : List ℕ) (entries cells classes rows : ℕ) : Type 0 where
   pub sizes : Sizes rows classes
   pub numbers-in : cells + rows * classes ≤ length bytes
   pub entries-in : (k : ℕ) → k < rows * classes → entries + 4 * getD bytes (cells + k) 0 + 4 ≤ length bytes

@@ -9,13 +9,13 @@ ghost use Rattle.meaning.specs.Discrete.{Entry-discrete};
 ghost use Rattle.meaning.specs.Limits.{OkMaybe};
 ghost use Rattle.meaning.specs.Sheet.{entryCode, machineBytes};
 ghost use Rattle.sheet_cells.specs.Cells.{OkCells};
-ghost use Rattle.sheet_machine.specs.Machine.{Readable, LeastBy, rowAt, Sizes, Stands, OfCells, OkLeast, withinBytes, OkWithin, NoMachine, OneMachine};
+ghost use Rattle.sheet_machine.specs.Machine.{ReadableCells, LeastBy, rowAt, Sizes, Stands, OfCells, OkLeast, withinBytes, OkWithin, NoMachine, OneMachine};
 
 // Whether `rows` is the least closed number of rows, where entries stand at `entries` and the cells' numbers at
 // `cells`. Rows below `reached` have to be there; once all of their cells are passed, which are those below `limit`,
 // that many rows are closed.
 fn is_least(bytes: &[u8], entries: usize, cells: usize, classes: usize, rows: usize) -> bool
-    requires { ⌜ Readable (now bytes) entries cells classes rows ⌝ }
+    requires { ⌜ ReadableCells (now bytes) entries cells classes rows ⌝ }
     ensures { λ r. ⌜ Says r (LeastBy (rowAt (now (bytes .entry)) entries cells) classes rows) ⌝ }
 {
     let total = rows * classes;

@@ -9,7 +9,7 @@ ghost use Rattle.encoding.specs.Codes.{counted};
 ghost use Rattle.sheet_sections.specs.Section.{Parses};
 ghost use Rattle.sheet_sections.specs.Pool.{Items};
 ghost use Rattle.sheet_distinct.specs.Scan.{Scans};
-ghost use Rattle.sheet_distinct.specs.Slots.{Rooms};
+ghost use Rattle.sheet_distinct.specs.Slots.{DistinctRooms};
 ghost use Rattle.sheet_items.specs.Items.{item-discrete, itemCode, SomeItem, poolBytes, OkPool};
 
 // A cluster, or a list of actions.
@@ -64,7 +64,7 @@ fn read_by_offsets(
     numbers: &mut [u16],
     firsts: &mut [u16],
 ) -> Read
-    requires { ⌜ (glyphs < 2 ^ 16) × (min glyphs (u32At (now bytes) at) < length (now offsets)) × Rooms (min glyphs (u32At (now bytes) at)) (now numbers) (now firsts) ⌝ }
+    requires { ⌜ (glyphs < 2 ^ 16) × (min glyphs (u32At (now bytes) at) < length (now offsets)) × DistinctRooms (min glyphs (u32At (now bytes) at)) (now numbers) (now firsts) ⌝ }
     ensures { λ r. ⌜ Parses (counted (itemCode sort)) (Items (item-discrete sort) (SomeItem sort glyphs) glyphs) (now (bytes .entry)) at r ⌝ }
 {
     // A count; what it counts is read item by item.

@@ -17,7 +17,7 @@ use Rattle.encoding.proofs.RunsLaws.{ok-few}
 use Rattle.encoding.proofs.SectionLaws.{WideRunLess, run-less-free, ok-wide}
 use Rattle.encoding.proofs.PoolReadLaws.{values}
 use Rattle.sheet_sections.specs.Section.{HasItems}
-use Rattle.sheet_sections.specs.RunSection.{Follows}
+use Rattle.sheet_sections.specs.RunSection.{MayFollow}
 use Rattle.sheet_sections.proofs.SectionLaws.{field16, items-outside, items-good, items-bad}
 use Rattle.sheet_sections.specs.Pool.{numberAt, NumbersFrom, NumberRuns, usedAfter}
 
@@ -49,7 +49,7 @@ module _ (s : List ℕ) (n m from held used place left left′ : ℕ) (r : Run �
   items : itemsAt numberAt 6 s place left ≡ r ∷ rest
   items = ap (λ (j : ℕ). itemsAt numberAt 6 s place j) el ∙ ap (λ (x : Run ℕ). x ∷ rest) (sym er)
 
-  pub number-follows : NumbersFrom n m from held used (itemsAt numberAt 6 s place left) → Follows n (used + 1) 0 from held r
+  pub number-follows : NumbersFrom n m from held used (itemsAt numberAt 6 s place left) → MayFollow n (used + 1) 0 from held r
   number-follows h =
       let g : NumbersFrom n m from held used (r ∷ rest) = subst (NumbersFrom n m from held used) items h in
       record { rises = g .0 .0; whole = g .0 .1; inside = g .0 .2; small = omega (arith, g .1 .0); other = g .0 .3; maximal = g .0 .4 }
@@ -62,7 +62,7 @@ module _ (s : List ℕ) (n m from held used place left left′ : ℕ) (r : Run �
         (subst (λ (x : ℕ). OkRuns 0 n x (r .value) rest) l (g .0 .5), subst (λ (x : ℕ). InOrder (suc m) x (values rest)) (sym eu) (g .1 .1))
 
     -- the run follows, whatever its number was tested against, and its number is used before or the next new one
-    pub number-back : {limit : ℕ} → Follows n limit 0 from held r → r .value ≤ used
+    pub number-back : {limit : ℕ} → MayFollow n limit 0 from held r → r .value ≤ used
         → NumbersFrom n m from′ (r .value) used′ (itemsAt numberAt 6 s (place + 6) left′) → NumbersFrom n m from held used (itemsAt numberAt 6 s place left)
     number-back f k h =
         let l : from′ ≡ suc (r .last) = omega arith in

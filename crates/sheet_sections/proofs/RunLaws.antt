@@ -14,7 +14,7 @@ use Rattle.encoding.proofs.ListLaws.{all-map}
 use Rattle.encoding.proofs.RunsLaws.{runs-ok, runs-unrun, unrun-length, all-runs, all-unrun, ok-few}
 use Rattle.encoding.proofs.SectionLaws.{WideRun, run-free, ok-wide}
 use Rattle.sheet_sections.specs.Section.{HasItems}
-use Rattle.sheet_sections.specs.RunSection.{Below, runAt, Follows, GoodRuns}
+use Rattle.sheet_sections.specs.RunSection.{Below, runAt, MayFollow, GoodRuns}
 use Rattle.sheet_sections.proofs.SectionLaws.{field16, items-outside, items-good, items-bad}
 
 -- ---- a turn of the reader's loop
@@ -30,7 +30,7 @@ module _ (s : List ℕ) (n limit skip from held place left left′ : ℕ) (r : R
   items : itemsAt runAt 6 s place left ≡ r ∷ rest
   items = ap (λ (k : ℕ). itemsAt runAt 6 s place k) el ∙ ap (λ (x : Run ℕ). x ∷ rest) (sym e)
 
-  pub turn-follows : GoodRuns n limit skip from held (itemsAt runAt 6 s place left) → Follows n limit skip from held r
+  pub turn-follows : GoodRuns n limit skip from held (itemsAt runAt 6 s place left) → MayFollow n limit skip from held r
   turn-follows h =
       let g : GoodRuns n limit skip from held (r ∷ rest) = subst (GoodRuns n limit skip from held) items h in
       record { rises = g .0 .0; whole = g .0 .1; inside = g .0 .2; small = g .1 .0; other = g .0 .3; maximal = g .0 .4 }
@@ -42,7 +42,7 @@ module _ (s : List ℕ) (n limit skip from held place left left′ : ℕ) (r : R
         let g : GoodRuns n limit skip from held (r ∷ rest) = subst (GoodRuns n limit skip from held) items h in
         subst (λ (m : ℕ). GoodRuns n limit skip m (r .value) rest) l (g .0 .5, g .1 .1)
 
-    pub turn-back : Follows n limit skip from held r → GoodRuns n limit skip from′ (r .value) (itemsAt runAt 6 s (place + 6) left′)
+    pub turn-back : MayFollow n limit skip from held r → GoodRuns n limit skip from′ (r .value) (itemsAt runAt 6 s (place + 6) left′)
         → GoodRuns n limit skip from held (itemsAt runAt 6 s place left)
     turn-back f h =
         let l : from′ ≡ suc (r .last) = omega arith in

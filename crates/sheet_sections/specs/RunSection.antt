@@ -16,7 +16,7 @@ abbrev pub runAt : List ℕ → ℕ → Run ℕ
 runAt bytes at = record { first = u16At bytes at; last = u16At bytes (at + 2); value = u16At bytes (at + 4) }
 
 -- a run among n elements that may stand after what ended before `from` with the value `held`
-pub record Follows (n limit skip from held : ℕ) (r : Run ℕ) : Type 0 where
+pub record MayFollow (n limit skip from held : ℕ) (r : Run ℕ) : Type 0 where
   pub rises : from ≤ r .first
   pub whole : r .first ≤ r .last
   pub inside : r .last < n

@@ -10,7 +10,7 @@ ghost use Rattle.encoding.specs.Codes.{itemsAt, counted};
 ghost use Rattle.encoding.specs.Sections.{runSection, runLessCode};
 ghost use Rattle.encoding.specs.Tests.{Says};
 ghost use Rattle.sheet_sections.specs.Section.{Parses, HasItems};
-ghost use Rattle.sheet_sections.specs.RunSection.{runAt, Follows, GoodRuns, Below};
+ghost use Rattle.sheet_sections.specs.RunSection.{runAt, MayFollow, GoodRuns, Below};
 ghost use Rattle.sheet_sections.specs.Pool.{numberAt, NumbersFrom, NumberRuns, usedAfter};
 
 // What a reader finds at a position: the bytes of a valid value, up to the place named, or those of none.
@@ -49,7 +49,7 @@ pub fn follows(
     limit: usize,
     skip: usize,
 ) -> bool
-    ensures { λ r. ⌜ Says r (Follows glyphs limit skip from held (record { first = first; last = last; value = value })) ⌝ }
+    ensures { λ r. ⌜ Says r (MayFollow glyphs limit skip from held (record { first = first; last = last; value = value })) ⌝ }
 {
     if first < from {
         return false;

@@ -18,7 +18,7 @@ use Rattle.sheet_text.specs.Printed.{printedSheet, printedRefusal}
 use Rattle.sheet_text.specs.Laws.{printed-most}
 use Rattle.sheet_write.specs.declared.WriteAnswer.{WriteAnswer}
 use Rattle.sheet_write.specs.declared.WriteAnswer.the-variants.{Written, Refused}
-use Rattle.sheet_write.specs.Written.{Said, refused, bytes, saysWritten, Outcome, sheetOf, stored, writtenBy, written}
+use Rattle.sheet_write.specs.Written.{Said, refused, bytes, saysWritten, SheetOutcome, sheetOf, stored, writtenBy, written}
 use Rattle.sheet_text.specs.Text.{sheetRoom, textRoom, textBy, tableText, longestInput, programText}
 
 -- ---- what the writer said: the text, and that what it wrote is in the room
@@ -32,7 +32,7 @@ Fits (bytes n) = n ≤ sheetRoom
 Fits (refused number at) = Unit
 
 module _ (sheet room : List ℕ) (h : length room ≡ sheetRoom) where
-  abbrev outcome : Bool → Outcome
+  abbrev outcome : Bool → SheetOutcome
   outcome b = cond b (record { said = bytes (length sheet); room = sheet ++ drop (length sheet) room }) (record { said = refused 16 0; room = room })
 
   outcome-text : (b : Bool) → textSaid (outcome b .said) (outcome b .room) ≡ cond b (printedSheet sheet) (printedRefusal 16)
@@ -59,11 +59,11 @@ module _ (t : List ℕ) (n : ℕ) (room : List ℕ) (h : length room ≡ sheetRo
     (e : record { said = saysWritten answer; room = after } ≡ written t n room) where
   said-text : textSaid (saysWritten answer) after ≡ tableText t n
   unfolding written tableText
-  said-text = ap (λ (o : Outcome). textSaid (o .said) (o .room)) e ∙ by-text (sheetOf t n) room h (tableFault t n)
+  said-text = ap (λ (o : SheetOutcome). textSaid (o .said) (o .room)) e ∙ by-text (sheetOf t n) room h (tableFault t n)
 
   said-fits : Fits (saysWritten answer)
   unfolding written
-  said-fits = subst Fits (sym (ap (λ (o : Outcome). o .said) e)) (by-fits (sheetOf t n) room h (tableFault t n))
+  said-fits = subst Fits (sym (ap (λ (o : SheetOutcome). o .said) e)) (by-fits (sheetOf t n) room h (tableFault t n))
 
   pub wrote-text : (k : ℕ) → answer ≡ Written k → printedSheet (take k after) ≡ tableText t n
   wrote-text k q = ap (λ (a : WriteAnswer). textSaid (saysWritten a) after) (sym q) ∙ said-text

@@ -46,21 +46,21 @@ sheetLength t n = lengthBy (tableFault t n) (sheetOf t n)
 
 -- ---- the sheet written: what is answered, and what the room holds afterwards
 
-pub record Outcome : Type 0 where
+pub record SheetOutcome : Type 0 where
   pub said : Said
   pub room : List ℕ
 
-unfoldable pub stored : List ℕ → List ℕ → Outcome
+unfoldable pub stored : List ℕ → List ℕ → SheetOutcome
 stored sheet room =
     cond (leb (length sheet) (length room))
     (record { said = bytes (length sheet); room = sheet ++ drop (length sheet) room })
     (record { said = refused 16 0; room = room })
 
-unfoldable pub writtenBy : Fault → List ℕ → List ℕ → Outcome
+unfoldable pub writtenBy : Fault → List ℕ → List ℕ → SheetOutcome
 writtenBy Clear sheet room = stored sheet room
 writtenBy (Bad r at) sheet room = record { said = refused (numberOf r) at; room = room }
 
-unfoldable pub written : List ℕ → ℕ → List ℕ → Outcome
+unfoldable pub written : List ℕ → ℕ → List ℕ → SheetOutcome
 written t n room = writtenBy (tableFault t n) (sheetOf t n) room
 
 -- a draft begins with the sheet, if it is long enough

@@ -7,7 +7,7 @@ ghost use lib.ListN.{length, take, drop};
 ghost use lib.Seq.{sets, slice};
 ghost use Rattle.fields.specs.declared.Fault.the-variants.{Clear};
 ghost use Rattle.table.specs.Table.{tableFault};
-ghost use Rattle.sheet_write.specs.Written.{sheetOf, saysLength, saysWritten, sheetLength, Outcome, stored, written, Draft};
+ghost use Rattle.sheet_write.specs.Written.{sheetOf, saysLength, saysWritten, sheetLength, SheetOutcome, stored, written, Draft};
 use fields::Fault;
 use fields::Refusal;
 use types::Direction;

@@ -6,7 +6,7 @@ ghost use lib.ListN.{length};
 ghost use Rattle.answers.specs.Says.{judgedBy, saysChecked};
 ghost use Rattle.fields.specs.Faults.{_then_};
 ghost use Rattle.types.specs.declared.Direction.the-variants.{Horizontal, Vertical};
-ghost use Rattle.lookup_targets.specs.Values.{sourceFault, Near, Judged};
+ghost use Rattle.lookup_targets.specs.Values.{sourceFault, NearSource, Judged};
 ghost use Rattle.table.specs.Table.{directionAt, machinePlace, listSource, sourceAt, headerFault, offsetsFault, machinePart, directionFault, tableFault};
 use answers::Checked;
 use fields::Fault;
@@ -38,7 +38,7 @@ pub fn machine_place(table: &[u8], at: usize) -> usize
 // Where the lists come from that an action lookup at an offset leads to, 0 for none.
 fn list_source(offset: usize) -> Source
     requires { ⌜ offset < 2 ^ 16 ⌝ }
-    ensures { λ r. ⌜ (r ≡ listSource offset) × Near r ⌝ }
+    ensures { λ r. ⌜ (r ≡ listSource offset) × NearSource r ⌝ }
 {
     if offset == 0 {
         return Source::Absent;
@@ -52,7 +52,7 @@ fn list_source(offset: usize) -> Source
 // Where the clusters, or the lists, of the direction at `at` come from.
 pub fn source_at(table: &[u8], at: usize, kind: Kind) -> Source
     requires { ⌜ at < 2 ^ 16 ⌝ }
-    ensures { λ r. ⌜ (r ≡ sourceAt (now (table .entry)) at kind) × Near r ⌝ }
+    ensures { λ r. ⌜ (r ≡ sourceAt (now (table .entry)) at kind) × NearSource r ⌝ }
 {
     if at == 0 {
         return Source::Absent;
@@ -79,7 +79,7 @@ fn machine_part(table: &[u8], glyphs: usize, offset: usize) -> Fault
 
 // The lookup of a source, and the clusters or lists that its values lead to.
 fn source_fault(table: &[u8], glyphs: usize, kind: Kind, source: Source, judged: &mut [u8]) -> Fault
-    requires { ⌜ Near source × (glyphs < 2 ^ 16) ⌝ }
+    requires { ⌜ NearSource source × (glyphs < 2 ^ 16) ⌝ }
     requires { ⌜ Judged (now table) glyphs (now judged) ⌝ }
     ensures { λ r. ⌜ (r ≡ sourceFault (now (table .entry)) glyphs kind source) × Judged (now (table .entry)) glyphs (now (judged .exit)) ⌝ }
 {

@@ -19,7 +19,7 @@ use Rattle.lookup.specs.Find.{valueOf}
 use Rattle.actions.specs.declared.Spot.{Spot}
 use Rattle.actions.specs.declared.Spot.the-variants.{At, Nowhere}
 use Rattle.actions.specs.declared.Stretch.{Stretch}
-use Rattle.actions.specs.Actions.{Below}
+use Rattle.actions.specs.Actions.{SpotBelow}
 use Rattle.lookup_targets.specs.declared.Source.{Source}
 use Rattle.lookup_targets.specs.declared.Source.the-variants as source
 use Rattle.lookup_targets.specs.Values.{spotOf, valuesFault, sourceFault}
@@ -31,8 +31,8 @@ use Rattle.table_ask.specs.Places.{headed, lookupIn, Readable, Sound, sp
 use Rattle.table_ask.specs.Components.{unlessFault}
 
 -- the offset of a spot that is there
-pub below-at : {n p : ℕ} {s : Spot} → s ≡ At p → Below n s → p < n
-below-at {n} {p} {s} e b = subst (Below n) e b
+pub below-at : {n p : ℕ} {s : Spot} → s ≡ At p → SpotBelow n s → p < n
+below-at {n} {p} {s} e b = subst (SpotBelow n) e b
 
 -- a spot by a plain number
 pub from-near : (p : ℕ) → p < 2 ^ 17 → spotFrom p ≡ At p

@@ -8,7 +8,7 @@ ghost use Rattle.meaning.specs.Ask.{maybe, pair, recordOf, ask, glyphCount, siz
 ghost use Rattle.answers.specs.Says.{given, unlessBad, saysCount, saysSizes, saysClass, saysCell, saysRecord, saysAction, roomAfter};
 ghost use Rattle.fields.specs.declared.Fault.the-variants.{Clear};
 ghost use Rattle.cluster.specs.Pairs.{clusterAt};
-ghost use Rattle.actions.specs.Actions.{Below};
+ghost use Rattle.actions.specs.Actions.{SpotBelow};
 ghost use Rattle.table.specs.Table.{tableFault};
 ghost use Rattle.table.specs.Means.{meaningOf};
 ghost use Rattle.table_ask.specs.Places.{machineIn, lookupIn, lookupBy, Readable, Sound, spotBy, spotFrom, spotIn, actionSpot, cut};
@@ -16,12 +16,12 @@ ghost use Rattle.table_ask.specs.Components.{componentsOf, stretch, plac
 use actions::Spot;
 use actions::Stretch;
 use answers::ActionAnswer;
+use answers::ActionSought;
 use answers::CellAnswer;
 use answers::ClassAnswer;
 use answers::CountAnswer;
 use answers::RecordAnswer;
 use answers::SizesAnswer;
-use answers::Sought;
 use fields::Fault;
 use lookup_find::Head;
 use lookup_targets::Kind;
@@ -113,7 +113,7 @@ const FAR: usize = 131072;
 
 // A spot by a plain number.
 fn spot_from(place: usize) -> Spot
-    ensures { λ r. ⌜ (r ≡ spotFrom place) × Below (2 ^ 17) r ⌝ }
+    ensures { λ r. ⌜ (r ≡ spotFrom place) × SpotBelow (2 ^ 17) r ⌝ }
 {
     if place < FAR {
         return Spot::At(place);
@@ -123,7 +123,7 @@ fn spot_from(place: usize) -> Spot
 
 // A spot as a plain number.
 fn plain(spot: Spot) -> usize
-    requires { ⌜ Below (2 ^ 17) spot ⌝ }
+    requires { ⌜ SpotBelow (2 ^ 17) spot ⌝ }
     ensures { λ r. ⌜ spotFrom r ≡ spot ⌝ }
 {
     match spot {
@@ -156,7 +156,7 @@ fn place_by(
 // format 2. The other formats are called for each kind, which keeps them out of the loops into which this is compiled.
 pub fn spot_by(table: &[u8], count: u32, kind: Kind, lookup: Lookup, glyph: u16) -> Spot
     requires { ⌜ Readable (now table) lookup × Sound (now table) count lookup ⌝ }
-    ensures { λ r. ⌜ (r ≡ spotBy (now (table .entry)) count kind lookup glyph) × Below (2 ^ 17) r ⌝ }
+    ensures { λ r. ⌜ (r ≡ spotBy (now (table .entry)) count kind lookup glyph) × SpotBelow (2 ^ 17) r ⌝ }
 {
     let Lookup::There { at, base, head } = lookup else {
         return Spot::Nowhere;
@@ -192,7 +192,7 @@ pub fn spot_by(table: &[u8], count: u32, kind: Kind, lookup: Lookup, glyph: u16)
 // Where a glyph's cluster or list stands in a direction.
 fn spot_in(table: &[u8], count: u32, direction: Direction, kind: Kind, glyph: u16) -> Spot
     requires { ⌜ tableFault (now table) count ≡ Clear ⌝ }
-    ensures { λ r. ⌜ (r ≡ spotIn (now (table .entry)) count direction kind glyph) × Below (2 ^ 17) r ⌝ }
+    ensures { λ r. ⌜ (r ≡ spotIn (now (table .entry)) count direction kind glyph) × SpotBelow (2 ^ 17) r ⌝ }
 {
     let lookup = lookup_in(table, direction, kind);
     spot_by(table, count, kind, lookup, glyph)
@@ -223,7 +223,7 @@ fn record_of(table: &[u8], count: u32, direction: Direction, glyph: u16, class: 
 // Where the action of a glyph with a number stands in a direction.
 fn action_spot(table: &[u8], count: u32, direction: Direction, glyph: u16, number: u16) -> Spot
     requires { ⌜ tableFault (now table) count ≡ Clear ⌝ }
-    ensures { λ r. ⌜ (r ≡ actionSpot (now (table .entry)) count direction glyph number) × Below (2 ^ 50) r ⌝ }
+    ensures { λ r. ⌜ (r ≡ actionSpot (now (table .entry)) count direction glyph number) × SpotBelow (2 ^ 50) r ⌝ }
 {
     match spot_in(table, count, direction, Kind::Lists, glyph) {
         Spot::At(at) => actions::place_of(table, at, number),
@@ -245,10 +245,10 @@ fn action_of(
 {
     match action_spot(table, count, direction, glyph, number) {
         Spot::At(at) => ActionAnswer {
-            sought: Sought::Found,
+            sought: ActionSought::Found,
             action: actions::action_at(table, at),
         },
-        Spot::Nowhere => answers::no_action(Sought::Nothing),
+        Spot::Nowhere => answers::no_action(ActionSought::Nothing),
     }
 }
 
@@ -320,7 +320,7 @@ pub fn ask_action(
 {
     match table::table_fault(table, count) {
         Fault::Clear => action_of(table, count, direction, glyph, number),
-        Fault::Bad { refusal, at } => answers::no_action(Sought::Refused { refusal, at }),
+        Fault::Bad { refusal, at } => answers::no_action(ActionSought::Refused { refusal, at }),
     }
 }
 

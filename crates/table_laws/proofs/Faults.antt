@@ -24,7 +24,7 @@ use Rattle.lookup_targets.specs.Values.{glyphFault, valuesFault}
 use Rattle.fields.specs.Refusals.{numberOf, one-number}
 use Rattle.answers.specs.Says.{accepted, barred, judgedBy}
 use Rattle.table.specs.Table.{present, headerFault, offsetsFault, directionFault, tableFault, Accepted}
-use Rattle.table_laws.specs.Order.{First, Free, FirstGlyph, tableParts, directionParts, GoodHeader, BadHeader, length-fails, count-fails, version-fails}
+use Rattle.table_laws.specs.Order.{FirstIs, NoFault, FirstGlyph, tableParts, directionParts, GoodHeader, BadHeader, length-fails, count-fails, version-fails}
 
 -- ---- a chain of faults
 
@@ -36,24 +36,24 @@ chain (f ∷ fs) = f then chain fs
 pub clear-not-bad : {r : Refusal} {at : ℕ} {f : Fault} → f ≡ Clear → f ≡ Bad r at → ⊥
 clear-not-bad {r} {at} {f} p q = let z : _≡_ {A = ℕ} 0 1 = cc in omega arith
 
-pub chain-first : (fs : List Fault) (r : Refusal) (at : ℕ) → chain fs ≡ Bad r at → First fs r at
+pub chain-first : (fs : List Fault) (r : Refusal) (at : ℕ) → chain fs ≡ Bad r at → FirstIs fs r at
 chain-first [] r at e = clear-not-bad refl e
 chain-first (f ∷ fs) r at e = go f refl (chain-first fs r at)
   where
-    go : (g : Fault) → f ≡ g → (chain fs ≡ Bad r at → First fs r at) → (f ≡ Bad r at) ⊎ ((f ≡ Clear) × First fs r at)
+    go : (g : Fault) → f ≡ g → (chain fs ≡ Bad r at → FirstIs fs r at) → (f ≡ Bad r at) ⊎ ((f ≡ Clear) × FirstIs fs r at)
     go Clear p ih = inr (p, ih (sym (then-go (chain fs) p) ∙ e))
     go (Bad s q) p ih = inl (sym (then-stop (chain fs) p) ∙ e)
 
-pub first-chain : (fs : List Fault) (r : Refusal) (at : ℕ) → First fs r at → chain fs ≡ Bad r at
+pub first-chain : (fs : List Fault) (r : Refusal) (at : ℕ) → FirstIs fs r at → chain fs ≡ Bad r at
 first-chain [] r at h = absurd h
 first-chain (f ∷ fs) r at (inl p) = then-stop (chain fs) p ∙ p
 first-chain (f ∷ fs) r at (inr h) = then-go (chain fs) (h .0) ∙ first-chain fs r at (h .1)
 
-pub chain-free : (fs : List Fault) → chain fs ≡ Clear → Free fs
+pub chain-free : (fs : List Fault) → chain fs ≡ Clear → NoFault fs
 chain-free [] e = tt
 chain-free (f ∷ fs) e = (then-first _ _ e, chain-free fs (then-second _ _ e))
 
-pub free-chain : (fs : List Fault) → Free fs → chain fs ≡ Clear
+pub free-chain : (fs : List Fault) → NoFault fs → chain fs ≡ Clear
 free-chain [] h = refl
 free-chain (f ∷ fs) h = then-go (chain fs) (h .0) ∙ free-chain fs (h .1)
 
@@ -64,12 +64,12 @@ unfolding tableFault
 table-chain t n = simp then-clear
 
 -- a table is refused with r at `at` exactly when this is the fault of its first part, header, horizontal, vertical, that has one
-pub first-fault : (t : List ℕ) (n : ℕ) (r : Refusal) (at : ℕ) → (tableFault t n ≡ Bad r at) ↔ First (tableParts t n) r at
+pub first-fault : (t : List ℕ) (n : ℕ) (r : Refusal) (at : ℕ) → (tableFault t n ≡ Bad r at) ↔ FirstIs (tableParts t n) r at
 first-fault t n r at =
     (λ e. chain-first (tableParts t n) r at (sym (table-chain t n) ∙ e), λ h. table-chain t n ∙ first-chain (tableParts t n) r at h)
 
 -- it is accepted exactly when none of its parts has a fault
-pub no-fault : (t : List ℕ) (n : ℕ) → Accepted t n ↔ Free (tableParts t n)
+pub no-fault : (t : List ℕ) (n : ℕ) → Accepted t n ↔ NoFault (tableParts t n)
 unfolding Accepted
 no-fault t n = (λ e. chain-free (tableParts t n) (sym (table-chain t n) ∙ e), λ h. table-chain t n ∙ free-chain (tableParts t n) h)
 
@@ -95,12 +95,12 @@ unfolding directionFault present offsetsFault
 direction-chain t n at h = simp (ne-eqb at 0 h, then-clear, then-assoc)
 
 -- a present direction has the fault of the first of its parts, in order, that has one
-pub direction-first : (t : List ℕ) (n at : ℕ) (r : Refusal) (p : ℕ) → (at ≡ 0 → ⊥) → (directionFault t n at ≡ Bad r p) ↔ First (directionParts t n at) r p
+pub direction-first : (t : List ℕ) (n at : ℕ) (r : Refusal) (p : ℕ) → (at ≡ 0 → ⊥) → (directionFault t n at ≡ Bad r p) ↔ FirstIs (directionParts t n at) r p
 direction-first t n at r p h =
     (λ e. chain-first (directionParts t n at) r p (sym (direction-chain t n at h) ∙ e), λ f. direction-chain t n at h ∙ first-chain (directionParts t n at) r p f)
 
 -- and none exactly when none of them has one
-pub direction-free : (t : List ℕ) (n at : ℕ) → (at ≡ 0 → ⊥) → (directionFault t n at ≡ Clear) ↔ Free (directionParts t n at)
+pub direction-free : (t : List ℕ) (n at : ℕ) → (at ≡ 0 → ⊥) → (directionFault t n at ≡ Clear) ↔ NoFault (directionParts t n at)
 direction-free t n at h =
     (λ e. chain-free (directionParts t n at) (sym (direction-chain t n at h) ∙ e), λ f. direction-chain t n at h ∙ free-chain (directionParts t n at) f)
 
@@ -173,7 +173,7 @@ check-accepts t n = (λ e. go (tableFault t n) e, λ e. ap judgedBy e)
     go (Bad r at) e = let z : _≡_ {A = ℕ} 0 1 = cc in absurd (omega arith)
 
 -- a refusal's number and an offset, exactly when they are those of the first part with a fault
-pub check-refuses : (t : List ℕ) (n : ℕ) (r : Refusal) (at : ℕ) → (judgedBy (tableFault t n) ≡ barred (numberOf r) at) ↔ First (tableParts t n) r at
+pub check-refuses : (t : List ℕ) (n : ℕ) (r : Refusal) (at : ℕ) → (judgedBy (tableFault t n) ≡ barred (numberOf r) at) ↔ FirstIs (tableParts t n) r at
 check-refuses t n r at = (
   λ e. first-fault t n r at .0 (go (tableFault t n) e),
   λ h. ap judgedBy (first-fault t n r at .1 h),
@@ -206,7 +206,7 @@ module _ (t : List ℕ) (n : ℕ) where
   unfolding headerFault
   header-chain = simp then-clear
 
-  free-good : Free (headerParts t n) → GoodHeader t n
+  free-good : NoFault (headerParts t n) → GoodHeader t n
   free-good h =
       record {
         long = leb-true _ _ (rule-holds _ TableLength 0 (h .0));
@@ -229,7 +229,7 @@ module _ (t : List ℕ) (n : ℕ) where
   few-clear : n ≤ 65535 → rule (leb n 65535) GlyphCount 0 ≡ Clear
   few-clear h = rule-clear GlyphCount 0 (le-leb _ _ h)
 
-  good-free : GoodHeader t n → Free (headerParts t n)
+  good-free : GoodHeader t n → NoFault (headerParts t n)
   good-free h = (
     long-clear (h .long),
     (
@@ -249,7 +249,7 @@ module _ (t : List ℕ) (n : ℕ) where
   good-header =
       (λ e. free-good (chain-free (headerParts t n) (sym header-chain ∙ e)), λ h. header-chain ∙ free-chain (headerParts t n) (good-free h))
 
-  first-bad : (r : Refusal) (at : ℕ) → First (headerParts t n) r at → BadHeader t n r × (at ≡ 0)
+  first-bad : (r : Refusal) (at : ℕ) → FirstIs (headerParts t n) r at → BadHeader t n r × (at ≡ 0)
   first-bad r at (inl e) =
       let b = rule-bad _ TableLength r 0 at e in
       (subst (BadHeader t n) (b .1) (length-fails (inl (leb-false _ _ (b .0)))), sym (b .2))
@@ -279,12 +279,12 @@ module _ (t : List ℕ) (n : ℕ) where
   first-bad r at (inr (c1, inr (c2, inr (c3, inr (c4, inr (c5, inr (c6, h))))))) = absurd h
 
   version-first : (b : Bool) → eqb (u32At t 0) 0x00010000 ≡ b → (u32At t 0 ≡ 0x00010000 → ⊥) ⊎ (u16At t 4 ≡ 0 → ⊥)
-      → First (rule (eqb (u32At t 0) 0x00010000) Version 0 ∷ rule (eqb (u16At t 4) 0) Version 0 ∷ []) Version 0
+      → FirstIs (rule (eqb (u32At t 0) 0x00010000) Version 0 ∷ rule (eqb (u16At t 4) 0) Version 0 ∷ []) Version 0
   version-first false q h = inl (rule-fails Version 0 q)
   version-first true q (inl h) = absurd (h (eqb-true _ _ q))
   version-first true q (inr h) = inr (rule-clear Version 0 q, inl (rule-fails Version 0 (ne-eqb _ _ h)))
 
-  bad-first : (r : Refusal) → BadHeader t n r → First (headerParts t n) r 0
+  bad-first : (r : Refusal) → BadHeader t n r → FirstIs (headerParts t n) r 0
   bad-first r (length-fails (inl h)) = inl (rule-fails TableLength 0 (lt-leb _ _ h))
   bad-first r (length-fails (inr h)) = inr (long-clear (omega arith), inl (rule-fails TableLength 0 (lt-leb _ _ h)))
   bad-first r (count-fails a b (inl h)) = inr (long-clear a, inr (short-clear b, inl (rule-fails GlyphCount 0 (lt-leb _ _ h))))

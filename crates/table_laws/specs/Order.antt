@@ -16,14 +16,14 @@ use Rattle.lookup_targets.specs.Values.{valuesFault}
 use Rattle.table.specs.Table.{headerFault, machineOffset, widthOffset, actionOffset, widthLookup, machinePart, actionPart, directionFault}
 
 -- one of the faults is the refusal r at `at`, and those ahead of it are clear
-abbrev pub First : List Fault → Refusal → ℕ → Type 0
-First [] r at = ⊥
-First (f ∷ fs) r at = (f ≡ Bad r at) ⊎ ((f ≡ Clear) × First fs r at)
+abbrev pub FirstIs : List Fault → Refusal → ℕ → Type 0
+FirstIs [] r at = ⊥
+FirstIs (f ∷ fs) r at = (f ≡ Bad r at) ⊎ ((f ≡ Clear) × FirstIs fs r at)
 
 -- none of them is a fault
-abbrev pub Free : List Fault → Type 0
-Free [] = Unit {0}
-Free (f ∷ fs) = (f ≡ Clear) × Free fs
+abbrev pub NoFault : List Fault → Type 0
+NoFault [] = Unit {0}
+NoFault (f ∷ fs) = (f ≡ Clear) × NoFault fs
 
 -- the parts of a table: its header, then the horizontal and the vertical direction, whose offsets stand at 6 and 8
 abbrev pub tableParts : List ℕ → ℕ → List Fault

@@ -1,5 +1,5 @@
 -- Whether an action fires for a glyph (document 01, "Verdicts"): at a growth g in units, a point size s and the glyph's class.
--- Lower, upper and threshold are Fixed numbers of ems; they and g meet only as products: g × 65,536 and limit × s.
+-- Lower, upper and threshold are Fixed numbers of ems; they and g meet only as products, g × 65,536 and limit × s (the code holds g against a factor, by `below-factor` and `above-factor` of crate units).
 use Prim.Native.Nat.{ℕ}
 use mathlib.Core.Bool.{Bool, cond, _||_}
 use mathlib.Core.List.{List}

@@ -10,7 +10,7 @@ ghost use lib.Seq.{sets};
 ghost use Rattle.fields.specs.Field.{be16, be32};
 ghost use Rattle.encoding.specs.Codes.{many, counted};
 ghost use Rattle.meaning.specs.Sheet.{pairCode};
-ghost use Rattle.encoding.specs.Dictionary.{Before, Apart};
+ghost use Rattle.encoding.specs.Dictionary.{Before, ApartAt};
 ghost use Rattle.encoding.specs.Tests.{Says};
 ghost use Rattle.cluster.specs.Pairs.{pairAt, pairsAt, clusterAt};
 ghost use Rattle.write_cluster.specs.Hash.{limitsAt, flagsAt, limitsHash, pairHash, clusterHash};
@@ -85,7 +85,7 @@ pub fn same_pair<'a>(one: &'a [u8], other: &'a [u8], a: usize, b: usize) -> bool
 // Past the pairs that are the same, of `count` from `first` of one table on and from `second` of the other on.
 fn past_same<'a>(one: &'a [u8], other: &'a [u8], first: usize, second: usize, count: usize) -> Front
     requires { ⌜ (first + 24 * count < 2 ^ 60) × (second + 24 * count < 2 ^ 60) ⌝ }
-    ensures { λ r. ⌜ (r .a < 2 ^ 61) × (r .b < 2 ^ 61) × Apart pairWords (pairAt (now (one .entry))) (pairAt (now (other .entry))) (pairsAt (now (one .entry)) count first) (pairsAt (now (other .entry)) count second) (r .left) (r .a) (r .b) ⌝ }
+    ensures { λ r. ⌜ (r .a < 2 ^ 61) × (r .b < 2 ^ 61) × ApartAt pairWords (pairAt (now (one .entry))) (pairAt (now (other .entry))) (pairsAt (now (one .entry)) count first) (pairsAt (now (other .entry)) count second) (r .left) (r .a) (r .b) ⌝ }
 {
     let mut a = first;
     let mut b = second;

@@ -17,7 +17,7 @@ use Rattle.meaning.specs.Meaning.{Side, emptySide}
 use Rattle.meaning.specs.Sheet.{clusterSection, clusterRunSection, listSection, listRunSection, writeSide}
 use Rattle.lookup_targets.specs.declared.Kind.{Kind}
 use Rattle.lookup_targets.specs.declared.Kind.the-variants.{Clusters, Lists}
-use Rattle.lookup_targets.specs.Values.{spotOf, clusterHere, listHere, clusterOf, listOf, valuesFault, sourceFault, Near}
+use Rattle.lookup_targets.specs.Values.{spotOf, clusterHere, listHere, clusterOf, listOf, valuesFault, sourceFault, NearSource}
 use Rattle.lookup.specs.Find.{valueOf}
 use Rattle.actions.specs.declared.Spot.{Spot}
 use Rattle.actions.specs.declared.Spot.the-variants.{At, Nowhere}
@@ -28,7 +28,7 @@ use Rattle.table.proofs.Laws.{place-none, place-some, source-none, source-some,
 use Rattle.write_item.specs.Items.{itemAt, item-discrete, itemCode}
 use Rattle.lookup_targets.specs.declared.Source.{Source}
 use Rattle.lookup_targets.specs.declared.Source.the-variants.{Lookup, Absent}
-use Rattle.write_glyphs.specs.Places.{itemHere, itemsFrom, Sound}
+use Rattle.write_glyphs.specs.Places.{itemHere, itemsFrom, SoundSource}
 use Rattle.write_pool.specs.Pool.{poolBytes, Short, Numberable}
 use Rattle.write_machine.specs.Parts.{machineParts, machineBytes}
 use Rattle.write_direction.specs.Side.{sideBytes, ClearSide}
@@ -140,7 +140,7 @@ module _ (t : List ℕ) (n : ℕ) where
   -- ---- a source without fault
 
   module _ (kind : Kind) where
-    pub source-sound : (s : Source) → Near s → sourceFault t n kind s ≡ Clear → Sound t n s
+    pub source-sound : (s : Source) → NearSource s → sourceFault t n kind s ≡ Clear → SoundSource t n s
     unfolding valuesFault
     source-sound (Lookup at base) near e = (omega (arith, near .0), near .1, then-first _ _ e)
     source-sound Absent near e = tt
@@ -150,7 +150,7 @@ module _ (t : List ℕ) (n : ℕ) where
     source-short Absent w e = absent-short t n kind
 
 -- what the items of a kind need, from what the direction has
-pub pool-ready : (t : List ℕ) (n at : ℕ) → ClearSide t n at → Bytes t → (kind : Kind) (source : Source) → (source ≡ sourceAt t at kind) × Near source → Numberable kind t n source
+pub pool-ready : (t : List ℕ) (n at : ℕ) → ClearSide t n at → Bytes t → (kind : Kind) (source : Source) → (source ≡ sourceAt t at kind) × NearSource source → Numberable kind t n source
 pool-ready t n at r w kind source e =
     let clear = ap (sourceFault t n kind) (e .0) ∙ source-clear t at n (r .clear) kind in
     record { bytes = r .bytes; few = r .few; sound = source-sound t n kind source (e .1) clear; short = source-short t n kind source w clear }

@@ -18,7 +18,7 @@ use Rattle.types.specs.declared.Entry.{Entry}
 use Rattle.meaning.specs.Discrete.{Entry-discrete}
 use Rattle.meaning.specs.Sheet.{entryCode}
 use Rattle.machine.specs.Cells.{stateArray, entryAt}
-use Rattle.write_entries.specs.Entries.{storedAt, entriesOf, distinctOf, entryBytes, Numbered, cellBytes, Covers}
+use Rattle.write_entries.specs.Entries.{storedAt, entriesOf, distinctOf, entryBytes, NumberedEntries, cellBytes, Covers}
 
 -- how many elements are not 0
 abbrev one : ℕ → ℕ
@@ -222,7 +222,7 @@ numbers-cells eq f D sheet (q ∷ cells) h =
     let e : index eq (f q) D ≡ getD sheet q 0 - 1 = omega (arith, h 0 (omega arith)) in
     ap₂ (λ (n : ℕ) (l : List ℕ). n ∷ l) e (numbers-cells eq f D sheet cells (λ j hj. h (suc j) (omega arith)))
 
-module _ (t : List ℕ) (here n : ℕ) (firsts sheet : List ℕ) (k : ℕ) (w : Numbered t here n firsts sheet k) where
+module _ (t : List ℕ) (here n : ℕ) (firsts sheet : List ℕ) (k : ℕ) (w : NumberedEntries t here n firsts sheet k) where
   pub covers : Covers sheet (storedAt t here n) n
   covers j h = (omega (arith, w .each j h), omega (arith, w .within j h, w .few))
 
@@ -255,8 +255,8 @@ module _ (t : List ℕ) (here n : ℕ) (firsts sheet : List ℕ) (k : ℕ) (w : 
       )
 
 -- the numbering with no more than its k stored numbers
-pub numbered-cut : (t : List ℕ) (here n : ℕ) (firsts sheet : List ℕ) (k : ℕ) → k ≤ length firsts → Numbered t here n firsts sheet k
-    → Numbered t here n (take k firsts) sheet (length (take k firsts))
+pub numbered-cut : (t : List ℕ) (here n : ℕ) (firsts sheet : List ℕ) (k : ℕ) → k ≤ length firsts → NumberedEntries t here n firsts sheet k
+    → NumberedEntries t here n (take k firsts) sheet (length (take k firsts))
 numbered-cut t here n firsts sheet k h w =
     let l : length (take k firsts) ≡ k = length-take-le k firsts h in
     record {

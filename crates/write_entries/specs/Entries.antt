@@ -30,7 +30,7 @@ entryBytes t here n = numbered Entry-discrete entryCode (entriesOf t here (store
 
 -- The first k of `firsts` are stored numbers whose entries are the distinct ones; the array `sheet` maps the stored number of each cell to one more than
 -- the number of its entry in the sheet.
-pub record Numbered (t : List ℕ) (here n : ℕ) (firsts sheet : List ℕ) (k : ℕ) : Type 0 where
+pub record NumberedEntries (t : List ℕ) (here n : ℕ) (firsts sheet : List ℕ) (k : ℕ) : Type 0 where
   pub few : k ≤ 256
   pub found : distinctOf t here n ≡ entriesOf t here (take k firsts)
   pub each : (j : ℕ) → j < n

@@ -11,7 +11,7 @@ ghost use Rattle.meaning.specs.Discrete.{Entry-discrete};
 ghost use Rattle.meaning.specs.Sheet.{entryCode};
 ghost use Rattle.encoding.specs.Tests.{Says};
 ghost use Rattle.machine.specs.Cells.{classCount, entryAt};
-ghost use Rattle.write_entries.specs.Entries.{storedAt, entriesOf, entryBytes, Numbered, cellBytes, Covers};
+ghost use Rattle.write_entries.specs.Entries.{storedAt, entriesOf, entryBytes, NumberedEntries, cellBytes, Covers};
 use types::Entry;
 
 fn same_entry(a: Entry, b: Entry) -> bool
@@ -66,7 +66,7 @@ fn number_entries(
 ) -> usize
     requires { ⌜ (here < 2 ^ 32) × ((count < 2 ^ 32) × (0 < classCount (now table) here)) ⌝ }
     requires { ⌜ (length (now firsts) ≡ 256) × (length (now sheet) ≡ 256) ⌝ }
-    ensures { λ r. ⌜ Numbered (now (table .entry)) here count (now (firsts .exit)) (now (sheet .exit)) r ⌝ }
+    ensures { λ r. ⌜ NumberedEntries (now (table .entry)) here count (now (firsts .exit)) (now (sheet .exit)) r ⌝ }
 {
     write_numbers::fill(sheet, 0);
     let array = machine::state_array(table, here);
@@ -151,7 +151,7 @@ fn put_numbered(
     to: usize,
 ) -> usize
     requires { ⌜ (here < 2 ^ 32) × ((count < 2 ^ 32) × ((to < 2 ^ 40) × (0 < classCount (now table) here))) ⌝ }
-    requires { ⌜ (length (now sheet) ≡ 256) × Numbered (now table) here count (now firsts) (now sheet) (length (now firsts)) ⌝ }
+    requires { ⌜ (length (now sheet) ≡ 256) × NumberedEntries (now table) here count (now firsts) (now sheet) (length (now firsts)) ⌝ }
     ensures { λ r. ⌜ (r ≡ to + length (entryBytes (now (table .entry)) here count)) × (r ≤ to + 1032 + count)
         × (now (out .exit) ≡ sets (now (out .entry)) to (entryBytes (now (table .entry)) here count)) ⌝ }
 {

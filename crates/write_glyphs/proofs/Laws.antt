@@ -24,7 +24,7 @@ use Rattle.lookup_targets.specs.Values.{spotOf, Noted}
 use Rattle.write_item.specs.Items.{itemAt}
 use Rattle.write_item.proofs.Laws.{item-past}
 use Rattle.write_numbers.specs.Numbered.{KnownAs, Blank}
-use Rattle.write_glyphs.specs.Places.{itemHere, glyphItem, spotPlace, valuePlace, runPlace, Agree, Carries, Lead, Same, OneItem, Alike}
+use Rattle.write_glyphs.specs.Places.{itemHere, glyphItem, spotPlace, valuePlace, runPlace, Agree, HasNumber, Lead, LeadToOne, OneItem, AlikeUpto}
 
 -- ---- what stands at a place
 
@@ -88,7 +88,7 @@ run-item kind t n at base glyph x r short few w h u l = go (ltb x (r .from)) ref
 -- ---- values
 
 -- a place that is noted with a number carries it
-pub carries-here : (kind : Kind) (t seen : List ℕ) (p number : ℕ) (b : Bool) → b ≡ true → Says b (KnownAs t seen p number) → Carries kind t seen p number
+pub carries-here : (kind : Kind) (t seen : List ℕ) (p number : ℕ) (b : Bool) → b ≡ true → Says b (KnownAs t seen p number) → HasNumber kind t seen p number
 carries-here kind t seen p number b e h = record { other = p; item = refl; noted = subst (λ (x : Bool). Says x (KnownAs t seen p number)) e h }
 
 -- values that lead to an item, and more of them after those
@@ -96,26 +96,26 @@ pub lead-more : (kind : Kind) (t : List ℕ) (base : ℕ) (seen : List ℕ) (pla
     → Lead kind t base seen place number n → Lead kind t base seen p number more → Lead kind t base seen place number (n + more)
 lead-more kind t base seen place number n more p e before after i l = go (decLt i n)
   where
-    go : Dec (i < n) → Carries kind t seen (valuePlace kind t base (place + 2 * i)) number
+    go : Dec (i < n) → HasNumber kind t seen (valuePlace kind t base (place + 2 * i)) number
     go (yes b) = before i b
     go (no b) =
         let z : p + 2 * (i - n) ≡ place + 2 * i = omega (arith, b) in
-        subst (λ (q : ℕ). Carries kind t seen (valuePlace kind t base q) number) z (after (i - n) (omega (arith, b)))
+        subst (λ (q : ℕ). HasNumber kind t seen (valuePlace kind t base q) number) z (after (i - n) (omega (arith, b)))
 
 -- values that are known to lead to one item, which the first is known to lead to
 pub lead-alike : (kind : Kind) (t : List ℕ) (base : ℕ) (seen alike : List ℕ) (p number n : ℕ) → OneItem kind t base alike
-    → Carries kind t seen (valuePlace kind t base p) number → n ≤ max 1 (getD alike p 0) → Lead kind t base seen p number n
+    → HasNumber kind t seen (valuePlace kind t base p) number → n ≤ max 1 (getD alike p 0) → Lead kind t base seen p number n
 lead-alike kind t base seen alike p number n o c h i l = go (ℕ-discrete i 0)
   where
-    go : Dec (i ≡ 0) → Carries kind t seen (valuePlace kind t base (p + 2 * i)) number
+    go : Dec (i ≡ 0) → HasNumber kind t seen (valuePlace kind t base (p + 2 * i)) number
     go (yes e) =
         let z : p ≡ p + 2 * i = omega (arith, e) in
-        subst (λ (q : ℕ). Carries kind t seen (valuePlace kind t base q) number) z c
+        subst (λ (q : ℕ). HasNumber kind t seen (valuePlace kind t base q) number) z c
     go (no e) = record { other = c .other; item = o .same p i (omega (arith, e)) ∙ c .item; noted = c .noted }
 
 -- values that lead to the item that has one number lead to one item
 pub lead-same : (kind : Kind) (t : List ℕ) (base : ℕ) (seen : List ℕ) (place number n : ℕ) → Agree kind t seen → Lead kind t base seen place number n
-    → Same kind t base place n
+    → LeadToOne kind t base place n
 lead-same kind t base seen place number n a f i l =
     let x = f i l in
     let y = f 0 (omega arith) in
@@ -129,7 +129,7 @@ pub alike-none : (kind : Kind) (t : List ℕ) (base : ℕ) (alike : List ℕ) �
 alike-none kind t base alike b = record { same = λ p i l. absurd (omega (arith, l, b p)) }
 
 -- the later ones of values that lead to one item
-same-later : (kind : Kind) (t : List ℕ) (base place n first p : ℕ) → first ≤ n → p ≡ place + 2 * first → Same kind t base place n → Same kind t base p (n - first)
+same-later : (kind : Kind) (t : List ℕ) (base place n first p : ℕ) → first ≤ n → p ≡ place + 2 * first → LeadToOne kind t base place n → LeadToOne kind t base p (n - first)
 same-later kind t base place n first p h e s i l =
     let z : p + 2 * i ≡ place + 2 * (first + i) = omega arith in
     ap (λ (q : ℕ). itemAt kind t (valuePlace kind t base q)) z
@@ -138,7 +138,7 @@ same-later kind t base place n first p h e s i l =
     ∙ ap (λ (q : ℕ). itemAt kind t (valuePlace kind t base q)) (sym e)
 
 -- what is noted of such values is true
-pub noted-alike : (kind : Kind) (t : List ℕ) (base place n : ℕ) (alike alike′ : List ℕ) → Noted place n alike alike′ → Same kind t base place n
+pub noted-alike : (kind : Kind) (t : List ℕ) (base place n : ℕ) (alike alike′ : List ℕ) → Noted place n alike alike′ → LeadToOne kind t base place n
     → OneItem kind t base alike → OneItem kind t base alike′
 noted-alike kind t base place n alike alike′ w s o =
     record {
@@ -161,7 +161,7 @@ went-on g₀ g m₀ m room h same before full = go (decLt g₀ g)
 
 module _ (kind : Kind) (t : List ℕ) (base start until place : ℕ) (array : Bool) (glyph : ℕ) (seen : List ℕ) (number e : ℕ) (u : glyph < until) where
   -- before the run
-  pub alike-before : glyph < start → e ≡ min start until → Alike kind t base start until place array glyph seen number e
+  pub alike-before : glyph < start → e ≡ min start until → AlikeUpto kind t base start until place array glyph seen number e
   alike-before h q =
       record {
         more = omega arith;
@@ -170,7 +170,7 @@ module _ (kind : Kind) (t : List ℕ) (base start until place : ℕ) (array : Bo
       }
 
   -- in a run with one value
-  pub alike-one : start ≤ glyph → array ≡ false → e ≡ until → Alike kind t base start until place array glyph seen number e
+  pub alike-one : start ≤ glyph → array ≡ false → e ≡ until → AlikeUpto kind t base start until place array glyph seen number e
   alike-one h o q =
       record {
         more = omega arith;
@@ -180,12 +180,12 @@ module _ (kind : Kind) (t : List ℕ) (base start until place : ℕ) (array : Bo
 
   -- in an array, `c` more values of which are known to lead to the same
   pub alike-array : start ≤ glyph → array ≡ true → (p c : ℕ) → p ≡ place + 2 * (glyph + 1 - start) → c ≤ until - (glyph + 1)
-      → Lead kind t base seen p number c → e ≡ glyph + 1 + c → Alike kind t base start until place array glyph seen number e
+      → Lead kind t base seen p number c → e ≡ glyph + 1 + c → AlikeUpto kind t base start until place array glyph seen number e
   alike-array h o p c s f w q =
       record {
         more = omega arith;
         most = omega arith;
         same = λ x a b k.
             let z : p + 2 * (x - (glyph + 1)) ≡ place + 2 * (x - start) = omega arith in
-            subst (λ (y : ℕ). Carries kind t seen y number) (place-array kind t base start place array x (omega arith) o _ z) (w (x - (glyph + 1)) (omega arith));
+            subst (λ (y : ℕ). HasNumber kind t seen y number) (place-array kind t base start place array x (omega arith) o _ z) (w (x - (glyph + 1)) (omega arith));
       }

@@ -18,13 +18,13 @@ use Rattle.write_numbers.proofs.Seen.{seen-none, number-noted, number-most}
 use Rattle.write_runs.specs.Spread.{spread, Extended}
 use Rattle.write_runs.proofs.Spread.{rise-few}
 use Rattle.write_runs.proofs.Stretch.{from-stretch}
-use Rattle.write_glyphs.specs.Places.{glyphItem, itemsFrom, Agree, Carries, Stands, Passed}
+use Rattle.write_glyphs.specs.Places.{glyphItem, itemsFrom, Agree, HasNumber, PassStands, PassedOver}
 
 -- ---- at first, and in the end
 
 pub stands-none : (kind : Kind) (t : List ℕ) (item : ℕ → Item kind) (n : ℕ) (ends nums firsts others slots seen : List ℕ) → Blank others → Blank slots
     → Blank seen
-    → Stands kind t item n ends nums firsts others slots seen 0 0 0
+    → PassStands kind t item n ends nums firsts others slots seen 0 0 0
 unfolding spread distinctOf
 stands-none kind t item n ends nums firsts others slots seen bo bl bs =
     let z : n - 0 ≡ n = omega arith in
@@ -41,7 +41,7 @@ stands-none kind t item n ends nums firsts others slots seen bo bl bs =
     }
 
 stands-all : (kind : Kind) (t : List ℕ) (item : ℕ → Item kind) (n : ℕ) (ends nums firsts others slots seen : List ℕ) (m k g : ℕ)
-    → Stands kind t item n ends nums firsts others slots seen m k g → n ≤ g → Numbered kind t (upto item n) (spread 0 (take m ends) (take m nums)) firsts k
+    → PassStands kind t item n ends nums firsts others slots seen m k g → n ≤ g → Numbered kind t (upto item n) (spread 0 (take m ends) (take m nums)) firsts k
 unfolding from
 stands-all kind t item n ends nums firsts others slots seen m k g s h =
     let z : n - g ≡ 0 = omega arith in
@@ -54,8 +54,8 @@ stands-all kind t item n ends nums firsts others slots seen m k g s h =
     }
 
 pub passed : (kind : Kind) (t : List ℕ) (n at base : ℕ) (ends nums firsts others slots seen : List ℕ) (m k g : ℕ)
-    → Stands kind t (glyphItem kind t n at base) n ends nums firsts others slots seen m k g → (g < n → m ≡ length ends)
-    → Passed kind t n at base ends nums firsts (record { stretches = m; items = k; glyph = g })
+    → PassStands kind t (glyphItem kind t n at base) n ends nums firsts others slots seen m k g → (g < n → m ≡ length ends)
+    → PassedOver kind t n at base ends nums firsts (record { stretches = m; items = k; glyph = g })
 unfolding itemsFrom
 passed kind t n at base ends nums firsts others slots seen m k g s stops =
     record {
@@ -69,7 +69,7 @@ passed kind t n at base ends nums firsts others slots seen m k g s stops =
 
 -- there are no more distinct items than glyphs
 pub stands-few : (kind : Kind) (t : List ℕ) (item : ℕ → Item kind) (n : ℕ) (ends nums firsts others slots seen : List ℕ) (m k g : ℕ)
-    → Stands kind t item n ends nums firsts others slots seen m k g → k ≤ g
+    → PassStands kind t item n ends nums firsts others slots seen m k g → k ≤ g
 stands-few kind t item n ends nums firsts others slots seen m k g s =
     omega (arith, s .few, rise-few (take m ends) 0 g (s .rise), length-take-le m ends (s .fits))
 
@@ -139,11 +139,11 @@ joins-new eq f x number S T D e en hn =
 
 -- the item at the place `P g` of glyph g was numbered, and is that of all glyphs up to e
 module _ (kind : Kind) (t : List ℕ) (item : ℕ → Item kind) (n : ℕ) (ends nums firsts others slots seen : List ℕ) (m k g : ℕ)
-    (s : Stands kind t item n ends nums firsts others slots seen m k g) (hk : k < length firsts)
+    (s : PassStands kind t item n ends nums firsts others slots seen m k g) (hk : k < length firsts)
     (P : ℕ → ℕ) (e number r : ℕ) (ends′ nums′ firsts′ others′ slots′ seen′ : List ℕ) (hf : length firsts′ ≡ length firsts)
     (hg : g < e) (he : e ≤ n) (here : (x : ℕ) → g ≤ x → x < e → itemAt kind t (P x) ≡ item x)
     (entered : Entered kind t firsts firsts′ others′ slots′ k (P g) number) (notes : Seen kind t firsts′ seen′ (max k number))
-    (same : (x : ℕ) → g < x → x < e → (P x ≡ P g → ⊥) → Carries kind t seen′ (P x) number)
+    (same : (x : ℕ) → g < x → x < e → (P x ≡ P g → ⊥) → HasNumber kind t seen′ (P x) number)
     (extended : Extended ends nums ends′ nums′ m g e number r) where
   abbrev eq : Discrete (Item kind)
   eq = item-discrete kind
@@ -203,7 +203,7 @@ module _ (kind : Kind) (t : List ℕ) (item : ℕ → Item kind) (n : ℕ) (ends
           ap (λ (y : Item kind). index eq y T) (sym (here x a b) ∙ w .item)
           ∙ sym (number-noted kind t firsts′ (max k number) (omega (arith, most)) seen′ (w .other) number notes (w .noted) .0)
 
-  pub stands-next : r ≤ length ends′ → Stands kind t item n ends′ nums′ firsts′ others′ slots′ seen′ r (max k number) e
+  pub stands-next : r ≤ length ends′ → PassStands kind t item n ends′ nums′ firsts′ others′ slots′ seen′ r (max k number) e
   stands-next fits =
       let w = step-many eq item n g e number S T D hg he (joins .1 .few) each (joins .1 .next) (s .left) in
       let rest = numbers eq D (from item (n - e) e) in

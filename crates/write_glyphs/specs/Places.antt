@@ -39,9 +39,9 @@ itemsFrom kind t n (Lookup at base) = upto (glyphItem kind t n at base) n
 itemsFrom kind t n Absent = replicate n (noItem kind)
 
 -- such a lookup is without fault, and it and its base stand near
-abbrev pub Sound : List ℕ → ℕ → Source → Type 0
-Sound t n (Lookup at base) = (at < 2 ^ 32) × (base < 2 ^ 16) × (lookupFault t n at ≡ Clear)
-Sound t n Absent = Unit {0}
+abbrev pub SoundSource : List ℕ → ℕ → Source → Type 0
+SoundSource t n (Lookup at base) = (at < 2 ^ 32) × (base < 2 ^ 16) × (lookupFault t n at ≡ Clear)
+SoundSource t n Absent = Unit {0}
 
 -- a place as a 16-bit number: 65,535, where a table of at most 32,768 bytes has nothing, stands for none and for what is further on
 abbrev pub spotPlace : Spot → ℕ
@@ -62,32 +62,32 @@ pub record Agree (kind : Kind) (t seen : List ℕ) : Type 0 where
   pub same : (p q number : ℕ) → KnownAs t seen p number → KnownAs t seen q number → itemAt kind t p ≡ itemAt kind t q
 
 -- the item at a place is known to have this number: it is that of a place where the number is noted
-pub record Carries (kind : Kind) (t seen : List ℕ) (place number : ℕ) : Type 0 where
+pub record HasNumber (kind : Kind) (t seen : List ℕ) (place number : ℕ) : Type 0 where
   pub other : ℕ
   pub item : itemAt kind t place ≡ itemAt kind t other
   pub noted : KnownAs t seen other number
 
 -- n values from `place` on lead to the item that is known to have this number
 abbrev pub Lead : Kind → List ℕ → ℕ → List ℕ → ℕ → ℕ → ℕ → Type 0
-Lead kind t base seen place number n = (i : ℕ) → i < n → Carries kind t seen (valuePlace kind t base (place + 2 * i)) number
+Lead kind t base seen place number n = (i : ℕ) → i < n → HasNumber kind t seen (valuePlace kind t base (place + 2 * i)) number
 
 -- n values from `place` on lead to one item
-abbrev pub Same : Kind → List ℕ → ℕ → ℕ → ℕ → Type 0
-Same kind t base place n = (i : ℕ) → i < n → itemAt kind t (valuePlace kind t base (place + 2 * i)) ≡ itemAt kind t (valuePlace kind t base place)
+abbrev pub LeadToOne : Kind → List ℕ → ℕ → ℕ → ℕ → Type 0
+LeadToOne kind t base place n = (i : ℕ) → i < n → itemAt kind t (valuePlace kind t base (place + 2 * i)) ≡ itemAt kind t (valuePlace kind t base place)
 
 -- what stands for a position is a number of values from there on that lead to one item
 pub record OneItem (kind : Kind) (t : List ℕ) (base : ℕ) (alike : List ℕ) : Type 0 where
-  pub same : (p : ℕ) → Same kind t base p (getD alike p 0)
+  pub same : (p : ℕ) → LeadToOne kind t base p (getD alike p 0)
 
 -- what `glyph` has goes up to the glyph e, in a run up to `until` or before it: the glyphs between have its place, or an item that is known to have its number
-pub record Alike (kind : Kind) (t : List ℕ) (base start until place : ℕ) (array : Bool) (glyph : ℕ) (seen : List ℕ) (number e : ℕ) : Type 0 where
+pub record AlikeUpto (kind : Kind) (t : List ℕ) (base start until place : ℕ) (array : Bool) (glyph : ℕ) (seen : List ℕ) (number e : ℕ) : Type 0 where
   pub more : glyph < e
   pub most : e ≤ until
   pub same : (x : ℕ) → glyph < x → x < e → (runPlace kind t base start place array x ≡ runPlace kind t base start place array glyph → ⊥)
-      → Carries kind t seen (runPlace kind t base start place array x) number
+      → HasNumber kind t seen (runPlace kind t base start place array x) number
 
 -- rooms for as many stretches, and as many distinct items, as `ends` has elements
-pub record Rooms (ends nums firsts others slots : ℕ) : Type 0 where
+pub record PassRooms (ends nums firsts others slots : ℕ) : Type 0 where
   pub each : ends ≤ nums
   pub distinct : ends ≤ firsts
   pub listed : ends ≤ others
@@ -95,7 +95,7 @@ pub record Rooms (ends nums firsts others slots : ℕ) : Type 0 where
 
 -- where a pass stands over n glyphs, which have the items `item 0`, `item 1` and so on: those below g are passed. The first m stretches have their numbers, and
 -- the first k of `firsts` are the places of their distinct items; what is left adds to these, and to the numbers, what all n glyphs come to
-pub record Stands (kind : Kind) (t : List ℕ) (item : ℕ → Item kind) (n : ℕ) (ends nums firsts others slots seen : List ℕ) (m k g : ℕ) : Type 0 where
+pub record PassStands (kind : Kind) (t : List ℕ) (item : ℕ → Item kind) (n : ℕ) (ends nums firsts others slots seen : List ℕ) (m k g : ℕ) : Type 0 where
   pub rise : Rise 0 (take m ends) g
   pub most : g ≤ n
   pub fits : m ≤ length ends
@@ -109,7 +109,7 @@ pub record Stands (kind : Kind) (t : List ℕ) (item : ℕ → Item kind) (n : �
 
 -- how far a pass over the lookup at `at` came: it found stretches of glyphs that have the same item, up to a glyph. It stops before the last glyph only
 -- where the room for stretches is full; where it came to the last, what the glyphs have is numbered
-pub record Passed (kind : Kind) (t : List ℕ) (n at base : ℕ) (ends nums firsts : List ℕ) (pass : Pass) : Type 0 where
+pub record PassedOver (kind : Kind) (t : List ℕ) (n at base : ℕ) (ends nums firsts : List ℕ) (pass : Pass) : Type 0 where
   pub rise : Rise 0 (take (pass .stretches) ends) (pass .glyph)
   pub most : pass .glyph ≤ n
   pub fits : pass .stretches ≤ length ends

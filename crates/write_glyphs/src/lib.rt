@@ -9,7 +9,7 @@ ghost use Rattle.lookup.specs.Lookup.{lookupFault};
 ghost use Rattle.encoding.specs.Tests.{Says};
 ghost use Rattle.write_numbers.specs.Numbered.{Blank, KnownAs};
 ghost use Rattle.lookup.specs.Pass.{Serves};
-ghost use Rattle.write_glyphs.specs.Places.{glyphItem, valuePlace, runPlace, Agree, Lead, OneItem, Alike, Rooms, Stands, Passed};
+ghost use Rattle.write_glyphs.specs.Places.{glyphItem, valuePlace, runPlace, Agree, Lead, OneItem, AlikeUpto, PassRooms, PassStands, PassedOver};
 use actions::Spot;
 use lookup::Cursor;
 use lookup::Found;
@@ -129,7 +129,7 @@ fn stretch_end(
 ) -> usize
     requires { ⌜ (base < 2 ^ 16) × ((until < 2 ^ 16) × ((place < 2 ^ 41) × (glyph < until))) ⌝ }
     requires { ⌜ Agree kind (now table) (now seen) × OneItem kind (now table) base (now alike) ⌝ }
-    ensures { λ r. ⌜ Alike kind (now (table .entry)) base from until place array glyph (now (seen .entry)) number r × OneItem kind (now (table .entry)) base (now (alike .exit)) ⌝ }
+    ensures { λ r. ⌜ AlikeUpto kind (now (table .entry)) base from until place array glyph (now (seen .entry)) number r × OneItem kind (now (table .entry)) base (now (alike .exit)) ⌝ }
 {
     if glyph < from {
         return fields::lower(from, until);
@@ -185,11 +185,11 @@ fn number_run(
     alike: &mut [u8],
 ) -> Way
     requires { ⌜ (at < 2 ^ 32) × ((base < 2 ^ 16) × ((glyphs < 2 ^ 16) × (format ≡ u16At (now table) at))) ⌝ }
-    requires { ⌜ (length (now table) ≤ 2 ^ 15) × Rooms (length (now ends)) (length (now nums)) (length (now firsts)) (length (now others)) (length (now slots)) ⌝ }
-    requires { ⌜ Stands kind (now table) (glyphItem kind (now table) glyphs at base) glyphs (now ends) (now nums) (now firsts) (now others) (now slots) (now seen) (start .stretches) (start .items) (start .glyph) ⌝ }
+    requires { ⌜ (length (now table) ≤ 2 ^ 15) × PassRooms (length (now ends)) (length (now nums)) (length (now firsts)) (length (now others)) (length (now slots)) ⌝ }
+    requires { ⌜ PassStands kind (now table) (glyphItem kind (now table) glyphs at base) glyphs (now ends) (now nums) (now firsts) (now others) (now slots) (now seen) (start .stretches) (start .items) (start .glyph) ⌝ }
     requires { ⌜ OneItem kind (now table) base (now alike) ⌝ }
     requires { ⌜ (start .glyph < glyphs) × ((start .stretches < length (now ends)) × Serves (now table) at (start .glyph) (start .cursor)) ⌝ }
-    ensures { λ r. ⌜ Stands kind (now (table .entry)) (glyphItem kind (now (table .entry)) glyphs at base) glyphs (now (ends .exit)) (now (nums .exit)) (now (firsts .exit)) (now (others .exit)) (now (slots .exit)) (now (seen .exit)) (r .stretches) (r .items) (r .glyph)
+    ensures { λ r. ⌜ PassStands kind (now (table .entry)) (glyphItem kind (now (table .entry)) glyphs at base) glyphs (now (ends .exit)) (now (nums .exit)) (now (firsts .exit)) (now (others .exit)) (now (slots .exit)) (now (seen .exit)) (r .stretches) (r .items) (r .glyph)
         × OneItem kind (now (table .entry)) base (now (alike .exit)) × (start .glyph < r .glyph)
         × ((r .stretches < length (now (ends .entry)) → r .glyph < glyphs → Serves (now (table .entry)) at (r .glyph) (r .cursor))) ⌝ }
 {
@@ -263,9 +263,9 @@ pub fn number_glyphs(
     alike: &mut [u8],
 ) -> Pass
     requires { ⌜ (at < 2 ^ 32) × ((base < 2 ^ 16) × ((glyphs < 2 ^ 16) × (lookupFault (now table) glyphs at ≡ Clear))) ⌝ }
-    requires { ⌜ (length (now table) ≤ 2 ^ 15) × Rooms (length (now ends)) (length (now nums)) (length (now firsts)) (length (now others)) (length (now slots)) ⌝ }
+    requires { ⌜ (length (now table) ≤ 2 ^ 15) × PassRooms (length (now ends)) (length (now nums)) (length (now firsts)) (length (now others)) (length (now slots)) ⌝ }
     requires { ⌜ Blank (now others) × (Blank (now slots) × (Blank (now seen) × Blank (now alike))) ⌝ }
-    ensures { λ r. ⌜ Passed kind (now (table .entry)) glyphs at base (now (ends .exit)) (now (nums .exit)) (now (firsts .exit)) r ⌝ }
+    ensures { λ r. ⌜ PassedOver kind (now (table .entry)) glyphs at base (now (ends .exit)) (now (nums .exit)) (now (firsts .exit)) r ⌝ }
 {
     let format = fields::u16_at(table, at);
     let mut way = Way {

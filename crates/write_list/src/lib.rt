@@ -8,7 +8,7 @@ ghost use lib.ListN.{length};
 ghost use lib.Seq.{sets};
 ghost use Rattle.encoding.specs.Codes.{many, counted};
 ghost use Rattle.meaning.specs.Sheet.{actionCode};
-ghost use Rattle.encoding.specs.Dictionary.{Before, Apart, listed};
+ghost use Rattle.encoding.specs.Dictionary.{Before, ApartAt, listed};
 ghost use Rattle.encoding.specs.Sections.{byte};
 ghost use Rattle.encoding.specs.Tests.{Says};
 ghost use Rattle.write_list.specs.Hash.{weight, actionHash, listHash};
@@ -105,7 +105,7 @@ fn same_action<'a>(one: &'a [u8], other: &'a [u8], first: usize, second: usize) 
 // 0, so no action stands much further on.
 fn past_same<'a>(one: &'a [u8], other: &'a [u8], first: usize, second: usize, count: usize) -> Front
     requires { ⌜ (length (now one) ≤ 2 ^ 15) × (length (now other) ≤ 2 ^ 15) × ((first < 2 ^ 33) × (second < 2 ^ 33)) ⌝ }
-    ensures { λ r. ⌜ (r .a < 2 ^ 60) × (r .b < 2 ^ 60) × Apart actionWords (actionAt (now (one .entry))) (actionAt (now (other .entry))) (actionsAt (now (one .entry)) count first) (actionsAt (now (other .entry)) count second) (r .left) (r .a) (r .b) ⌝ }
+    ensures { λ r. ⌜ (r .a < 2 ^ 60) × (r .b < 2 ^ 60) × ApartAt actionWords (actionAt (now (one .entry))) (actionAt (now (other .entry))) (actionsAt (now (one .entry)) count first) (actionsAt (now (other .entry)) count second) (r .left) (r .a) (r .b) ⌝ }
 {
     let mut a = first;
     let mut b = second;

@@ -10,7 +10,7 @@ use Rattle.encoding.specs.Tests.{Says}
 use Rattle.lookup_targets.specs.declared.Kind.{Kind}
 use Rattle.write_item.specs.Items.{Item, Earlier}
 use Rattle.write_item.proofs.Earlier.{earlier-trans}
-use Rattle.write_numbers.specs.Numbered.{otherOf, Sorted, Ranked}
+use Rattle.write_numbers.specs.Numbered.{otherOf, SortedOthers, Ranked}
 
 -- where the search stands: the first `low` come before x, and none from `high` on
 pub record Halves (kind : Kind) (t firsts others : List ℕ) (x : Item kind) (low high : ℕ) : Type 0 where
@@ -40,7 +40,7 @@ module _ (kind : Kind) (t firsts others : List ℕ) (x : Item kind) where
         after = λ s a. h .after s (omega (arith, h .least));
       }
 
-  module _ (k low high middle : ℕ) (lm : low ≤ middle) (mh : middle < high) (sorted : Sorted kind t firsts others k) (h : Halves kind t firsts others x low high) where
+  module _ (k low high middle : ℕ) (lm : low ≤ middle) (mh : middle < high) (sorted : SortedOthers kind t firsts others k) (h : Halves kind t firsts others x low high) where
     pub halves-lower : (Earlier kind (other middle) x → ⊥) → Halves kind t firsts others x low middle
     halves-lower e =
         record { least = lm; most = omega (arith, h .most); before = h .before; after = λ s l b f. go s b f (ℕ-discrete s middle) l }

@@ -14,7 +14,7 @@ use Rattle.encoding.proofs.DistinctLaws.{index-le, getD-index, once-more}
 use Rattle.lookup_targets.specs.declared.Kind.{Kind}
 use Rattle.write_item.specs.Items.{Item, itemAt, item-discrete, itemHash, Earlier}
 use Rattle.write_item.proofs.Earlier.{earlier-not, earlier-total}
-use Rattle.write_numbers.specs.Numbered.{placed, numberOf, itemOf, otherOf, Sorted, Ranked, Inserted, AmongOthers, slotOf, Found, Kept, Entered, Blank}
+use Rattle.write_numbers.specs.Numbered.{placed, numberOf, itemOf, otherOf, SortedOthers, Ranked, Inserted, AmongOthers, slotOf, SlotHolds, Kept, Entered, Blank}
 use Rattle.write_numbers.proofs.Laws.{map-length, map-more}
 use Rattle.write_numbers.proofs.NoneLaws.{number-some}
 
@@ -33,7 +33,7 @@ kept-none kind t firsts others slots bo bs =
     }
 
 -- the same listed ones, among more
-pub sorted-wider : (kind : Kind) (t firsts others : List ℕ) (k n : ℕ) → k ≤ n → Sorted kind t firsts others k → Sorted kind t firsts others n
+pub sorted-wider : (kind : Kind) (t firsts others : List ℕ) (k n : ℕ) → k ≤ n → SortedOthers kind t firsts others k → SortedOthers kind t firsts others n
 sorted-wider kind t firsts others k n l s =
     record { few = omega (arith, s .few); within = λ i h. omega (arith, s .within i h); rising = s .rising }
 
@@ -149,7 +149,7 @@ module _ (kind : Kind) (t firsts others slots : List ℕ) (k place p : ℕ) (hf 
     not-there : (j : ℕ) → j < k → item j ≡ x → ⊥
     not-there j b e = go (c .found j b)
       where
-        go : Found others (getD slots (slotOf kind (item j) slots) 0) j → ⊥
+        go : SlotHolds others (getD slots (slotOf kind (item j) slots) 0) j → ⊥
         go (inl q) = omega (arith, q, its-slot j e, empty)
         go (inr q) = q .0 (its-slot j e ∙ empty)
 
@@ -163,22 +163,22 @@ module _ (kind : Kind) (t firsts others slots : List ℕ) (k place p : ℕ) (hf 
     taken : (h : ℕ) → (getD slots h 0 ≡ 0 → ⊥) → getD slots h 0 ≡ getD slots′ h 0
     taken h z = sym (getD-set-other slots p h (k + 1) 0 (λ e. z (ap (λ (i : ℕ). getD slots i 0) e ∙ empty)))
 
-    found′ : (j : ℕ) → j < k + 1 → Found others (getD slots′ (slotOf kind (item′ j) slots′) 0) j
-    found′ j b = subst (λ (n : ℕ). Found others (getD slots′ (itemHash kind (item′ j) % n) 0) j) (sym (length-set slots p (k + 1))) (go (side j k))
+    found′ : (j : ℕ) → j < k + 1 → SlotHolds others (getD slots′ (slotOf kind (item′ j) slots′) 0) j
+    found′ j b = subst (λ (n : ℕ). SlotHolds others (getD slots′ (itemHash kind (item′ j) % n) 0) j) (sym (length-set slots p (k + 1))) (go (side j k))
       where
-        old : Found others (getD slots (slotOf kind (item j) slots) 0) j → Found others (getD slots′ (slotOf kind (item j) slots) 0) j
+        old : SlotHolds others (getD slots (slotOf kind (item j) slots) 0) j → SlotHolds others (getD slots′ (slotOf kind (item j) slots) 0) j
         old (inl q) = inl (sym (taken _ (λ z. omega (arith, q, z))) ∙ q)
         old (inr q) = inr ((λ z. q .0 (taken _ (q .0) ∙ z)), q .1)
 
-        go : Side j k → Found others (getD slots′ (slotOf kind (item′ j) slots) 0) j
-        go (below l) = subst (λ (y : Item kind). Found others (getD slots′ (slotOf kind y slots) 0) j) (still j l) (old (c .found j l))
+        go : Side j k → SlotHolds others (getD slots′ (slotOf kind (item′ j) slots) 0) j
+        go (below l) = subst (λ (y : Item kind). SlotHolds others (getD slots′ (slotOf kind y slots) 0) j) (still j l) (old (c .found j l))
         go (same e) =
             inl
             (ap (λ (i : ℕ). getD slots′ (slotOf kind (item′ i) slots) 0) e ∙ ap (λ (y : Item kind). getD slots′ (slotOf kind y slots) 0) added
             ∙ ap (λ (h : ℕ). getD slots′ h 0) (sym ep) ∙ getD-set-same slots p (k + 1) 0 hp ∙ ap (λ (i : ℕ). i + 1) (sym e))
         go (above l) = absurd (omega arith)
 
-    sorted′ : Sorted kind t firsts′ others (k + 1)
+    sorted′ : SortedOthers kind t firsts′ others (k + 1)
     sorted′ =
         record {
           few = omega (arith, c .sorted .few);
@@ -205,7 +205,7 @@ module _ (kind : Kind) (t firsts others slots : List ℕ) (k place p : ℕ) (hf 
     nowhere : (j : ℕ) → j < k → item j ≡ x → ⊥
     nowhere j b e = go (c .found j b)
       where
-        go : Found others (getD slots (slotOf kind (item j) slots) 0) j → ⊥
+        go : SlotHolds others (getD slots (slotOf kind (item j) slots) 0) j → ⊥
         go (inl q) = let i : getD slots p 0 - 1 ≡ j = omega (arith, q, its-slot j e) in miss (ap item i ∙ e)
         go (inr q) = not-listed (q .1 .0) (q .1 .1) (ap item (q .1 .2) ∙ e)
 
@@ -270,20 +270,20 @@ module _ (kind : Kind) (t firsts others slots : List ℕ) (k place p : ℕ) (hf 
                 ap (λ (i : ℕ). getD others′ i 0) i ∙ inserted .after (w .0) (omega (arith, l)) (w .1) ∙ w .2,
               )
 
-      found″ : (j : ℕ) → j < k + 1 → Found others′ (getD slots (slotOf kind (item′ j) slots) 0) j
+      found″ : (j : ℕ) → j < k + 1 → SlotHolds others′ (getD slots (slotOf kind (item′ j) slots) 0) j
       found″ j b = go (side j k)
         where
-          old : Found others (getD slots (slotOf kind (item j) slots) 0) j → Found others′ (getD slots (slotOf kind (item j) slots) 0) j
+          old : SlotHolds others (getD slots (slotOf kind (item j) slots) 0) j → SlotHolds others′ (getD slots (slotOf kind (item j) slots) 0) j
           old (inl q) = inl q
           old (inr q) = inr (q .0, listed′ j (q .1))
 
           its : getD slots (slotOf kind (item′ k) slots) 0 ≡ getD slots p 0
           its = ap (λ (y : Item kind). getD slots (slotOf kind y slots) 0) added ∙ ap (λ (h : ℕ). getD slots h 0) (sym ep)
 
-          go : Side j k → Found others′ (getD slots (slotOf kind (item′ j) slots) 0) j
-          go (below l) = subst (λ (y : Item kind). Found others′ (getD slots (slotOf kind y slots) 0) j) (still j l) (old (c .found j l))
+          go : Side j k → SlotHolds others′ (getD slots (slotOf kind (item′ j) slots) 0) j
+          go (below l) = subst (λ (y : Item kind). SlotHolds others′ (getD slots (slotOf kind y slots) 0) j) (still j l) (old (c .found j l))
           go (same e) =
-              subst (λ (i : ℕ). Found others′ (getD slots (slotOf kind (item′ i) slots) 0) i) (sym e)
+              subst (λ (i : ℕ). SlotHolds others′ (getD slots (slotOf kind (item′ i) slots) 0) i) (sym e)
               (inr ((λ z. full (sym its ∙ z)), (n, omega (arith, split .most, inserted .more), inserted .here)))
           go (above l) = absurd (omega arith)
 

@@ -8,7 +8,7 @@ use native.Mathlib.Omega.{arith}
 use native.Mathlib.Numerals.{add-one}
 use lib.ListN.{length, getD, take, drop, set, replicate, length-append, length-set, drop-of-length-le, List·getD-eq-default}
 use lib.Seq.{drop-cons, take-suc-set, getD-set-same, getD-set-other, length-take-le, take-all}
-use Rattle.write_numbers.specs.Numbered.{Known}
+use Rattle.write_numbers.specs.Numbered.{KnownNumbers}
 use Rattle.encoding.specs.Distinct.{index, distinct, numbers}
 use Rattle.encoding.proofs.DistinctLaws.{index-append, index-new, index-kept, index-added}
 
@@ -81,7 +81,7 @@ module _ {A : Type 0} (eq : Discrete A) (f : ℕ → A) where
       go (yes h) = ap (λ (j : ℕ). getD (set seen p n) j 0) e ∙ getD-set-same seen p n 0 h
       go (no h) = absurd (u (List·getD-eq-default (set seen p n) 0 (omega (arith, h, length-set seen p n))))
 
-  pub known-old : (seen : List ℕ) (S : List A) (p n : ℕ) → n ≡ index eq (f p) S → n < length S → Known eq f seen S → Known eq f (set seen p n) S
+  pub known-old : (seen : List ℕ) (S : List A) (p n : ℕ) → n ≡ index eq (f p) S → n < length S → KnownNumbers eq f seen S → KnownNumbers eq f (set seen p n) S
   known-old seen S p n en hn k q = go (ℕ-discrete q p)
     where
       go : Dec (q ≡ p) → (getD (set seen p n) q 0 ≡ 0 → ⊥) → (index eq (f q) S ≡ getD (set seen p n) q 0) × (getD (set seen p n) q 0 < length S)
@@ -93,8 +93,8 @@ module _ {A : Type 0} (eq : Discrete A) (f : ℕ → A) where
           let w = k q (λ v. u (g ∙ v)) in
           (w .0 ∙ sym g, omega (arith, w .1))
 
-  pub known-new : (seen : List ℕ) (S : List A) (p n : ℕ) → n ≡ index eq (f p) S → n ≡ length S → Known eq f seen S
-      → Known eq f (set seen p n) (S ++ (f p ∷ []))
+  pub known-new : (seen : List ℕ) (S : List A) (p n : ℕ) → n ≡ index eq (f p) S → n ≡ length S → KnownNumbers eq f seen S
+      → KnownNumbers eq f (set seen p n) (S ++ (f p ∷ []))
   known-new seen S p n en hn k q = go (ℕ-discrete q p)
     where
       T : List A

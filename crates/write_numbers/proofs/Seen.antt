@@ -8,7 +8,7 @@ use lib.ListN.{length, take, set}
 use Rattle.encoding.proofs.DistinctLaws.{index-le}
 use Rattle.lookup_targets.specs.declared.Kind.{Kind}
 use Rattle.write_item.specs.Items.{Item, noItem, itemAt, item-discrete}
-use Rattle.write_numbers.specs.Numbered.{placed, numberOf, Entered, Known, Seen, KnownAs, Blank}
+use Rattle.write_numbers.specs.Numbered.{placed, numberOf, Entered, KnownNumbers, Seen, KnownAs, Blank}
 use Rattle.write_numbers.proofs.Laws.{known-old, known-new, seen-length}
 use Rattle.write_numbers.proofs.NoneLaws.{number-none}
 
@@ -50,7 +50,7 @@ module _ (kind : Kind) (t firsts : List ℕ) (k : ℕ) (hk : k ≤ length firsts
           subst (Seen kind t firsts′ (set seen place n)) m
           (record {
             known =
-                subst (Known (item-discrete kind) (itemAt kind t) (set seen place n)) (sym p)
+                subst (KnownNumbers (item-discrete kind) (itemAt kind t) (set seen place n)) (sym p)
                 (known-new (item-discrete kind) (itemAt kind t) seen S place n (e .number) full (s .known));
           })
       go (no l) =
@@ -60,7 +60,7 @@ module _ (kind : Kind) (t firsts : List ℕ) (k : ℕ) (hk : k ≤ length firsts
           subst (Seen kind t firsts′ (set seen place n)) m
           (record {
             known =
-                subst (Known (item-discrete kind) (itemAt kind t) (set seen place n)) (sym p)
+                subst (KnownNumbers (item-discrete kind) (itemAt kind t) (set seen place n)) (sym p)
                 (known-old (item-discrete kind) (itemAt kind t) seen S place n (e .number) (omega (arith, all)) (s .known));
           })
 

@@ -38,7 +38,7 @@ abbrev pub otherOf : (kind : Kind) → List ℕ → List ℕ → List ℕ → �
 otherOf kind t firsts others s = itemOf kind t firsts (getD others (s + 1) 0)
 
 -- those listed in `others` are among the items at the first k of `firsts`, not all of them, and rise as words in a dictionary
-pub record Sorted (kind : Kind) (t firsts others : List ℕ) (k : ℕ) : Type 0 where
+pub record SortedOthers (kind : Kind) (t firsts others : List ℕ) (k : ℕ) : Type 0 where
   pub few : getD others 0 0 ≤ k - 1
   pub within : (s : ℕ) → s < getD others 0 0 → getD others (s + 1) 0 < k
   pub rising : (a b : ℕ) → a < b → b < getD others 0 0 → Earlier kind (otherOf kind t firsts others a) (otherOf kind t firsts others b)
@@ -65,16 +65,16 @@ abbrev pub slotOf : (kind : Kind) → Item kind → List ℕ → ℕ
 slotOf kind x slots = itemHash kind x % length slots
 
 -- what an item's slot holds: the item's number, or that of another one, and then the item's index is listed
-abbrev pub Found : List ℕ → ℕ → ℕ → Type 0
-Found others slot j = (slot ≡ j + 1) ⊎ ((slot ≡ 0 → ⊥) × AmongOthers others j)
+abbrev pub SlotHolds : List ℕ → ℕ → ℕ → Type 0
+SlotHolds others slot j = (slot ≡ j + 1) ⊎ ((slot ≡ 0 → ⊥) × AmongOthers others j)
 
 -- the items at the first k of `firsts`, no two of which are the same: each slot has the number, counted from 1, of the first one whose slot it is, 0
 -- for none; the ones that found their slot taken are listed in `others`, sorted
 pub record Kept (kind : Kind) (t firsts others slots : List ℕ) (k : ℕ) : Type 0 where
   pub once : Once (item-discrete kind) (placed kind t (take k firsts))
   pub slot : (h : ℕ) → getD slots h 0 ≤ k
-  pub sorted : Sorted kind t firsts others k
-  pub found : (j : ℕ) → j < k → Found others (getD slots (slotOf kind (itemOf kind t firsts j) slots) 0) j
+  pub sorted : SortedOthers kind t firsts others k
+  pub found : (j : ℕ) → j < k → SlotHolds others (getD slots (slotOf kind (itemOf kind t firsts j) slots) 0) j
 
 -- a place's item has the number n, none having 0; where it is not yet among those at the first k places it joins them
 pub record Entered (kind : Kind) (t firsts₀ firsts others slots : List ℕ) (k place n : ℕ) : Type 0 where
@@ -85,12 +85,12 @@ pub record Entered (kind : Kind) (t firsts₀ firsts others slots : List ℕ) (k
 -- ---- numbers kept by place
 
 -- what is noted at a place, if it is not 0, is the number of what `f` has there among `ds`
-abbrev pub Known : {A : Type 0} → Discrete A → (ℕ → A) → List ℕ → List A → Type 0
-Known eq f seen ds = (q : ℕ) → (getD seen q 0 ≡ 0 → ⊥) → (index eq (f q) ds ≡ getD seen q 0) × (getD seen q 0 < length ds)
+abbrev pub KnownNumbers : {A : Type 0} → Discrete A → (ℕ → A) → List ℕ → List A → Type 0
+KnownNumbers eq f seen ds = (q : ℕ) → (getD seen q 0 ≡ 0 → ⊥) → (index eq (f q) ds ≡ getD seen q 0) × (getD seen q 0 < length ds)
 
 -- what is noted is the number of the item there among those at the first k of `firsts`
 pub record Seen (kind : Kind) (t firsts seen : List ℕ) (k : ℕ) : Type 0 where
-  pub known : Known (item-discrete kind) (itemAt kind t) seen (noItem kind ∷ placed kind t (take k firsts))
+  pub known : KnownNumbers (item-discrete kind) (itemAt kind t) seen (noItem kind ∷ placed kind t (take k firsts))
 
 -- a number is noted at a place; or it is 0, and the item there is none
 abbrev pub KnownAs : List ℕ → List ℕ → ℕ → ℕ → Type 0

@@ -9,7 +9,7 @@ ghost use lib.ListN.{length, getD, set, replicate};
 ghost use Rattle.fields.specs.Field.{u32At};
 ghost use Rattle.encoding.specs.Tests.{Says};
 ghost use Rattle.write_item.specs.Items.{itemAt, itemHash};
-ghost use Rattle.write_numbers.specs.Numbered.{otherOf, Sorted, Ranked, Inserted, Kept, Entered, KnownAs, Seen};
+ghost use Rattle.write_numbers.specs.Numbered.{otherOf, SortedOthers, Ranked, Inserted, Kept, Entered, KnownAs, Seen};
 use lookup_targets::Kind;
 
 // Sets every element.
@@ -35,7 +35,7 @@ fn other_place(firsts: &[u16], others: &[u16], s: usize) -> u16
 // How many of the items listed in `others` come before the item at `place`, found by halves.
 fn earlier_count(table: &[u8], kind: Kind, firsts: &[u16], others: &[u16], place: u16) -> usize
     requires { ⌜ (length (now table) ≤ 2 ^ 15) × (getD (now others) 0 0 < length (now others)) ⌝ }
-    requires { ⌜ Sorted kind (now table) (now firsts) (now others) (length (now firsts)) ⌝ }
+    requires { ⌜ SortedOthers kind (now table) (now firsts) (now others) (length (now firsts)) ⌝ }
     ensures { λ r. ⌜ Ranked kind (now (table .entry)) (now (firsts .entry)) (now (others .entry)) (itemAt kind (now (table .entry)) place) r ⌝ }
 {
     let mut low: usize = 0;
@@ -55,7 +55,7 @@ fn earlier_count(table: &[u8], kind: Kind, firsts: &[u16], others: &[u16], place
 // Whether more than `s` items are listed in `others`, and the `s`-th, counted from 0, is the item at `place`.
 fn is_other(table: &[u8], kind: Kind, firsts: &[u16], others: &[u16], s: usize, place: u16) -> bool
     requires { ⌜ (length (now table) ≤ 2 ^ 15) × (getD (now others) 0 0 < length (now others)) ⌝ }
-    requires { ⌜ Sorted kind (now table) (now firsts) (now others) (length (now firsts)) ⌝ }
+    requires { ⌜ SortedOthers kind (now table) (now firsts) (now others) (length (now firsts)) ⌝ }
     ensures { λ r. ⌜ Says r ((s < getD (now (others .entry)) 0 0) × (otherOf kind (now (table .entry)) (now (firsts .entry)) (now (others .entry)) s ≡ itemAt kind (now (table .entry)) place)) ⌝ }
 {
     if others[0] as usize <= s {

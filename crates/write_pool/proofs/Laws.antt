@@ -23,10 +23,10 @@ use Rattle.write_numbers.proofs.Laws.{map-length, map-drop}
 use Rattle.write_glyphs.specs.declared.Pass.{Pass}
 use Rattle.lookup_targets.specs.declared.Source.{Source}
 use Rattle.lookup_targets.specs.declared.Source.the-variants.{Lookup, Absent}
-use Rattle.write_glyphs.specs.Places.{itemsFrom, Rooms, Passed}
+use Rattle.write_glyphs.specs.Places.{itemsFrom, PassRooms, PassedOver}
 use Rattle.write_runs.specs.Spread.{spread, Stretches}
 use Rattle.write_runs.proofs.Spread.{rise-few}
-use Rattle.write_pool.specs.Pool.{poolBytes, sections, Short, Placed, Tried}
+use Rattle.write_pool.specs.Pool.{poolBytes, sections, Short, PlacedSections, Tried}
 
 -- ---- items one after the other
 
@@ -88,7 +88,7 @@ none-short Lists = omega arith
 
 -- the stretches of glyphs and the numbers of what they have, once the pass has come to the last glyph
 module _ (kind : Kind) (t : List ℕ) (n at base : ℕ) (ends nums firsts : List ℕ) (pass : Pass) (few : n < 2 ^ 16)
-    (short : All (Short kind) (itemsFrom kind t n (Lookup at base))) (p : Passed kind t n at base ends nums firsts pass) (all : n ≤ pass .glyph) where
+    (short : All (Short kind) (itemsFrom kind t n (Lookup at base))) (p : PassedOver kind t n at base ends nums firsts pass) (all : n ≤ pass .glyph) where
   pub pass-few : pass .stretches < 2 ^ 16
   pass-few = omega (arith, p .most, rise-few (take (pass .stretches) ends) 0 (pass .glyph) (p .rise), length-take-le (pass .stretches) ends (p .fits))
 
@@ -146,7 +146,7 @@ absent-bytes kind t n =
     ∙ ap (λ (l : List (Run ℕ)). counted (itemCode kind) [] ++ counted runLessCode l) (none-runs n)
 
 pub absent-placed : (kind : Kind) (t : List ℕ) (n : ℕ) (source : Source) (out₀ out : List ℕ) (to : ℕ) → source ≡ Absent → out ≡ sets out₀ to (be32 0 ++ be32 0)
-    → Placed kind t n source out₀ out to (to + 8)
+    → PlacedSections kind t n source out₀ out to (to + 8)
 absent-placed kind t n source out₀ out to e b =
     let p : poolBytes kind t n source ≡ be32 0 ++ be32 0 = ap (poolBytes kind t n) e ∙ absent-bytes kind t n in
     record { end = omega (arith, ap length p); near = omega arith; bytes = b ∙ ap (sets out₀ to) (sym p) }
@@ -155,22 +155,22 @@ absent-placed kind t n source out₀ out to e b =
 
 -- where rooms for 65,536 stretches were lent
 pub tried-all : (kind : Kind) (t : List ℕ) (n : ℕ) (source : Source) (out₀ out : List ℕ) (to r : ℕ) → n < 2 ^ 16 → Tried kind t n source 65536 out₀ out to r
-    → Placed kind t n source out₀ out to r
+    → PlacedSections kind t n source out₀ out to r
 tried-all kind t n source out₀ out to r h w = go (decLt 0 r)
   where
-    go : Dec (0 < r) → Placed kind t n source out₀ out to r
+    go : Dec (0 < r) → PlacedSections kind t n source out₀ out to r
     go (yes l) = w .done l
     go (no l) = absurd (omega (arith, w .full (omega (arith, l)) .1))
 
 -- rooms that did not do left the bytes as they were
 pub tried-again : (kind : Kind) (t : List ℕ) (n : ℕ) (source : Source) (room : ℕ) (out₀ out₁ out₂ : List ℕ) (to q r : ℕ) → q ≤ 0
-    → Tried kind t n source room out₀ out₁ to q → Placed kind t n source out₁ out₂ to r → Placed kind t n source out₀ out₂ to r
+    → Tried kind t n source room out₀ out₁ to q → PlacedSections kind t n source out₁ out₂ to r → PlacedSections kind t n source out₀ out₂ to r
 tried-again kind t n source room out₀ out₁ out₂ to q r h w p =
-    subst (λ (l : List ℕ). Placed kind t n source l out₂ to r) (w .full (omega arith) .0) p
+    subst (λ (l : List ℕ). PlacedSections kind t n source l out₂ to r) (w .full (omega arith) .0) p
 
 -- the pass did not come to the last glyph
 pub tried-full : (kind : Kind) (t : List ℕ) (n at base : ℕ) (ends nums firsts : List ℕ) (pass : Pass) (room : ℕ) (out₀ out : List ℕ) (to : ℕ)
-    → Passed kind t n at base ends nums firsts pass → pass .glyph < n → length ends ≡ room → out ≡ out₀ → Tried kind t n (Lookup at base) room out₀ out to 0
+    → PassedOver kind t n at base ends nums firsts pass → pass .glyph < n → length ends ≡ room → out ≡ out₀ → Tried kind t n (Lookup at base) room out₀ out to 0
 tried-full kind t n at base ends nums firsts pass room out₀ out to p h l e =
     record {
       full = λ z. (e, omega (arith, p .stops h, l, rise-few (take (pass .stretches) ends) 0 (pass .glyph) (p .rise), length-take-le (pass .stretches) ends (p .fits)));
@@ -187,6 +187,6 @@ tried-done kind t n source room out₀ out to r firsts ends nums e a b c =
     }
 
 -- fresh rooms for m stretches, with s slots
-pub fresh : (m s : ℕ) → 0 < s → Rooms (length (replicate {A = ℕ} m 0)) (length (replicate {A = ℕ} m 0)) (length (replicate {A = ℕ} m 0)) (length (replicate {A = ℕ} m 0))
+pub fresh : (m s : ℕ) → 0 < s → PassRooms (length (replicate {A = ℕ} m 0)) (length (replicate {A = ℕ} m 0)) (length (replicate {A = ℕ} m 0)) (length (replicate {A = ℕ} m 0))
     (length (replicate {A = ℕ} s 0))
 fresh m s h = record { each = omega arith; distinct = omega arith; listed = omega arith; hashes = omega (arith, length-replicate {A = ℕ} s 0) }

@@ -11,7 +11,7 @@ use Rattle.lookup_targets.specs.declared.Kind.{Kind}
 use Rattle.write_item.specs.Items.{Item, noItem, item-discrete, itemCode}
 use Rattle.write_numbers.specs.Numbered.{placed}
 use Rattle.lookup_targets.specs.declared.Source.{Source}
-use Rattle.write_glyphs.specs.Places.{itemsFrom, Sound}
+use Rattle.write_glyphs.specs.Places.{itemsFrom, SoundSource}
 use Rattle.write_runs.specs.Spread.{spread}
 
 -- the two sections for what n glyphs have of a kind
@@ -30,11 +30,11 @@ Short kind x = length (itemCode kind x) ≤ 5380
 pub record Numberable (kind : Kind) (t : List ℕ) (n : ℕ) (source : Source) : Type 0 where
   pub bytes : length t ≤ 2 ^ 15
   pub few : n < 2 ^ 16
-  pub sound : Sound t n source
+  pub sound : SoundSource t n source
   pub short : All (Short kind) (itemsFrom kind t n source)
 
 -- the two sections stored from `to` on, up to r
-pub record Placed (kind : Kind) (t : List ℕ) (n : ℕ) (source : Source) (out₀ out : List ℕ) (to r : ℕ) : Type 0 where
+pub record PlacedSections (kind : Kind) (t : List ℕ) (n : ℕ) (source : Source) (out₀ out : List ℕ) (to r : ℕ) : Type 0 where
   pub end : r ≡ to + length (poolBytes kind t n source)
   pub near : r < to + 2 ^ 29
   pub bytes : out ≡ sets out₀ to (poolBytes kind t n source)
@@ -42,4 +42,4 @@ pub record Placed (kind : Kind) (t : List ℕ) (n : ℕ) (source : Source) (out�
 -- the same with rooms for so many stretches; or r is 0, nothing is stored, and the glyphs are more than the rooms hold stretches
 pub record Tried (kind : Kind) (t : List ℕ) (n : ℕ) (source : Source) (room : ℕ) (out₀ out : List ℕ) (to r : ℕ) : Type 0 where
   pub full : r ≡ 0 → (out ≡ out₀) × (room < n)
-  pub done : 0 < r → Placed kind t n source out₀ out to r
+  pub done : 0 < r → PlacedSections kind t n source out₀ out to r

@@ -11,9 +11,9 @@ ghost use Rattle.encoding.specs.Codes.{All, many};
 ghost use Rattle.encoding.specs.Tests.{Says};
 ghost use Rattle.write_item.specs.Items.{itemCode};
 ghost use Rattle.write_numbers.specs.Numbered.{placed, Blank};
-ghost use Rattle.write_glyphs.specs.Places.{Rooms};
+ghost use Rattle.write_glyphs.specs.Places.{PassRooms};
 ghost use Rattle.write_runs.specs.Spread.{Stretches};
-ghost use Rattle.write_pool.specs.Pool.{sections, Short, Numberable, Placed, Tried};
+ghost use Rattle.write_pool.specs.Pool.{sections, Short, Numberable, PlacedSections, Tried};
 use lookup_targets::Kind;
 use lookup_targets::Source;
 
@@ -81,7 +81,7 @@ fn put_with(
     out: &mut [u8],
 ) -> usize
     requires { ⌜ Numberable (pool .kind) (now table) (pool .glyphs) (Source.Lookup (pool .at) (pool .base)) × (pool .to < 2 ^ 38) ⌝ }
-    requires { ⌜ Rooms (length (now ends)) (length (now nums)) (length (now firsts)) (length (now others)) (length (now slots)) × (Blank (now others) × (Blank (now slots) × (Blank (now seen) × Blank (now alike)))) ⌝ }
+    requires { ⌜ PassRooms (length (now ends)) (length (now nums)) (length (now firsts)) (length (now others)) (length (now slots)) × (Blank (now others) × (Blank (now slots) × (Blank (now seen) × Blank (now alike)))) ⌝ }
     ensures { λ r. ⌜ Tried (pool .kind) (now (table .entry)) (pool .glyphs) (Source.Lookup (pool .at) (pool .base)) (length (now (ends .entry))) (now (out .entry)) (now (out .exit)) (pool .to) r ⌝ }
 {
     let kind = pool.kind;
@@ -182,7 +182,7 @@ fn has_many_units(table: &[u8], at: usize) -> bool
 // With medium rooms if they are large enough.
 fn put_looked(table: &[u8], pool: Pool, out: &mut [u8]) -> usize
     requires { ⌜ Numberable (pool .kind) (now table) (pool .glyphs) (Source.Lookup (pool .at) (pool .base)) × (pool .to < 2 ^ 38) ⌝ }
-    ensures { λ r. ⌜ Placed (pool .kind) (now (table .entry)) (pool .glyphs) (Source.Lookup (pool .at) (pool .base)) (now (out .entry)) (now (out .exit)) (pool .to) r ⌝ }
+    ensures { λ r. ⌜ PlacedSections (pool .kind) (now (table .entry)) (pool .glyphs) (Source.Lookup (pool .at) (pool .base)) (now (out .entry)) (now (out .exit)) (pool .to) r ⌝ }
 {
     if has_many_units(table, pool.at) {
         return put_large(table, pool, out);
@@ -197,7 +197,7 @@ fn put_looked(table: &[u8], pool: Pool, out: &mut [u8]) -> usize
 // With rooms for few stretches, and for a table of at most 512 bytes, if they are large enough.
 fn put_lookup(table: &[u8], pool: Pool, out: &mut [u8]) -> usize
     requires { ⌜ Numberable (pool .kind) (now table) (pool .glyphs) (Source.Lookup (pool .at) (pool .base)) × (pool .to < 2 ^ 38) ⌝ }
-    ensures { λ r. ⌜ Placed (pool .kind) (now (table .entry)) (pool .glyphs) (Source.Lookup (pool .at) (pool .base)) (now (out .entry)) (now (out .exit)) (pool .to) r ⌝ }
+    ensures { λ r. ⌜ PlacedSections (pool .kind) (now (table .entry)) (pool .glyphs) (Source.Lookup (pool .at) (pool .base)) (now (out .entry)) (now (out .exit)) (pool .to) r ⌝ }
 {
     let end = put_with(
         table,
@@ -236,7 +236,7 @@ pub fn put_pool(
     to: usize,
 ) -> usize
     requires { ⌜ Numberable kind (now table) glyphs source × (to < 2 ^ 38) ⌝ }
-    ensures { λ r. ⌜ Placed kind (now (table .entry)) glyphs source (now (out .entry)) (now (out .exit)) to r ⌝ }
+    ensures { λ r. ⌜ PlacedSections kind (now (table .entry)) glyphs source (now (out .entry)) (now (out .exit)) to r ⌝ }
 {
     let Source::Lookup { at, base } = source else {
         put_none(out, to);

@@ -12,7 +12,7 @@ use Rattle.fields.specs.Field.{be32}
 use Rattle.fields.specs.Stores.{sets-append}
 use Rattle.encoding.specs.Codes.{many, counted}
 use Rattle.encoding.specs.Runs.{Run, push, runs, OkRuns}
-use Rattle.encoding.proofs.RunsLaws.{Apart, runs-ok, runs-skips, runs-block}
+use Rattle.encoding.proofs.RunsLaws.{ApartAt, runs-ok, runs-skips, runs-block}
 use Rattle.encoding.proofs.CodeLaws.{many-length}
 use Rattle.write_runs.specs.Spread.{spread, RunTo, Rise}
 use Rattle.write_runs.proofs.Spread.{spread-same, spread-first, spread-none}
@@ -42,25 +42,25 @@ stretch-more xs i j v hi h ev e =
 
 module _ (skip : ℕ) where
   -- the first run of a list that does not begin with v does not touch with v
-  head-apart : (ys : List ℕ) (j v : ℕ) → (v ≡ skip → ⊥) → (0 < length ys → getD ys 0 0 ≡ v → ⊥) → Apart j v (runs ℕ-discrete skip j ys)
+  head-apart : (ys : List ℕ) (j v : ℕ) → (v ≡ skip → ⊥) → (0 < length ys → getD ys 0 0 ≡ v → ⊥) → ApartAt j v (runs ℕ-discrete skip j ys)
   head-apart [] j v hs h = tt
   head-apart (y ∷ ys) j v hs h = go (ℕ-discrete y skip) (runs ℕ-discrete skip (suc j) ys) (runs-ok ℕ-discrete skip ys (suc j + length ys) (suc j) refl)
     where
-      later : (rs : List (Run ℕ)) → OkRuns skip (suc j + length ys) (suc j) skip rs → Apart j v rs
+      later : (rs : List (Run ℕ)) → OkRuns skip (suc j + length ys) (suc j) skip rs → ApartAt j v rs
       later [] o = tt
       later (r ∷ rs) o = λ e f. omega (arith, o .0)
 
       two : (d : Dec (y ≡ skip)) (r : Run ℕ) (rs : List (Run ℕ)) (a : Dec (r .first ≡ suc j)) (b : Dec (r .value ≡ y))
-          → Apart j v (ite a (ite b (record { first = j; last = r .last; value = y } ∷ rs) (record { first = j; last = j; value = y } ∷ r ∷ rs)) (record { first = j; last = j; value = y } ∷ r ∷ rs))
+          → ApartAt j v (ite a (ite b (record { first = j; last = r .last; value = y } ∷ rs) (record { first = j; last = j; value = y } ∷ r ∷ rs)) (record { first = j; last = j; value = y } ∷ r ∷ rs))
       two d r rs (yes p) (yes q) = λ e f. h (omega arith) f
       two d r rs (yes p) (no q) = λ e f. h (omega arith) f
       two d r rs (no p) b = λ e f. h (omega arith) f
 
-      put : (rs : List (Run ℕ)) → Apart j v (push ℕ-discrete j y rs)
+      put : (rs : List (Run ℕ)) → ApartAt j v (push ℕ-discrete j y rs)
       put [] = λ e f. h (omega arith) f
       put (r ∷ rs) = two (ℕ-discrete y skip) r rs (ℕ-discrete (r .first) (suc j)) (ℕ-discrete (r .value) y)
 
-      go : (d : Dec (y ≡ skip)) (rs : List (Run ℕ)) → OkRuns skip (suc j + length ys) (suc j) skip rs → Apart j v (ite d rs (push ℕ-discrete j y rs))
+      go : (d : Dec (y ≡ skip)) (rs : List (Run ℕ)) → OkRuns skip (suc j + length ys) (suc j) skip rs → ApartAt j v (ite d rs (push ℕ-discrete j y rs))
       go (yes p) rs o = later rs o
       go (no p) rs o = put rs
 
@@ -77,7 +77,7 @@ module _ (skip : ℕ) where
       let m : suc (past - 1) ≡ past = omega arith in
       ap (λ (q : ℕ). runs ℕ-discrete skip first (replicate q v ++ ys)) k
       ∙ runs-block ℕ-discrete skip (past - 1 - first) first (past - 1) v ys (omega arith) h
-      (subst (λ (q : ℕ). Apart q v (runs ℕ-discrete skip q ys)) (sym m) (head-apart ys past v h other))
+      (subst (λ (q : ℕ). ApartAt q v (runs ℕ-discrete skip q ys)) (sym m) (head-apart ys past v h other))
       ∙ ap (λ (q : ℕ). record { first = first; last = past - 1; value = v } ∷ runs ℕ-discrete skip q ys) m
 
   -- the stretches ends and xs from stretch i on, which begins at index first; those from i to r - 1 have one element

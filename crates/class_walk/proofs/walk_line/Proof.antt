@@ -11,7 +11,7 @@ use Rattle.class_walk.proofs.Loop.{confOf, Entered, entered, entered-le
 use Rattle.class_walk.proofs.Theory.{At, column-low}
 use Rattle.types.specs.declared.Entry.{Entry}
 use Rattle.machine.specs.Cells.{cellAt, classCount}
-use Rattle.class_walk.specs.Line.{machineAt, lineOf, lineColumn, lineColumns, rowPlace, Sound, Columns}
+use Rattle.class_walk.specs.Line.{machineAt, lineOf, lineColumn, lineColumns, rowPlace, SoundMachine, Columns}
 use Rattle.class_walk.specs.Walk.{Machine, Line, Fits, glyphs, columnAt}
 use Rattle.units.specs.Flags.{stays}
 use Rattle.class_walk.proofs.walk_line.Statement.{statement}
@@ -40,7 +40,7 @@ machineOf i = let a = i .before .before .before .before .before .before .before 
 abbrev lineIn : tie.In-loop Inv-loop μ-loop → Line
 lineIn i = let a = i .before .before .before .before .before .before .before .before .before .args in lineBy (a .table .now) (a .here) (a .glyphs .now) (a .starts) (a .ends)
 
-sound : (i : tie.In-loop Inv-loop μ-loop) → let a = i .before .before .before .before .before .before .before .before .before .args in Sound (a .table .now) (a .here)
+sound : (i : tie.In-loop Inv-loop μ-loop) → let a = i .before .before .before .before .before .before .before .before .before .args in SoundMachine (a .table .now) (a .here)
 sound i = i .before .before .before .before .before .before .before .before .before .pre .0 .0
 
 fit : (i : tie.In-loop Inv-loop μ-loop) → let a = i .before .before .before .before .before .before .before .before .before .args in Columns (a .table .now) (a .here) (lineColumns (a .table .now) (a .here) (a .glyphs .now))

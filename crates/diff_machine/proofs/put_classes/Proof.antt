@@ -1,6 +1,6 @@
 -- `diff_machine::put_classes` meets its contract.
 use Rattle.diff_machine.proofs.Laws.{classes-whole}
-use Rattle.diff_machine.specs.Machines.{classBy}
+use Rattle.diff_machine.specs.Machines.{classDiffers}
 use Rattle.diff_rule.specs.declared.Aspect.the-variants.{Class}
 use Rattle.diff_rule.proofs.Filled.{Filled, filled-none, filled-next, filled-all, filled-length}
 use Rattle.diff_rule.proofs.Stored.{stores-other}
@@ -17,7 +17,7 @@ use Rattle.diff_machine.proofs.put_classes.Tie as tie
 
 abbrev Inv-loop : tie.InvT-loop
 Inv-loop one other machines list₀ to classes beside span glyph₀ at₀ list glyph at =
-    (span .from ≤ glyph) × (glyph ≤ span .until) × (at ≤ to + 6 * glyph) × Filled (classBy one other machines) list₀ list to at (span .from) glyph
+    (span .from ≤ glyph) × (glyph ≤ span .until) × (at ≤ to + 6 * glyph) × Filled (classDiffers one other machines) list₀ list to at (span .from) glyph
 
 abbrev μ-loop : tie.MeasureT-loop
 μ-loop one other machines list₀ to classes beside span glyph₀ at₀ list glyph at = span .until - glyph
@@ -35,7 +35,7 @@ loop-holds : tie.Need-loop-holds Inv-loop μ-loop
 loop-holds c =
     let a = c .before .before .before .before .before .before .args in
     let s = c .class-span in
-    (omega arith, s .ensures .rises, omega arith, filled-none (classBy (a .one .now) (a .other .now) (a .machines)) (a .list .now) (a .to) (s .result .from))
+    (omega arith, s .ensures .rises, omega arith, filled-none (classDiffers (a .one .now) (a .other .now) (a .machines)) (a .list .now) (a .to) (s .result .from))
 
 cast-compare-classes : tie.Need-cast-compare-classes Inv-loop μ-loop
 cast-compare-classes c = omega (arith, c .before .before .before .class-span .ensures .most, c .before .before .before .before .before .before .before .before .before .pre .0 .few, c .if1 .taken)
@@ -62,7 +62,7 @@ loop-again c =
     let p = c .before .before .put-noted in
     let s = c .before .before .before .before .before .before .before .before .class-span in
     let o = c .before .before .before .before .compare-classes in
-    let f : ℕ → List Difference = classBy (a .one .now) (a .other .now) (a .machines) in
+    let f : ℕ → List Difference = classDiffers (a .one .now) (a .other .now) (a .machines) in
     let g : ℕ = l .glyph in
     let h : g < s .result .until = c .before .before .before .before .before .if1 .taken in
     let e = o .ensures (a .machines .first) (a .machines .second) (c .before .before .before .before .before .before .before .before .before .before .class-table .ensures) (c .before .before .before .before .before .before .before .before .before .class-table2 .ensures) in (
@@ -77,7 +77,7 @@ same-length : tie.Need-same-length Inv-loop μ-loop
 same-length c =
     let a = c .before .before .before .before .before .before .before .before .before .args in
     let l = c .before .before .loop in
-    filled-length (classBy (a .one .now) (a .other .now) (a .machines)) (a .list .now) (l .list) (a .to) (l .at) (c .before .before .before .class-span .result .from) (l .glyph) (l .inv .3)
+    filled-length (classDiffers (a .one .now) (a .other .now) (a .machines)) (a .list .now) (l .list) (a .to) (l .at) (c .before .before .before .class-span .result .from) (l .glyph) (l .inv .3)
 
 returns : tie.Need-returns Inv-loop μ-loop
 returns c =
@@ -88,7 +88,7 @@ returns c =
     let y = c .before .before .before .before .class-table2 in
     let e : l .glyph ≡ s .result .until = omega (arith, l .inv .1, c .if1 .left) in
     let whole = classes-whole (a .one .now) (a .other .now) (a .machines) (x .result) (y .result) (s .result) (x .ensures) (y .ensures) (s .ensures) in (
-      filled-all (classBy (a .one .now) (a .other .now) (a .machines)) (a .list .now) (l .list) (a .to) (l .at) (s .result .from) (l .glyph) (s .result .until) _ e whole (l .inv .3),
+      filled-all (classDiffers (a .one .now) (a .other .now) (a .machines)) (a .list .now) (l .list) (a .to) (l .at) (s .result .from) (l .glyph) (s .result .until) _ e whole (l .inv .3),
       omega (arith, l .inv .2, l .inv .1, s .ensures .most, c .before .before .before .before .before .before .before .before .before .pre .0 .few),
     )
 

@@ -1,7 +1,7 @@
 -- `diff_stretches::next_of` meets its contract.
 use Rattle.diff_stretches.proofs.Laws.{follows-tells, absent-tells}
 use Rattle.diff_stretches.specs.Stretches.{ServesBy, RunTells}
-use Rattle.write_glyphs.specs.Places.{Sound}
+use Rattle.write_glyphs.specs.Places.{SoundSource}
 use Rattle.lookup_targets.specs.declared.Source.{Source}
 use Rattle.lookup_runs.specs.declared.Run.{Run}
 use Prim.Native.Nat.{_<_}
@@ -23,7 +23,7 @@ next-run-requires c κs =
     let a = c .before .before .before .before .before .args in
     let p = c .before .before .before .before .before .pre in
     let e = c .before .before .source .given .1 in
-    (subst (Sound (a .table .now) (a .glyphs)) e (p .3) .0, (omega (arith, p .1, p .2), (c .u16-at .ensures .0, subst (λ (s : Source). ServesBy (a .table .now) s (a .glyph) (a .cursor)) e (p .4))))
+    (subst (SoundSource (a .table .now) (a .glyphs)) e (p .3) .0, (omega (arith, p .1, p .2), (c .u16-at .ensures .0, subst (λ (s : Source). ServesBy (a .table .now) s (a .glyph) (a .cursor)) e (p .4))))
 
 enum-told : tie.Need-enum-told
 enum-told c = search needs

@@ -1,6 +1,6 @@
 -- `diff_stretches::next_stretch` meets its contract.
 use Rattle.diff_stretches.proofs.Laws.{base-near, splits}
-use Rattle.diff_stretches.specs.declared.Stretch.{Stretch}
+use Rattle.diff_stretches.specs.declared.GlyphStretch.{GlyphStretch}
 use Prim.Native.Nat.{ℕ, min}
 use native.Mathlib.Omega.{arith}
 use mathlib.Core.Path.{ap, _∙_}
@@ -46,7 +46,7 @@ returns c =
     let y = c .before .before .before .before .before .before .onward2 in
     let ea = c .before .before .before .before .before .even-end in
     let eb = c .before .before .before .before .even-end2 in
-    let s : Stretch = record { end = c .before .before .lower2 .result; places = record { first = c .before .place-of .result; second = c .place-of2 .result }; runs = record { first = x .result; second = y .result } } in
+    let s : GlyphStretch = record { end = c .before .before .lower2 .result; places = record { first = c .before .place-of .result; second = c .place-of2 .result }; runs = record { first = x .result; second = y .result } } in
     splits (a .one .now) (a .other .now) (a .sources) (a .glyph) s (record { first = x .ensures .0; second = y .ensures .0 }) (ea .result) (eb .result) (p .2) (ea .ensures) (eb .ensures)
     (c .before .before .lower2 .ensures ∙ ap (λ (k : ℕ). min k (a .sources .glyphs)) (c .before .before .before .lower .ensures)) (c .before .place-of .ensures) (c .place-of2 .ensures)
 

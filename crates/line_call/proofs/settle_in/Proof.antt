@@ -3,7 +3,7 @@ use Prim.Native.Nat.{ℕ, _*_}
 use mathlib.Core.Path.{sym, ap, _∙_}
 use lib.ListN.{length, length-replicate}
 use Rattle.line_verdicts.proofs.Laws.{lists-few}
-use Rattle.line_call.specs.Steps.{sideIn, lineIn}
+use Rattle.line_call.specs.Steps.{sideIn, calledLine}
 use Rattle.line_call.proofs.Outcomes.{settled-bad, settled-done, deliverable}
 use borrow.Author.Needs.{needs}
 use Rattle.line_call.proofs.settle_in.Statement.{statement}
@@ -31,7 +31,7 @@ deliver-requires c κs =
     let held = o .kept .1 .1 .1 .1 .1 .0 ∙ ap length (p .1 .classes) ∙ length-replicate n 0 in
     let moves = o .kept .1 .1 .1 .1 .1 .1 .0 ∙ ap length (p .1 .moves) ∙ length-replicate (2 * n) 0 in
     let few = lists-few (a .table .now) (a .call .count) (a .call .shape .direction) (p .0 .accepted) in (
-      deliverable (sideIn (a .table .now) (a .call)) (a .call .count) (lineIn (a .call) (a .sizes .now) (a .glyphs .now) (a .advances .now)) (a .call .room) (a .classes .now) (a .before .now) (a .after .now) (o .ensures) (e .0 .0) (e .1) (p .0 .short) few (moves ∙ ap (λ (m : ℕ). 2 * m) (sym held)),
+      deliverable (sideIn (a .table .now) (a .call)) (a .call .count) (calledLine (a .call) (a .sizes .now) (a .glyphs .now) (a .advances .now)) (a .call .room) (a .classes .now) (a .before .now) (a .after .now) (o .ensures) (e .0 .0) (e .1) (p .0 .short) few (moves ∙ ap (λ (m : ℕ). 2 * m) (sym held)),
       record { classes = p .2 .classes ∙ sym held; before = p .2 .before ∙ sym held; after = p .2 .after ∙ sym held },
     )
 
@@ -48,7 +48,7 @@ returns : tie.Need-returns
 returns c =
     let a = c .before .before .before .before .before .before .before .before .before .before .before .before .before .before .before .before .before .before .before .before .before .args in
     let e = c .before .before .worked .given in
-    settled-bad (sideIn (a .table .now) (a .call)) (a .call .count) (lineIn (a .call) (a .sizes .now) (a .glyphs .now) (a .advances .now)) (a .call .room) (a .classes .now) (a .before .now) (a .after .now) (e .0 .0) (e .0 .1 .0) (e .1) (c .before .before .before .before .before .before .before .before .before .before .work-out .ensures) (c .refused .ensures)
+    settled-bad (sideIn (a .table .now) (a .call)) (a .call .count) (calledLine (a .call) (a .sizes .now) (a .glyphs .now) (a .advances .now)) (a .call .room) (a .classes .now) (a .before .now) (a .after .now) (e .0 .0) (e .0 .1 .0) (e .1) (c .before .before .before .before .before .before .before .before .before .before .work-out .ensures) (c .refused .ensures)
 
 same-length-4 : tie.Need-same-length-4
 same-length-4 c = search needs
@@ -72,7 +72,7 @@ returns-2 : tie.Need-returns-2
 returns-2 c =
     let a = c .before .before .before .before .before .before .before .before .before .before .before .before .before .before .before .before .before .before .before .before .before .before .before .before .before .before .before .before .before .before .args in
     let e = c .before .before .before .before .before .before .before .before .before .before .before .worked2 .given in
-    settled-done (sideIn (a .table .now) (a .call)) (a .call .count) (lineIn (a .call) (a .sizes .now) (a .glyphs .now) (a .advances .now)) (a .call .room) (a .classes .now) (a .before .now) (a .after .now) (c .before .before .before .before .before .before .before .before .before .before .before .before .before .before .before .before .before .before .before .work-out .ensures) (e .0 .0) (e .1) (c .before .before .before .before .deliver .ensures)
+    settled-done (sideIn (a .table .now) (a .call)) (a .call .count) (calledLine (a .call) (a .sizes .now) (a .glyphs .now) (a .advances .now)) (a .call .room) (a .classes .now) (a .before .now) (a .after .now) (c .before .before .before .before .before .before .before .before .before .before .before .before .before .before .before .before .before .before .before .work-out .ensures) (e .0 .0) (e .1) (c .before .before .before .before .deliver .ensures)
 
 pub settle-in-spec : {M : Type 1} → statement M
 settle-in-spec =

@@ -2,7 +2,7 @@
 use mathlib.Core.Path.{sym, ap, _∙_}
 use lib.ListN.{length}
 use Rattle.line_moves.proofs.Walks.{walk-ended, walk-endless}
-use Rattle.line_call.specs.Steps.{sideIn, lineIn}
+use Rattle.line_call.specs.Steps.{sideIn, calledLine}
 use Rattle.line_call.proofs.Gaps.{as-read}
 use Rattle.line_call.proofs.Tests.{known-each}
 use Rattle.line_call.proofs.Work.{gap-found, gap-none, bad-advances, bad-glyph, bad-walk, work-over, narrow-fits, narrowed, work-done}
@@ -26,7 +26,7 @@ returns : tie.Need-returns
 returns c =
     let a = c .before .before .before .before .before .before .before .before .before .before .before .before .args in
     let s = sideIn (a .table .now) (a .call) in
-    let l = lineIn (a .call) (a .sizes .now) (a .glyphs .now) (a .advances .now) in
+    let l = calledLine (a .call) (a .sizes .now) (a .glyphs .now) (a .advances .now) in
     bad-advances s (a .call .count) l (c .barred .ensures) (gap-none l (as-read (a .call .shape .target) (c .before .before .before .before .struct-told .given .1 .1 .1 .0 .1)) (sym (c .before .before .before .gap-of .ensures) ∙ c .before .enum-told .given .1))
 
 all-known-requires : tie.Need-all-known-requires
@@ -42,7 +42,7 @@ share-glyphs-requires : tie.Need-share-glyphs-requires
 share-glyphs-requires c κs =
     let a = c .before .before .before .before .before .before .before .before .before .before .before .before .before .before .before .before .before .before .before .before .before .before .args in
     let s = sideIn (a .table .now) (a .call) in
-    let l = lineIn (a .call) (a .sizes .now) (a .glyphs .now) (a .advances .now) in
+    let l = calledLine (a .call) (a .sizes .now) (a .glyphs .now) (a .advances .now) in
     let p = c .before .before .before .before .before .before .before .before .before .before .before .before .before .before .before .before .before .before .before .before .before .before .pre in
     let w = walk-ended (s .machine) l (c .before .before .before .before .before .before .line-walk .result) _ (c .before .before .before .before .before .before .line-walk .ensures) (c .before .before .before .if2 .taken) in
     let g = gap-found l (as-read (a .call .shape .target) (c .before .before .before .before .before .before .before .before .before .before .before .before .before .before .struct-told .given .1 .1 .1 .0 .1)) (c .before .before .before .before .before .before .before .before .before .before .before .gap .given .0 .0) (sym (c .before .before .before .before .before .before .before .before .before .before .before .before .before .gap-of .ensures) ∙ c .before .before .before .before .before .before .before .before .before .before .before .gap .given .1) in
@@ -70,7 +70,7 @@ returns-2 : tie.Need-returns-2
 returns-2 c =
     let a = c .before .before .before .before .before .before .before .before .before .before .before .before .before .before .before .before .before .before .before .before .before .before .before .before .before .before .before .before .before .before .args in
     let s = sideIn (a .table .now) (a .call) in
-    let l = lineIn (a .call) (a .sizes .now) (a .glyphs .now) (a .advances .now) in
+    let l = calledLine (a .call) (a .sizes .now) (a .glyphs .now) (a .advances .now) in
     let w = walk-ended (s .machine) l (c .before .before .before .before .before .before .before .before .before .before .before .before .before .before .line-walk .result) _ (c .before .before .before .before .before .before .before .before .before .before .before .before .before .before .line-walk .ensures) (c .before .before .before .before .before .before .before .before .before .before .before .if2 .taken) in
     let g = gap-found l (as-read (a .call .shape .target) (c .before .before .before .before .before .before .before .before .before .before .before .before .before .before .before .before .before .before .before .before .before .before .struct-told .given .1 .1 .1 .0 .1)) (c .before .before .before .before .before .before .before .before .before .before .before .before .before .before .before .before .before .before .before .gap .given .0 .0) (sym (c .before .before .before .before .before .before .before .before .before .before .before .before .before .before .before .before .before .before .before .before .before .gap-of .ensures) ∙ c .before .before .before .before .before .before .before .before .before .before .before .before .before .before .before .before .before .before .before .gap .given .1) in
     let k = sym (c .before .before .before .before .before .before .before .before .before .before .before .before .before .before .before .before .before .all-known .ensures) ∙ c .before .before .before .before .before .before .before .before .before .before .before .before .before .before .before .before .if1 .taken in
@@ -80,7 +80,7 @@ cast-remainder : tie.Need-cast-remainder
 cast-remainder c =
     let a = c .before .before .before .before .before .before .before .before .before .before .before .before .before .before .before .before .before .before .before .before .before .before .before .before .before .before .before .before .before .before .before .before .args in
     let s = sideIn (a .table .now) (a .call) in
-    let l = lineIn (a .call) (a .sizes .now) (a .glyphs .now) (a .advances .now) in
+    let l = calledLine (a .call) (a .sizes .now) (a .glyphs .now) (a .advances .now) in
     let w = walk-ended (s .machine) l (c .before .before .before .before .before .before .before .before .before .before .before .before .before .before .before .before .line-walk .result) _ (c .before .before .before .before .before .before .before .before .before .before .before .before .before .before .before .before .line-walk .ensures) (c .before .before .before .before .before .before .before .before .before .before .before .before .before .if2 .taken) in
     let g = gap-found l (as-read (a .call .shape .target) (c .before .before .before .before .before .before .before .before .before .before .before .before .before .before .before .before .before .before .before .before .before .before .before .before .struct-told .given .1 .1 .1 .0 .1)) (c .before .before .before .before .before .before .before .before .before .before .before .before .before .before .before .before .before .before .before .before .before .gap .given .0 .0) (sym (c .before .before .before .before .before .before .before .before .before .before .before .before .before .before .before .before .before .before .before .before .before .before .before .gap-of .ensures) ∙ c .before .before .before .before .before .before .before .before .before .before .before .before .before .before .before .before .before .before .before .before .before .gap .given .1) in
     let k = sym (c .before .before .before .before .before .before .before .before .before .before .before .before .before .before .before .before .before .before .before .all-known .ensures) ∙ c .before .before .before .before .before .before .before .before .before .before .before .before .before .before .before .before .before .before .if1 .taken in
@@ -102,7 +102,7 @@ returns-3 : tie.Need-returns-3
 returns-3 c =
     let a = c .before .before .before .before .before .before .before .before .before .before .before .before .before .before .before .before .before .before .before .before .before .before .before .before .before .before .before .before .before .before .before .before .before .args in
     let s = sideIn (a .table .now) (a .call) in
-    let l = lineIn (a .call) (a .sizes .now) (a .glyphs .now) (a .advances .now) in
+    let l = calledLine (a .call) (a .sizes .now) (a .glyphs .now) (a .advances .now) in
     let w = walk-ended (s .machine) l (c .before .before .before .before .before .before .before .before .before .before .before .before .before .before .before .before .before .line-walk .result) _ (c .before .before .before .before .before .before .before .before .before .before .before .before .before .before .before .before .before .line-walk .ensures) (c .before .before .before .before .before .before .before .before .before .before .before .before .before .before .if2 .taken) in
     let g = gap-found l (as-read (a .call .shape .target) (c .before .before .before .before .before .before .before .before .before .before .before .before .before .before .before .before .before .before .before .before .before .before .before .before .before .struct-told .given .1 .1 .1 .0 .1)) (c .before .before .before .before .before .before .before .before .before .before .before .before .before .before .before .before .before .before .before .before .before .before .gap .given .0 .0) (sym (c .before .before .before .before .before .before .before .before .before .before .before .before .before .before .before .before .before .before .before .before .before .before .before .before .gap-of .ensures) ∙ c .before .before .before .before .before .before .before .before .before .before .before .before .before .before .before .before .before .before .before .before .before .before .gap .given .1) in
     let k = sym (c .before .before .before .before .before .before .before .before .before .before .before .before .before .before .before .before .before .before .before .before .all-known .ensures) ∙ c .before .before .before .before .before .before .before .before .before .before .before .before .before .before .before .before .before .before .before .if1 .taken in
@@ -121,7 +121,7 @@ returns-4 : tie.Need-returns-4
 returns-4 c =
     let a = c .before .before .before .before .before .before .before .before .before .before .before .before .before .before .before .before .before .before .before .before .args in
     let s = sideIn (a .table .now) (a .call) in
-    let l = lineIn (a .call) (a .sizes .now) (a .glyphs .now) (a .advances .now) in
+    let l = calledLine (a .call) (a .sizes .now) (a .glyphs .now) (a .advances .now) in
     let g = gap-found l (as-read (a .call .shape .target) (c .before .before .before .before .before .before .before .before .before .before .before .before .struct-told .given .1 .1 .1 .0 .1)) (c .before .before .before .before .before .before .before .before .before .gap .given .0 .0) (sym (c .before .before .before .before .before .before .before .before .before .before .before .gap-of .ensures) ∙ c .before .before .before .before .before .before .before .before .before .gap .given .1) in
     let k = sym (c .before .before .before .before .before .before .before .all-known .ensures) ∙ c .before .before .before .before .before .before .if1 .taken in
     bad-walk s (a .call .count) l (g .good) k (c .barred3 .ensures) (walk-endless (s .machine) l (c .before .before .before .before .line-walk .result) _ (c .before .before .before .before .line-walk .ensures) (c .before .if2 .left))
@@ -133,7 +133,7 @@ returns-5 : tie.Need-returns-5
 returns-5 c =
     let a = c .before .before .before .before .before .before .before .before .before .before .before .before .before .before .before .args in
     let s = sideIn (a .table .now) (a .call) in
-    let l = lineIn (a .call) (a .sizes .now) (a .glyphs .now) (a .advances .now) in
+    let l = calledLine (a .call) (a .sizes .now) (a .glyphs .now) (a .advances .now) in
     let g = gap-found l (as-read (a .call .shape .target) (c .before .before .before .before .before .before .before .struct-told .given .1 .1 .1 .0 .1)) (c .before .before .before .before .gap .given .0 .0) (sym (c .before .before .before .before .before .before .gap-of .ensures) ∙ c .before .before .before .before .gap .given .1) in
     bad-glyph s (a .call .count) l (g .good) (c .barred4 .ensures) (sym (c .before .before .all-known .ensures) ∙ c .before .if1 .left)
 

@@ -3,7 +3,7 @@ use native.Mathlib.Omega.{arith}
 use Prim.Native.Nat.{_*_}
 use mathlib.Core.Path.{refl, ap, _∙_}
 use lib.ListN.{length, length-replicate}
-use Rattle.line_call.specs.Steps.{sideIn, lineIn}
+use Rattle.line_call.specs.Steps.{sideIn, calledLine}
 use Rattle.line_call.proofs.Gaps.{as-read}
 use Rattle.line_call.proofs.Outcomes.{has-moves, counted-bad, counted-short, counted-done}
 use borrow.Author.Needs.{needs}
@@ -32,7 +32,7 @@ returns : tie.Need-returns
 returns c =
     let a = c .before .before .before .before .before .before .before .before .before .before .before .before .before .before .before .before .before .before .args in
     let e = c .enum-told .given in
-    counted-bad (sideIn (a .table .now) (a .call)) (a .call .count) (lineIn (a .call) (a .sizes .now) (a .glyphs .now) (a .advances .now)) (a .call .room) (c .before .before .before .before .before .before .before .before .share-out .ensures) (e .0 .0) (e .0 .1 .0) (e .1)
+    counted-bad (sideIn (a .table .now) (a .call)) (a .call .count) (calledLine (a .call) (a .sizes .now) (a .glyphs .now) (a .advances .now)) (a .call .room) (c .before .before .before .before .before .before .before .before .share-out .ensures) (e .0 .0) (e .0 .1 .0) (e .1)
 
 keep-verdicts-requires : tie.Need-keep-verdicts-requires
 keep-verdicts-requires c κs =
@@ -43,7 +43,7 @@ keep-verdicts-requires c κs =
     let n = length (a .glyphs .now) in
     let held = o .kept .1 .1 .1 .1 .1 .0 ∙ ap length (p .1 .classes) ∙ length-replicate n 0 in
     let moves = o .kept .1 .1 .1 .1 .1 .1 .0 ∙ ap length (p .1 .moves) ∙ length-replicate (2 * n) 0 in
-    (has-moves (sideIn (a .table .now) (a .call)) (a .call .count) (lineIn (a .call) (a .sizes .now) (a .glyphs .now) (a .advances .now)) (a .call .room) (o .ensures) (e .0 .0) (e .1) (a .sizes .now) (a .glyphs .now) (p .0) held moves, o .kept .1 .1 .1 .1 .1 .1 .1 .0 ∙ p .1 .work)
+    (has-moves (sideIn (a .table .now) (a .call)) (a .call .count) (calledLine (a .call) (a .sizes .now) (a .glyphs .now) (a .advances .now)) (a .call .room) (o .ensures) (e .0 .0) (e .1) (a .sizes .now) (a .glyphs .now) (p .0) held moves, o .kept .1 .1 .1 .1 .1 .1 .1 .0 ∙ p .1 .work)
 
 barred-requires : tie.Need-barred-requires
 barred-requires c κs = search needs
@@ -61,7 +61,7 @@ returns-2 : tie.Need-returns-2
 returns-2 c =
     let a = c .before .before .before .before .before .before .before .before .before .before .before .before .before .before .before .before .before .before .before .before .before .before .before .before .before .before .before .before .before .args in
     let e = c .before .before .before .before .before .before .before .before .before .before .before .shared .given in
-    counted-short (sideIn (a .table .now) (a .call)) (a .call .count) (lineIn (a .call) (a .sizes .now) (a .glyphs .now) (a .advances .now)) (a .call .room) (c .before .before .before .before .before .before .before .before .before .before .before .before .before .before .before .before .before .before .before .share-out .ensures) (e .0 .0) (e .1) (c .before .before .before .before .before .keep-verdicts .ensures) (omega (arith, c .before .if1 .taken)) (c .barred .ensures)
+    counted-short (sideIn (a .table .now) (a .call)) (a .call .count) (calledLine (a .call) (a .sizes .now) (a .glyphs .now) (a .advances .now)) (a .call .room) (c .before .before .before .before .before .before .before .before .before .before .before .before .before .before .before .before .before .before .before .share-out .ensures) (e .0 .0) (e .1) (c .before .before .before .before .before .keep-verdicts .ensures) (omega (arith, c .before .if1 .taken)) (c .barred .ensures)
 
 same-length-7 : tie.Need-same-length-7
 same-length-7 c = search needs
@@ -76,7 +76,7 @@ returns-3 : tie.Need-returns-3
 returns-3 c =
     let a = c .before .before .before .before .before .before .before .before .before .before .before .before .before .before .before .before .before .before .before .before .before .before .before .before .before .before .before .before .before .args in
     let e = c .before .before .before .before .before .before .before .before .before .before .before .shared .given in
-    counted-done (sideIn (a .table .now) (a .call)) (a .call .count) (lineIn (a .call) (a .sizes .now) (a .glyphs .now) (a .advances .now)) (a .call .room) (c .before .before .before .before .before .before .before .before .before .before .before .before .before .before .before .before .before .before .before .share-out .ensures) (e .0 .0) (e .1) (c .before .before .before .before .before .keep-verdicts .ensures) (omega (arith, c .before .if1 .left)) refl (as-read (e .0 .0 .remainder) (c .struct-told .given .1 .0 .1)) refl
+    counted-done (sideIn (a .table .now) (a .call)) (a .call .count) (calledLine (a .call) (a .sizes .now) (a .glyphs .now) (a .advances .now)) (a .call .room) (c .before .before .before .before .before .before .before .before .before .before .before .before .before .before .before .before .before .before .before .share-out .ensures) (e .0 .0) (e .1) (c .before .before .before .before .before .keep-verdicts .ensures) (omega (arith, c .before .if1 .left)) refl (as-read (e .0 .0 .remainder) (c .struct-told .given .1 .0 .1)) refl
 
 pub work-out-spec : {M : Type 1} → statement M
 work-out-spec =

@@ -54,10 +54,10 @@ use Rattle.types.specs.declared.Verdict.{Verdict}
 use Rattle.types.proofs.Verdict as T
 use Rattle.types.proofs.Verdict.Laws as T′
 use Rattle.line_verdicts.specs.declared.VerdictStep.{VerdictStep}
-use Rattle.line_verdicts.specs.declared.Cursor.{Cursor}
+use Rattle.line_verdicts.specs.declared.VerdictCursor.{VerdictCursor}
 use Rattle.line_verdicts.specs.Bits.{told, leftAt, startCursor, Serves}
-use Rattle.line_verdicts.proofs.Cursor as U
-use Rattle.line_verdicts.proofs.Cursor.Laws as U′
+use Rattle.line_verdicts.proofs.VerdictCursor as U
+use Rattle.line_verdicts.proofs.VerdictCursor.Laws as U′
 use Rattle.line_verdicts.proofs.VerdictStep as S
 use Rattle.line_verdicts.proofs.VerdictStep.Laws as S′
 use Rattle.line_verdicts.proofs.next_verdict as step-at
@@ -115,10 +115,10 @@ module _ {M : Type 1} (𝓤 : URA M) (H : Heap 𝓤) (A : Atoms 𝓤) (W : Given
   zs i = filledWith vs i ys
 
   -- what a step promises, and a cursor where i verdicts are taken
-  abbrev Said : Cursor → VerdictStep → Type 0
+  abbrev Said : VerdictCursor → VerdictStep → Type 0
   Said cur r = (leftAt (p .now) cur ≡ r .verdict ∷ leftAt (p .now) (r .next)) × Serves (p .now) (r .next)
 
-  abbrev Good : ℕ → Cursor → Type 0
+  abbrev Good : ℕ → VerdictCursor → Type 0
   Good i cur = Taken (p .now) i cur
 
   -- the machine values
@@ -158,17 +158,17 @@ module _ {M : Type 1} (𝓤 : URA M) (H : Heap 𝓤) (A : Atoms 𝓤) (W : Given
     long i h = stored-long vs ys i (omega (arith, pre .most)) (omega (arith, pre .room))
 
     -- what `next_verdict`'s triple binds outside, and that the caller has what it asks
-    abbrev to-at : Cursor → StepAt 𝓤 H A mem run .Ghost
+    abbrev to-at : VerdictCursor → StepAt 𝓤 H A mem run .Ghost
     to-at cur = (((κ′, tt), (q′, tt), tt, (p, (cur, tt)), (sp ∷ [], (LL.vals U.the-type U′.the-laws cur, tt))), tt)
 
-    goes-at : (i : ℕ) (cur : Cursor) → i < n → Is U.the-row cur (LL.vals U.the-type U′.the-laws cur) → Good i cur → ent 𝓤 (sep 𝓤 (sep 𝓤 (A .lft κ′ q′) (sem 𝓤 H A ftrue)) (sem 𝓤 H A Bits)) (StepAt 𝓤 H A mem run .pre (to-at cur))
+    goes-at : (i : ℕ) (cur : VerdictCursor) → i < n → Is U.the-row cur (LL.vals U.the-type U′.the-laws cur) → Good i cur → ent 𝓤 (sep 𝓤 (sep 𝓤 (A .lft κ′ q′) (sem 𝓤 H A ftrue)) (sem 𝓤 H A Bits)) (StepAt 𝓤 H A mem run .pre (to-at cur))
     goes-at i cur small cur-is good =
         let more-told : i < length vs = omega (arith, small, pre .most) in
         qed W ((‵ (flft κ′ q′) ⊛ ‵ ftrue) ∷ ‵ Bits ∷ []) ∵ says ! (pre .kept, good .serves, one-left (p .now) i cur good more-told) $ frame ! $
         nothing ! $ owned ! U.the-row (Is U.the-row) (LL.makes U.the-type U′.the-plain 𝓤 H A) cur _ cur-is $ fjoin ! $ move ! (1 ∷ 0 ∷ []) $ fjoin ! $ done !
 
     -- of `next_verdict`'s `ensured`, the clause alone: it has no `&mut`
-    said : (cur : Cursor) (r : VerdictStep) → ent 𝓤 (ensured 𝓤 H A step-at.ended (step-at.clauses 𝓤 H A mem run) (κ′, tt) (p, (cur, tt)) tt r) (fact 𝓤 (Said cur r))
+    said : (cur : VerdictCursor) (r : VerdictStep) → ent 𝓤 (ensured 𝓤 H A step-at.ended (step-at.clauses 𝓤 H A mem run) (κ′, tt) (p, (cur, tt)) tt r) (fact 𝓤 (Said cur r))
     said cur r = exE 𝓤 _ (λ ws. snd∗ 𝓤 (sem 𝓤 H A (lasts step-at.ended (κ′, tt) (p, (cur, tt)) ws)) (fact 𝓤 (Said cur r)))
 
     -- the same of `store`: the list lent again for the lifetime ν, under the name δ
@@ -209,15 +209,15 @@ module _ {M : Type 1} (𝓤 : URA M) (H : Heap 𝓤) (A : Atoms 𝓤) (W : Given
         En = (tyUnit, l₀) ∷ (list-ty, l₁) ∷ (bits-ty, l₂) ∷ (word, l₃) ∷ (U′.mir, l₄) ∷ (word, l₅) ∷ (S′.mir, l₆) ∷ (tyBool, l₇) ∷ (tyUnit, l₈) ∷ (elem-mut, l₉) ∷ (elems-mut, l₁₀) ∷ []
 
         -- what is had where i records are stored
-        abbrev At : ℕ → Cursor → List (Item 𝓤)
+        abbrev At : ℕ → VerdictCursor → List (Item 𝓤)
         At i cur = ‵ (Own (zs i)) ∷ ‵ (flft κ q) ∷ ‵ Bits ∷ (‵ (flft κ′ q′) ⊛ ‵ ftrue) ∷ ‵ (froom elems-mut l₁₀ 0) ∷ ‵ (fdies elems-mut l₁₀) ∷ ‵ (froom elem-mut l₉ 0) ∷ ‵ (fdies elem-mut l₉) ∷ ‵ (froom tyUnit l₈ 0) ∷ ‵ (fdies tyUnit l₈) ∷ ‵ (froom tyBool l₇ 0) ∷ ‵ (fdies tyBool l₇) ∷ ‵ (froom S′.mir l₆ 0) ∷ ‵ (fdies S′.mir l₆) ∷ ‵ (fat fullShare word l₅ 0 (vint w64 i)) ∷ ‵ (fdies word l₅) ∷ ‵ (fat fullShare U′.mir l₄ 0 (LL.val U.the-type U′.the-laws cur)) ∷ ‵ (fdies U′.mir l₄) ∷ ‵ (fat fullShare word l₃ 0 (vint w64 n)) ∷ ‵ (fdies word l₃) ∷ ‵ (fat fullShare bits-ty l₂ 0 sp) ∷ ‵ (fdies bits-ty l₂) ∷ ‵ (fat fullShare list-ty l₁ 0 s) ∷ ‵ (fdies list-ty l₁) ∷ ‵ (froom tyUnit l₀ 0) ∷ ‵ (fdies tyUnit l₀) ∷ []
 
-        abbrev Facts : ℕ → ℕ × Cursor → Type 0
+        abbrev Facts : ℕ → ℕ × VerdictCursor → Type 0
         Facts t y = (y .0 + t ≡ n) × Is U.the-row (y .1) (LL.vals U.the-type U′.the-laws (y .1)) × Good (y .0) (y .1)
 
         -- the invariant, where t records are to come
         abbrev Inv : ℕ → SProp 𝓤
-        Inv t = ex 𝓤 (λ (y : ℕ × Cursor). guard 𝓤 (Facts t y) (⋆ 𝓤 H A (At (y .0) (y .1))))
+        Inv t = ex 𝓤 (λ (y : ℕ × VerdictCursor). guard 𝓤 (Facts t y) (⋆ 𝓤 H A (At (y .0) (y .1))))
 
         abbrev Below : ℕ → SProp 𝓤
         Below t = ex 𝓤 (λ (t′ : ℕ). guard 𝓤 (t′ < t) (Inv t′))
@@ -227,8 +227,8 @@ module _ {M : Type 1} (𝓤 : URA M) (H : Heap 𝓤) (A : Atoms 𝓤) (W : Given
         Left = afterBlock 𝓤 H (afterSeq 𝓤 H (Wp 𝓤 H C Λ En code.Mir.t-4 (atReturn 𝓤 H En Post)) (atReturn 𝓤 H En Post))
 
         -- a turn that stores one record
-        more : (i : ℕ) (cur : Cursor) (X : SProp 𝓤) → i < n → Is U.the-row cur (LL.vals U.the-type U′.the-laws cur) → Good i cur
-            → ((next : Cursor) → Is U.the-row next (LL.vals U.the-type U′.the-laws next) → Good (suc i) next → ent 𝓤 (⋆ 𝓤 H A (At (suc i) next)) X)
+        more : (i : ℕ) (cur : VerdictCursor) (X : SProp 𝓤) → i < n → Is U.the-row cur (LL.vals U.the-type U′.the-laws cur) → Good i cur
+            → ((next : VerdictCursor) → Is U.the-row next (LL.vals U.the-type U′.the-laws next) → Good (suc i) next → ent 𝓤 (⋆ 𝓤 H A (At (suc i) next)) X)
             → ent 𝓤 (⋆ 𝓤 H A (At i cur)) (Wp 𝓤 H C Λ En code.Mir.turn-1 (afterTurn 𝓤 H X Left))
         unfolding afterTurn
         more i cur X small cur-is good k =
@@ -274,7 +274,7 @@ module _ {M : Type 1} (𝓤 : URA M) (H : Heap 𝓤) (A : Atoms 𝓤) (W : Given
             move ! (2 ∷ 3 ∷ []) $ drop ! $ drop ! $ move ! (0 ∷ 1 ∷ 3 ∷ []) $ by ! (k (r .next) next-is (taken-next (p .now) i cur good r (e .0) (e .1)))))))))))))))
 
         -- the turn that leaves the loop, and the rest of the body
-        ends : (cur : Cursor) (X : SProp 𝓤) → ent 𝓤 (⋆ 𝓤 H A (At n cur)) (Wp 𝓤 H C Λ En code.Mir.turn-1 (afterTurn 𝓤 H X Left))
+        ends : (cur : VerdictCursor) (X : SProp 𝓤) → ent 𝓤 (⋆ 𝓤 H A (At n cur)) (Wp 𝓤 H C Λ En code.Mir.turn-1 (afterTurn 𝓤 H X Left))
         unfolding afterTurn
         ends cur X =
             qed W (At n cur) ∵ exec ! C Λ En code.Mir.turn-1 (anyQ (afterTurn 𝓤 H X Left)) $
@@ -285,18 +285,18 @@ module _ {M : Type 1} (𝓤 : URA M) (H : Heap 𝓤) (A : Atoms 𝓤) (W : Given
             returns ! (look ! (1 + at 0) refl) $ forget ! (1 + at 7) refl $ forget ! (1 + at 5) refl $ forget ! (1 + at 4) refl $ forget ! (1 + at 3) refl $ forget ! (1 + at 2) refl $ forget ! (1 + at 1) refl $ forget ! (1 + at 0) refl $ ends-all ! $ by ! (exits (long n (omega arith)))
 
         -- the invariant at t, where n - t records are stored
-        holds-at : (i : ℕ) (cur : Cursor) (t : ℕ) → Facts t (i, cur) → ent 𝓤 (⋆ 𝓤 H A (At i cur)) (Inv t)
-        holds-at i cur t e = via 𝓤 (guard 𝓤 (Facts t (i, cur)) (⋆ 𝓤 H A (At i cur))) (guardI 𝓤 (Facts t (i, cur)) (⋆ 𝓤 H A (At i cur)) e) (exI 𝓤 (λ (y : ℕ × Cursor). guard 𝓤 (Facts t y) (⋆ 𝓤 H A (At (y .0) (y .1)))) (i, cur))
+        holds-at : (i : ℕ) (cur : VerdictCursor) (t : ℕ) → Facts t (i, cur) → ent 𝓤 (⋆ 𝓤 H A (At i cur)) (Inv t)
+        holds-at i cur t e = via 𝓤 (guard 𝓤 (Facts t (i, cur)) (⋆ 𝓤 H A (At i cur))) (guardI 𝓤 (Facts t (i, cur)) (⋆ 𝓤 H A (At i cur)) e) (exI 𝓤 (λ (y : ℕ × VerdictCursor). guard 𝓤 (Facts t y) (⋆ 𝓤 H A (At (y .0) (y .1)))) (i, cur))
 
         -- a turn from the invariant at t leaves the loop, or ends in the invariant below t
-        turn-at : (t i : ℕ) (cur : Cursor) → Facts t (i, cur) → ent 𝓤 (⋆ 𝓤 H A (At i cur)) (Wp 𝓤 H C Λ En code.Mir.turn-1 (afterTurn 𝓤 H (Below t) Left))
+        turn-at : (t i : ℕ) (cur : VerdictCursor) → Facts t (i, cur) → ent 𝓤 (⋆ 𝓤 H A (At i cur)) (Wp 𝓤 H C Λ En code.Mir.turn-1 (afterTurn 𝓤 H (Below t) Left))
         turn-at zero i cur e = subst (λ (k : ℕ). ent 𝓤 (⋆ 𝓤 H A (At k cur)) (Wp 𝓤 H C Λ En code.Mir.turn-1 (afterTurn 𝓤 H (Below zero) Left))) (sym (e .0) ∙ add-zero i) (ends cur (Below zero))
         turn-at (suc t) i cur e =
             more i cur (Below (suc t)) (omega (arith, e .0)) (e .1) (e .2) (λ next next-is good.
             via 𝓤 (Inv t) (holds-at (suc i) next t (omega (arith, e .0), next-is, good)) (via 𝓤 (guard 𝓤 (t < suc t) (Inv t)) (guardI 𝓤 (t < suc t) (Inv t) (omega arith)) (exI 𝓤 (λ (u : ℕ). guard 𝓤 (u < suc t) (Inv u)) t)))
 
         turns : (t : ℕ) → ent 𝓤 (Inv t) (Wp 𝓤 H C Λ En code.Mir.turn-1 (afterTurn 𝓤 H (Below t) Left))
-        turns t = exE 𝓤 (λ (y : ℕ × Cursor). guard 𝓤 (Facts t y) (⋆ 𝓤 H A (At (y .0) (y .1)))) (λ y. guardE 𝓤 (Facts t y) (⋆ 𝓤 H A (At (y .0) (y .1))) (λ e. turn-at t (y .0) (y .1) e))
+        turns t = exE 𝓤 (λ (y : ℕ × VerdictCursor). guard 𝓤 (Facts t y) (⋆ 𝓤 H A (At (y .0) (y .1)))) (λ y. guardE 𝓤 (Facts t y) (⋆ 𝓤 H A (At (y .0) (y .1))) (λ e. turn-at t (y .0) (y .1) e))
 
         loops : ent 𝓤 (⋆ 𝓤 H A (At 0 startCursor)) (Wp 𝓤 H C Λ En (loop code.Mir.turn-1) Left)
         loops = via 𝓤 (Inv n) (holds-at 0 startCursor n (zero-add n, start-is, taken-none (p .now))) (loop-rule 𝓤 H (W .laws) 𝓣 _<_ (Nat·lt-wfRel .wf) En code.Mir.turn-1 Left Inv turns n)

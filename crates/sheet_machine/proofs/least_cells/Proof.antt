@@ -5,7 +5,7 @@ use native.Mathlib.Omega.{arith}
 use lib.ListN.{drop}
 use Rattle.fields.specs.Field.{u32At, Bytes}
 use Rattle.encoding.specs.Tests.{Says}
-use Rattle.sheet_machine.specs.Machine.{LeastBy, rowAt, Readable}
+use Rattle.sheet_machine.specs.Machine.{LeastBy, rowAt, ReadableCells}
 use Rattle.sheet_machine.proofs.StandLaws.{cells-room, cells-readable, least-says}
 use borrow.Author.Needs.{needs}
 use Rattle.sheet_machine.proofs.least_cells.Statement.{statement}
@@ -71,7 +71,7 @@ is-least-requires c κs =
     let f = c .before .before .pre .1 .1 in
     let R = cells-readable (a .rows) (a .classes) z s bytes (a .at) (f .0) (drop q s) (f .1) (f .3) in
     let e : c .u32-at .result ≡ u32At s (a .at) = c .u32-at .ensures .0 in
-    subst (λ (k : ℕ). Readable s (a .at + 4) (a .at + 4 + 4 * k + 4) (a .classes) (a .rows)) (sym e) R
+    subst (λ (k : ℕ). ReadableCells s (a .at + 4) (a .at + 4 + 4 * k + 4) (a .classes) (a .rows)) (sym e) R
 
 returns : tie.Need-returns
 returns c = λ xs rest ok h.

@@ -7,7 +7,7 @@ use borrow.Author.Needs.{needs}
 use Rattle.encoding.specs.Runs.{Run}
 use Rattle.encoding.specs.Codes.{itemsAt}
 use Rattle.sheet_sections.proofs.SectionLaws.{says-yes, says-no}
-use Rattle.sheet_sections.specs.RunSection.{Follows}
+use Rattle.sheet_sections.specs.RunSection.{MayFollow}
 use Rattle.sheet_sections.proofs.NumberLaws.{same-number, used-fits, number-follows, number-on, number-back, numbers-end, numbers-ended}
 use Rattle.sheet_sections.specs.Pool.{numberAt, NumbersFrom}
 use Rattle.sheet_sections.proofs.good_numbers.Statement.{statement}
@@ -73,7 +73,7 @@ loop-again c =
     let r : Run ℕ = record { first = c .before .before .before .before .before .u16-at .result; last = c .before .before .before .before .u16-at2 .result; value = x + 1 } in
     let e = same-number s (l .place) (r .first) (r .last) x (c .before .before .before .before .before .u16-at .ensures .0) (c .before .before .before .before .u16-at2 .ensures .0) (c .before .before .before .u16-at3 .ensures .0) in
     let el : l .left ≡ suc (l .left - 1) = omega arith in
-    let f : Follows (a .glyphs) _ 0 (l .from) (l .held) r = says-yes _ (c .before .if1 .taken) (c .before .before .follows .ensures) in
+    let f : MayFollow (a .glyphs) _ 0 (l .from) (l .held) r = says-yes _ (c .before .if1 .taken) (c .before .before .follows .ensures) in
     let known : r .value ≤ l .used = omega (arith, f .small) in
     let used = c .used-after .result in
     let u = used-fits (x + 1) (l .used) (omega (arith, c .before .before .before .u16-at3 .ensures .1)) (l .inv .2) in (
@@ -93,7 +93,7 @@ returns c =
     let r : Run ℕ = record { first = c .before .before .before .before .u16-at .result; last = c .before .before .before .u16-at2 .result; value = x + 1 } in
     let e = same-number s (l .place) (r .first) (r .last) x (c .before .before .before .before .u16-at .ensures .0) (c .before .before .before .u16-at2 .ensures .0) (c .before .before .u16-at3 .ensures .0) in
     let el : l .left ≡ suc (l .left - 1) = omega arith in
-    λ h. says-no (Follows (a .glyphs) (l .used + 1) 0 (l .from) (l .held) r) (c .if1 .left) (c .before .follows .ensures)
+    λ h. says-no (MayFollow (a .glyphs) (l .used + 1) 0 (l .from) (l .held) r) (c .if1 .left) (c .before .follows .ensures)
     (number-follows s (a .glyphs) (a .items) (l .from) (l .held) (l .used) (l .place) (l .left) (l .left - 1) r e el (l .inv .4 h))
 
 add-if2 : tie.Need-add-if2 Inv-loop μ-loop

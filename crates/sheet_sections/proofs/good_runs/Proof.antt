@@ -8,7 +8,7 @@ use Rattle.encoding.specs.Runs.{Run}
 use Rattle.encoding.specs.Codes.{itemsAt}
 use Rattle.sheet_sections.proofs.RunLaws.{same-run, turn-follows, turn-on, turn-back}
 use Rattle.sheet_sections.proofs.SectionLaws.{says-yes, says-no}
-use Rattle.sheet_sections.specs.RunSection.{runAt, Follows, GoodRuns}
+use Rattle.sheet_sections.specs.RunSection.{runAt, MayFollow, GoodRuns}
 use Rattle.sheet_sections.proofs.good_runs.Statement.{statement}
 use Rattle.sheet_sections.proofs.good_runs.Tie as tie
 
@@ -62,7 +62,7 @@ loop-again c =
     let r : Run ℕ = record { first = c .before .before .before .before .u16-at .result; last = c .before .before .before .u16-at2 .result; value = c .before .before .u16-at3 .result } in
     let e = same-run s (l .place) (r .first) (r .last) (r .value) (c .before .before .before .before .u16-at .ensures .0) (c .before .before .before .u16-at2 .ensures .0) (c .before .before .u16-at3 .ensures .0) in
     let el : l .left ≡ suc (l .left - 1) = omega arith in
-    let f = says-yes (Follows (a .glyphs) (a .limit) (a .skip) (l .from) (l .held) r) (c .if1 .taken) (c .before .follows .ensures) in (
+    let f = says-yes (MayFollow (a .glyphs) (a .limit) (a .skip) (l .from) (l .held) r) (c .if1 .taken) (c .before .follows .ensures) in (
       omega arith,
       omega (arith, f .inside),
       (λ h. l .inv .2 (turn-back s (a .glyphs) (a .limit) (a .skip) (l .from) (l .held) (l .place) (l .left) (l .left - 1) r e el (r .last + 1) refl f h)),
@@ -77,7 +77,7 @@ returns c =
     let r : Run ℕ = record { first = c .before .before .before .before .u16-at .result; last = c .before .before .before .u16-at2 .result; value = c .before .before .u16-at3 .result } in
     let e = same-run s (l .place) (r .first) (r .last) (r .value) (c .before .before .before .before .u16-at .ensures .0) (c .before .before .before .u16-at2 .ensures .0) (c .before .before .u16-at3 .ensures .0) in
     let el : l .left ≡ suc (l .left - 1) = omega arith in
-    λ h. says-no (Follows (a .glyphs) (a .limit) (a .skip) (l .from) (l .held) r) (c .if1 .left) (c .before .follows .ensures)
+    λ h. says-no (MayFollow (a .glyphs) (a .limit) (a .skip) (l .from) (l .held) r) (c .if1 .left) (c .before .follows .ensures)
     (turn-follows s (a .glyphs) (a .limit) (a .skip) (l .from) (l .held) (l .place) (l .left) (l .left - 1) r e el (l .inv .3 h))
 
 returns-2 : tie.Need-returns-2 Inv-loop μ-loop

@@ -1,5 +1,5 @@
 -- `table::source_fault` meets its contract.
-use Rattle.lookup_targets.specs.Values.{sourceFault, Near}
+use Rattle.lookup_targets.specs.Values.{sourceFault, NearSource}
 use native.Mathlib.Omega.{arith}
 use mathlib.Core.Path.{ap, subst, sym, _∙_}
 use borrow.Author.Needs.{needs}
@@ -17,7 +17,7 @@ returns c = search needs
 
 values-fault-requires : tie.Need-values-fault-requires
 values-fault-requires c κs =
-    let near = subst Near (c .before .before .source .given .1) (c .before .before .before .before .before .before .pre .0 .0) in
+    let near = subst NearSource (c .before .before .source .given .1) (c .before .before .before .before .before .before .pre .0 .0) in
     ((omega (arith, near .0), (near .1, c .before .before .before .before .before .before .pre .0 .1)), c .before .before .before .before .before .before .pre .1)
 
 same-length : tie.Need-same-length

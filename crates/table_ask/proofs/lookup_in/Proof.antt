@@ -2,7 +2,7 @@
 use Rattle.table_ask.proofs.Steps.{headed-there}
 use Rattle.table_ask.specs.Places.{headed, lookupIn}
 use Rattle.lookup_targets.specs.declared.Source.{Source}
-use Rattle.lookup_targets.specs.Values.{Near}
+use Rattle.lookup_targets.specs.Values.{NearSource}
 use Rattle.table.specs.Table.{sourceAt}
 use native.Mathlib.Omega.{arith}
 use mathlib.Core.Path.{ap, subst, sym, _∙_}
@@ -31,14 +31,14 @@ returns c =
     (ap (headed (a .table .now)) (sym (c .enum-told .given .1) ∙ s), tt)
 
 head-at-requires : tie.Need-head-at-requires
-head-at-requires c κs = omega (arith, subst Near (c .before .source .given .1) (c .before .before .before .source-at .ensures .1) .0)
+head-at-requires c κs = omega (arith, subst NearSource (c .before .source .given .1) (c .before .before .before .source-at .ensures .1) .0)
 
 returns-2 : tie.Need-returns-2
 unfolding lookupIn
 returns-2 c =
     let a = c .before .before .before .before .before .before .before .args in
     let s = c .before .before .before .before .source-at .ensures .0 ∙ ap (λ (at : ℕ). sourceAt (a .table .now) at (a .kind)) (c .before .before .before .before .before .direction-at .ensures .0) in
-    let near = subst Near (c .before .before .source .given .1) (c .before .before .before .before .source-at .ensures .1) in
+    let near = subst NearSource (c .before .before .source .given .1) (c .before .before .before .before .source-at .ensures .1) in
     (headed-there (a .table .now) (c .before .before .source .given .1) (c .head-at .ensures) ∙ ap (headed (a .table .now)) s, (omega (arith, near .0), (near .1, c .head-at .ensures)))
 
 pub lookup-in-spec : {M : Type 1} → statement M

@@ -1,6 +1,6 @@
 -- `write_glyphs::number_glyphs` meets its contract.
 use Rattle.write_glyphs.proofs.Stands.{stands-none, passed}
-use Rattle.write_glyphs.specs.Places.{glyphItem, OneItem, Stands}
+use Rattle.write_glyphs.specs.Places.{glyphItem, OneItem, PassStands}
 use Rattle.write_glyphs.proofs.Laws.{alike-none}
 use Rattle.lookup.specs.Pass.{Serves}
 use lib.ListN.{length}
@@ -13,7 +13,7 @@ use Rattle.write_glyphs.proofs.number_glyphs.Tie as tie
 
 abbrev Inv-loop : tie.InvT-loop
 Inv-loop table glyphs kind at base ends₀ nums₀ firsts₀ others₀ slots₀ seen₀ alike₀ format way₀ ends nums firsts others slots seen alike way =
-    Stands kind table (glyphItem kind table glyphs at base) glyphs ends nums firsts others slots seen (way .stretches) (way .items) (way .glyph)
+    PassStands kind table (glyphItem kind table glyphs at base) glyphs ends nums firsts others slots seen (way .stretches) (way .items) (way .glyph)
     × (way .stretches < length ends → way .glyph < glyphs → Serves table at (way .glyph) (way .cursor))
     × (length ends ≡ length ends₀) × (length nums ≡ length nums₀) × (length firsts ≡ length firsts₀) × (length others ≡ length others₀) × (length slots ≡ length slots₀) × (length seen ≡ length seen₀) × (length alike ≡ length alike₀)
     × OneItem kind table base alike

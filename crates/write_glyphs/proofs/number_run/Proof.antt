@@ -2,7 +2,7 @@
 use Rattle.write_glyphs.proofs.Stands.{stands-few, seen-agree, stands-next}
 use Rattle.write_glyphs.proofs.Laws.{run-item, went-on}
 use Rattle.write_numbers.specs.Numbered.{Entered}
-use Rattle.write_glyphs.specs.Places.{glyphItem, runPlace, OneItem, Stands}
+use Rattle.write_glyphs.specs.Places.{glyphItem, runPlace, OneItem, PassStands}
 use Rattle.lookup.specs.Pass.{Serves}
 use lib.ListN.{length}
 use native.Mathlib.Omega.{arith}
@@ -14,7 +14,7 @@ use Rattle.write_glyphs.proofs.number_run.Tie as tie
 
 abbrev Inv-loop : tie.InvT-loop
 Inv-loop table glyphs kind format at base ends₀ nums₀ firsts₀ others₀ slots₀ seen₀ alike₀ stretches₀ items₀ glyph₀ run after until ends nums firsts others slots seen alike stretches items glyph =
-    Stands kind table (glyphItem kind table glyphs at base) glyphs ends nums firsts others slots seen stretches items glyph
+    PassStands kind table (glyphItem kind table glyphs at base) glyphs ends nums firsts others slots seen stretches items glyph
     × (glyph₀ ≤ glyph) × (glyph ≤ glyph₀ → stretches ≡ stretches₀)
     × (length ends ≡ length ends₀) × (length nums ≡ length nums₀) × (length firsts ≡ length firsts₀) × (length others ≡ length others₀) × (length slots ≡ length slots₀) × (length seen ≡ length seen₀) × (length alike ≡ length alike₀) × (glyph ≤ until)
     × OneItem kind table base alike
@@ -127,7 +127,7 @@ loop-again c =
     (omega (arith, nb .kept)) (st .ensures .0 .more) (omega (arith, st .ensures .0 .most, (c .before .before .before .before .before .before .before .before .before .before .before .before .before .before .before .before .before .before .before .before .before .before .before .before .before .before .before .before .before .before .lower) .ensures))
     (λ x b d. run-item (a .kind) t (a .glyphs) (a .at) (a .base) _ x run ((c .before .before .before .before .before .before .before .before .before .before .before .before .before .before .before .before .before .before .before .before .before .before .before .before .before .before .before .before .before .before .before .before .before .before .before .before .before .before .before .before .before .before .pre) .1 .0 .0) ((c .before .before .before .before .before .before .before .before .before .before .before .before .before .before .before .before .before .before .before .before .before .before .before .before .before .before .before .before .before .before .before .before .before .before .before .before .before .before .before .before .before .before .pre) .0 .1 .1 .0) ((c .before .before .before .before .before .before .before .before .before .before .before .before .before .before .before .before .before .before .before .before .before .before .before .before .before .before .before .before .before .before .before .before .next-run) .ensures .1) (omega (arith, l .inv .1, b)) (omega (arith, st .ensures .0 .most, (c .before .before .before .before .before .before .before .before .before .before .before .before .before .before .before .before .before .before .before .before .before .before .before .before .before .before .before .before .before .before .lower) .ensures)) (omega (arith, st .ensures .0 .most, (c .before .before .before .before .before .before .before .before .before .before .before .before .before .before .before .before .before .before .before .before .before .before .before .before .before .before .before .before .before .before .lower) .ensures)))
     (subst (λ (q : ℕ). Entered (a .kind) t (l .firsts) firsts others slots (l .items) q (nb .result)) {y = P (l .glyph)} (c .before .before .before .before .before .before .before .before .before .before .before .before .before .before .before .before .before .before .before .before .before .before .before .before .before .before .run-place .ensures) (nb .ensures .0)) (nb .ensures .1) (st .ensures .0 .same) w (omega (arith, w .most, ex .kept, (c .before .before .before .before .before .before .before .before .before .before .before .before .before .before .before .before .before .before .before .before .before .before .before .before .before .before .before .if1) .left)) in (
-      subst (λ (k : ℕ). Stands (a .kind) t item (a .glyphs) ends nums firsts others slots seen (ex .result) k (st .result)) (sym ((c .larger) .ensures)) next,
+      subst (λ (k : ℕ). PassStands (a .kind) t item (a .glyphs) ends nums firsts others slots seen (ex .result) k (st .result)) (sym ((c .larger) .ensures)) next,
       omega (arith, l .inv .1, st .ensures .0 .more),
       (λ h. absurd (omega (arith, h, l .inv .1, st .ensures .0 .more))),
       omega (arith, ex .kept, l .inv .3),
