@@ -50,7 +50,7 @@ pub record WithClasses (t u : List ℕ) (m : Machines) : Type 0 where
   pub ones : 0 < classCount t (m .first)
   pub others : 0 < classCount u (m .second)
 
--- the glyphs below n from `from` on and before `until` are all that one of two class tables covers
+-- the glyphs below n from `from` on and before `until` hold all that one of two class tables covers; there may be others among them
 pub record Spans (classes beside : ClassTable) (n : ℕ) (s : Span) : Type 0 where
   pub rises : s .from ≤ s .until
   pub most : s .until ≤ n

@@ -31,7 +31,7 @@ use Rattle.line_call.specs.declared.Tally.{Tally}
 use Rattle.line_call.specs.declared.Worked.{Worked}
 use Rattle.line_call.specs.declared.Worked.the-variants as worked
 use Rattle.line_call.specs.Justified.{justifies, roomTest, workedFault, lineFault, settled, justified}
-use Rattle.line_call.specs.Settle.{lentBy, settlementIs, settlementIn, Room, Tells}
+use Rattle.line_call.specs.Settle.{lentBy, settlementIs, settlementIn, BitRoom, Tells}
 use Rattle.line_call.specs.Steps.{inputFault, Admitted, workFault, restFault, workedBy, MovesOf, WorkedOut, Counted, LineRoom, refusedBy, Deliverable, Delivered, SettledIn}
 use Rattle.line_call.proofs.Tests.{lengths-hold, sizes-small}
 use Rattle.line_call.proofs.Work.{barred}
@@ -269,7 +269,7 @@ module _ (t : List ℕ) (n : ℕ) (l : Line) (cs : List ℕ) (bs fs : List ℤ) 
 -- ---- slices and local arrays, lent in part
 
 -- room for the glyphs of a line that is not too long
-pub room-enough : {n : ℕ} {work : List ℕ} → Room n work → n ≤ 1024 → 2 * n ≤ length work
+pub room-enough : {n : ℕ} {work : List ℕ} → BitRoom n work → n ≤ 1024 → 2 * n ≤ length work
 room-enough {n} {work} w h = omega (arith, w .enough h, w .even)
 
 pub part-length : {A : Type 0} (xs : List A) (n : ℕ) → n ≤ length xs → n ≡ length (take n xs)

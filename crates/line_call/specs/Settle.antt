@@ -52,7 +52,7 @@ settlementIs r classes before after = record { answer = saysLine (r .answer); st
 
 -- room for two numbers of each glyph of a line: as many as its glyphs need unless the line is too long, and no more than the longest line needs. First it holds the
 -- factors of the glyphs' sides, then the bits that tell the verdicts.
-pub record Room (n : ℕ) (work : List ℕ) : Type 0 where
+pub record BitRoom (n : ℕ) (work : List ℕ) : Type 0 where
   pub glyphs : ℕ
   pub even : length work ≡ 2 * glyphs
   pub few : glyphs ≤ 1024

@@ -13,7 +13,7 @@ ghost use Rattle.table.specs.Means.{meaningOf};
 ghost use Rattle.line_rule.specs.Line.{verdictsOf};
 ghost use Rattle.line_call.specs.declared.Worked.the-variants.{Bad};
 ghost use Rattle.line_call.specs.Justified.{allLong, goodSize, goodSizes, allKnown, justified};
-ghost use Rattle.line_call.specs.Settle.{lineBy, lentBy, settlementIs, settlementIn, Room, Tells};
+ghost use Rattle.line_call.specs.Settle.{lineBy, lentBy, settlementIs, settlementIn, BitRoom, Tells};
 ghost use Rattle.line_call.specs.Steps.{measuredLine, sumIn, gapIn, inputFault, Admitted, workFault, sideIn, calledLine, WorkedOut, Counted, WorkRoom, LineRoom, refusedBy, Deliverable, Delivered, SettledCall};
 use fields::Fault;
 use fields::Refusal;
@@ -461,7 +461,7 @@ pub fn settle<'a, 'b>(
     after: &'b mut [i32],
     work: &'b mut [u64],
 ) -> Settled
-    requires { ⌜ Room (length (now glyphs)) (now work) ⌝ }
+    requires { ⌜ BitRoom (length (now glyphs)) (now work) ⌝ }
     ensures { λ r. ⌜
         ((verdicts : List Verdict) → length verdicts ≡ room →
         settlementIs r (now (classes .exit)) (now (before .exit)) (now (after .exit))

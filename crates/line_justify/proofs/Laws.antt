@@ -58,10 +58,10 @@ module _ (bits : List ℕ) where
     pub one-left : i < length (told bits) → 0 < length (leftAt bits c)
     one-left h = omega (arith, h, length-drop i (told bits), ap (λ (vs : List Verdict). length vs) (k .left))
 
-    module _ (r : VerdictStep) (e : leftAt bits c ≡ r .verdict ∷ leftAt bits (r .next)) where
+    module _ (r : VerdictStep) (e : leftAt bits c ≡ r .verdict ∷ leftAt bits (r .past)) where
       -- the step takes the next of them
-      pub taken-verdict : drop i (told bits) ≡ r .verdict ∷ leftAt bits (r .next)
+      pub taken-verdict : drop i (told bits) ≡ r .verdict ∷ leftAt bits (r .past)
       taken-verdict = sym (k .left) ∙ e
 
-      pub taken-next : Serves bits (r .next) → Taken bits (suc i) (r .next)
-      taken-next h = record { left = sym (drop-next (told bits) i (r .verdict) (leftAt bits (r .next)) taken-verdict); serves = h }
+      pub taken-next : Serves bits (r .past) → Taken bits (suc i) (r .past)
+      taken-next h = record { left = sym (drop-next (told bits) i (r .verdict) (leftAt bits (r .past)) taken-verdict); serves = h }

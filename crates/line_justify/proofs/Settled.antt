@@ -19,7 +19,7 @@ use Rattle.line_rule.specs.Line.{Line, verdictsOf}
 use Rattle.line_verdicts.specs.Bits.{told, BitPairs}
 use Rattle.line_call.specs.declared.Settled.{Settled}
 use Rattle.line_call.specs.Justified.{Outcome, Lent, lineFault, settled, justified}
-use Rattle.line_call.specs.Settle.{lentBy, Settlement, settlementIs, settlementIn, Room, Tells}
+use Rattle.line_call.specs.Settle.{lentBy, Settlement, settlementIs, settlementIn, BitRoom, Tells}
 use Rattle.line_justify.specs.Stored.{filledWith, Storable}
 use Rattle.line_justify.specs.Outcome.{outcomeIs}
 
@@ -29,7 +29,7 @@ unfolding filledWith
 stored-all vs ys = ap (λ (l : List Verdict). l ++ drop (length vs) ys) (take-all (length vs) vs (omega arith))
 
 -- room that is as long as it was
-pub kept-room : (n : ℕ) (work bits : List ℕ) → Room n work → length bits ≡ length work → BitPairs bits
+pub kept-room : (n : ℕ) (work bits : List ℕ) → BitRoom n work → length bits ≡ length work → BitPairs bits
 kept-room n work bits k e = record { glyphs = k .glyphs; even = e ∙ k .even; few = k .few }
 
 module _ (t : List ℕ) (n : ℕ) (l : Line) (cs : List ℕ) (bs fs : List ℤ) (ys : List Verdict) where

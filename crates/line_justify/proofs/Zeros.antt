@@ -34,7 +34,7 @@ use denote.Slice.{sliceVal, MutSlice, Room, finally}
 use denote.Lend.{Held, lends-slice, slice-back}
 use denote.Steps.{only, owned}
 use denote.Struct.Steps.{spelt}
-use Rattle.line_call.specs.Settle.{Room as RoomFor}
+use Rattle.line_call.specs.Settle.{BitRoom}
 
 module _ (m : ℕ) where
   -- the elements, the array's type and its machine value
@@ -93,11 +93,11 @@ module _ {M : Type 1} (𝓤 : URA M) (H : Heap 𝓤) (A : Atoms 𝓤) (W : Given
         use1 W (‵ (froom (array-ty m) b 0)) (W .laws .at-room (array-ty m) b 0 (only (array-vals (uint-vals w64) ys))) $ at-once ! $ done !))
 
 -- twice k zeros are room enough for a line of n glyphs
-room-of : (n m k : ℕ) → m ≡ 2 * k → (n ≤ 1024 → n ≤ k) → k ≤ 1024 → RoomFor n (zeros m)
+room-of : (n m k : ℕ) → m ≡ 2 * k → (n ≤ 1024 → n ≤ k) → k ≤ 1024 → BitRoom n (zeros m)
 room-of n m k e h few = record { glyphs = k; even = length-replicate m 0 ∙ e; few = few; enough = h }
 
-pub room-short : (n : ℕ) → n ≤ 128 → RoomFor n (zeros 256)
+pub room-short : (n : ℕ) → n ≤ 128 → BitRoom n (zeros 256)
 room-short n h = room-of n 256 128 refl (λ _. h) (omega arith)
 
-pub room-long : (n : ℕ) → RoomFor n (zeros 2048)
+pub room-long : (n : ℕ) → BitRoom n (zeros 2048)
 room-long n = room-of n 2048 1024 refl (λ h. h) (omega arith)

@@ -5,7 +5,7 @@ ghost use Prim.Native.Nat.{_<_};
 ghost use lib.ListN.{length, set};
 ghost use Rattle.line_verdicts.specs.Bits.{told};
 ghost use Rattle.line_call.specs.Justified.{justified};
-ghost use Rattle.line_call.specs.Settle.{Room, lineBy, lentBy};
+ghost use Rattle.line_call.specs.Settle.{BitRoom, lineBy, lentBy};
 ghost use Rattle.line_justify.specs.Outcome.{outcomeIs};
 ghost use Rattle.line_justify.specs.Stored.{filledWith, Storable};
 use line_call::LineAnswer;
@@ -36,7 +36,7 @@ fn fill<'v, 'a>(list: &'v mut [Verdict], bits: &'a [u64], n: usize)
     while i < n {
         let step = line_verdicts::next_verdict(bits, cursor);
         store(list, i, step.verdict);
-        cursor = step.next;
+        cursor = step.past;
         i += 1;
     }
 }
@@ -55,7 +55,7 @@ fn justify_in<'a, 'v, 'w>(
     verdicts: &'v mut [Verdict],
     work: &'w mut [u64],
 ) -> LineAnswer
-    requires { ⌜ Room (length (now glyphs)) (now work) ⌝ }
+    requires { ⌜ BitRoom (length (now glyphs)) (now work) ⌝ }
     ensures { λ r. ⌜ outcomeIs r (now (classes .exit)) (now (before .exit)) (now (after .exit)) (now (verdicts .exit)) ≡ justified (now (table .entry)) count (lineBy shape (now (sizes .entry)) (now (glyphs .entry)) (now (advances .entry))) (lentBy (now (classes .entry)) (now (before .entry)) (now (after .entry)) (now (verdicts .entry))) ⌝ }
 {
     let room = verdicts.len();

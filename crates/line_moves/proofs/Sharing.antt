@@ -53,7 +53,7 @@ pub line-sides : (shrink : Bool) (d : Direction) {t : List ℕ} {n : ℕ} {zs gs
     → Laid (partsOf (sideOf d (meaningOf t n)) shrink zs gs cs) sides fs → length sides ≡ 2 * length gs → length fs ≡ 2 * length gs → Sides sides fs
 line-sides shrink d {t} {n} {zs} {gs} {cs} bytes w l e f =
     record {
-      even = f ∙ sym e;
+      equal = f ∙ sym e;
       few = omega (arith, w .short);
       narrow = subst Narrow (sym (l .factors)) (parts-narrow (sideOf d (meaningOf t n)) shrink (record-limits t n d bytes (w .accepted)) zs (w .small) gs cs);
     }

@@ -141,13 +141,13 @@ module _ (bits : List ℕ) where
       record { begun = some-begun c s h; few = omega (arith, k .even, k .few, s .within); some = omega (arith, h); low = s .low }
 
   -- one is taken
-  pub left-taken : (c : VerdictCursor) (r : VerdictStep) → Takes c r → leftAt bits c ≡ r .verdict ∷ leftAt bits (r .next)
+  pub left-taken : (c : VerdictCursor) (r : VerdictStep) → Takes c r → leftAt bits c ≡ r .verdict ∷ leftAt bits (r .past)
   unfolding leftAt
   left-taken c r t =
       ap (λ (vs : List Verdict). vs ++ toldAt bits (c .next)) (t .first)
-      ∙ ap (λ (k : ℕ). r .verdict ∷ (tellAt (r .next) ++ toldAt bits k)) (sym (t .stays))
+      ∙ ap (λ (k : ℕ). r .verdict ∷ (tellAt (r .past) ++ toldAt bits k)) (sym (t .stays))
 
-  pub serves-taken : (c : VerdictCursor) (r : VerdictStep) → Serves bits c → AtHand c → Takes c r → Serves bits (r .next)
+  pub serves-taken : (c : VerdictCursor) (r : VerdictStep) → Serves bits c → AtHand c → Takes c r → Serves bits (r .past)
   serves-taken c r s a t =
       record { within = omega (arith, t .stays, s .within); begun = λ e. absurd (omega (arith, t .stays, a .begun)); number = t .number; low = t .low }
 

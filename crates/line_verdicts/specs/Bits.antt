@@ -79,10 +79,10 @@ pub record AtHand (c : VerdictCursor) : Type 0 where
 
 -- a step takes the first that is left of that glyph
 pub record Takes (c : VerdictCursor) (r : VerdictStep) : Type 0 where
-  pub first : tellAt c ≡ r .verdict ∷ tellAt (r .next)
-  pub stays : r .next .next ≡ c .next
-  pub number : r .next .number ≤ 64
-  pub low : r .next .fires < 2 ^ (64 - r .next .number)
+  pub first : tellAt c ≡ r .verdict ∷ tellAt (r .past)
+  pub stays : r .past .next ≡ c .next
+  pub number : r .past .number ≤ 64
+  pub low : r .past .fires < 2 ^ (64 - r .past .number)
 
 -- ---- keeping those of a glyph
 

@@ -47,7 +47,7 @@ pub struct VerdictCursor {
 // The next verdict, and the cursor past it.
 pub struct VerdictStep {
     pub verdict: Verdict,
-    pub next: VerdictCursor,
+    pub past: VerdictCursor,
 }
 
 // What the action at `at` does for a glyph of its class, at its growth and its point size, as a number, which is sooner
@@ -267,16 +267,13 @@ fn first_action(cursor: VerdictCursor) -> VerdictStep
         fires: fires / 2,
         substitutes: substitutes / 2,
     };
-    VerdictStep {
-        verdict,
-        next: past,
-    }
+    VerdictStep { verdict, past }
 }
 
 // The next verdict at a cursor, and the cursor past it.
 pub fn next_verdict(bits: &[u64], cursor: VerdictCursor) -> VerdictStep
     requires { ⌜ BitPairs (now bits) × Serves (now bits) cursor × (0 < length (leftAt (now bits) cursor)) ⌝ }
-    ensures { λ r. ⌜ (leftAt (now (bits .entry)) cursor ≡ r .verdict ∷ leftAt (now (bits .entry)) (r .next)) × Serves (now (bits .entry)) (r .next) ⌝ }
+    ensures { λ r. ⌜ (leftAt (now (bits .entry)) cursor ≡ r .verdict ∷ leftAt (now (bits .entry)) (r .past)) × Serves (now (bits .entry)) (r .past) ⌝ }
 {
     first_action(at_hand(bits, cursor))
 }

@@ -24,7 +24,7 @@ pub length-extrasAt : (s : ℕ) (sides : List ℕ) → length (extrasAt s sides)
 length-extrasAt s sides = length-ofStage s (length sides) (stagesIn sides) (extrasIn sides) (length-map sides stageIn) (length-map sides extraIn)
 
 pub length-factorsAt : (s : ℕ) {sides factors : List ℕ} → Sides sides factors → length (factorsAt s sides factors) ≡ length sides
-length-factorsAt s {sides} {factors} p = length-ofStage s (length sides) (stagesIn sides) factors (length-map sides stageIn) (p .even)
+length-factorsAt s {sides} {factors} p = length-ofStage s (length sides) (stagesIn sides) factors (length-map sides stageIn) (p .equal)
 
 pub length-weightsAt : (extra : Bool) (s : ℕ) {sides factors : List ℕ} → Sides sides factors → length (weightsAt extra s sides factors) ≡ length sides
 length-weightsAt true s {sides} p = length-extrasAt s sides

@@ -40,7 +40,7 @@ module _ {r t : ℕ} (f out : List ℕ) (e : t ≡ total f) where
     pub past-holds : {sides out₁ : List ℕ} → Addable r sides out → length out₁ ≡ length out → out₁ ≡ plus out f → Addable (r - t) sides out₁
     past-holds p l m =
         let s = ap total m ∙ total-plus out f in
-        record { even = l ∙ p .even; small = omega (arith, p .small); room = omega (arith, p .room) }
+        record { equal = l ∙ p .equal; small = omega (arith, p .small); room = omega (arith, p .room) }
 
     -- none is unlimited
     pub stage-free : (u : List ℕ) {out₁ : List ℕ} → 0 ≡ total u → length u ≡ length out₁ → out₁ ≡ plus out f → (r - t ≡ stageLeft r f u) × (out₁ ≡ plus out (stageMoves r f u))
@@ -174,13 +174,13 @@ module _ {sides factors : List ℕ} (p : Sides sides factors) {out : List ℕ} (
   pub zeros-hold : {gap : ℕ} → gap ≤ 1073741823 → Addable gap sides out
   zeros-hold h =
       let t = ap total z ∙ total-zeros (length sides) in
-      record { even = ap length z ∙ length-replicate (length sides) 0; small = h; room = omega arith }
+      record { equal = ap length z ∙ length-replicate (length sides) 0; small = h; room = omega arith }
 
   -- movements that are added to zeros are the line's
   from-zeros : (back : Bool) (gap : ℕ) → plus out (movesIn back sides factors gap) ≡ movesIn back sides factors gap
   from-zeros back gap =
       let m = movesIn back sides factors gap in
-      let l = length-movesBy stages back (length sides) (stagesIn sides) factors (extrasIn sides) gap (length-map sides stageIn) (p .even) (length-map sides extraIn) in
+      let l = length-movesBy stages back (length sides) (stagesIn sides) factors (extrasIn sides) gap (length-map sides stageIn) (p .equal) (length-map sides extraIn) in
       ap (λ (l : List ℕ). plus l m) z ∙ plus-zeros (length sides) m (omega arith)
 
   module _ (gap : ℕ) {q : ℕ} {out₁ : List ℕ} (e : q ≡ stagesLeft (stagesIn sides) factors (extrasIn sides) stages gap)
@@ -191,7 +191,7 @@ module _ {sides factors : List ℕ} (p : Sides sides factors) {out : List ℕ} (
         let sum = stages-sum (stagesIn sides) factors (extrasIn sides) stages gap in
         let more = ap total m ∙ total-plus out (stagesMoves (stagesIn sides) factors (extrasIn sides) stages gap) in
         let t = ap total z ∙ total-zeros (length sides) in
-        record { even = l ∙ ap length z ∙ length-replicate (length sides) 0; small = omega arith; room = omega arith }
+        record { equal = l ∙ ap length z ∙ length-replicate (length sides) 0; small = omega arith; room = omega arith }
 
     -- edition 1
     pub whole : (back : Bool) {r : ℕ} {out₂ : List ℕ} → back ≡ true → r ≡ backLeft (stagesIn sides) factors stages q

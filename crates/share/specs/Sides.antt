@@ -37,15 +37,15 @@ extrasAt s sides = ofStage s (stagesIn sides) (extrasIn sides)
 abbrev pub weightsAt : Bool → ℕ → List ℕ → List ℕ → List ℕ
 weightsAt extra s sides factors = cond extra (extrasAt s sides) (factorsAt s sides factors)
 
--- the two slices are of one length, with two sides for each of at most 1,024 glyphs, and no factor is wider than sharing may multiply
+-- the two slices are of one length, of no more sides than 1,024 glyphs have, and no factor is wider than sharing may multiply
 pub record Sides (sides factors : List ℕ) : Type 0 where
-  pub even : length factors ≡ length sides
+  pub equal : length factors ≡ length sides
   pub few : length sides ≤ 2048
   pub narrow : Narrow factors
 
 -- an amount can be added to the movements, of which there is one for each side
 pub record Addable (amount : ℕ) (sides moves : List ℕ) : Type 0 where
-  pub even : length moves ≡ length sides
+  pub equal : length moves ≡ length sides
   pub small : amount ≤ 1073741823
   pub room : total moves + amount < 2 ^ 63
 

@@ -146,14 +146,14 @@ pub fn side_of(stage: u8, extra: u8) -> u8
 }
 
 // The stage priority of a side.
-fn stage_of(side: u8) -> u8
+fn stage_in(side: u8) -> u8
     ensures { λ r. ⌜ r ≡ stageIn side ⌝ }
 {
     side % PRIORITIES
 }
 
 // The extra weight of a side.
-fn extra_of(side: u8) -> u64
+fn extra_in(side: u8) -> u64
     ensures { λ r. ⌜ (r ≡ extraIn side) × (r ≤ 15) ⌝ }
 {
     (side / PRIORITIES) as u64
@@ -163,7 +163,7 @@ fn extra_of(side: u8) -> u64
 fn weight_of(extra: bool, side: u8, factor: u64) -> u64
     ensures { λ r. ⌜ r ≡ cond extra (extraIn side) factor ⌝ }
 {
-    if extra { extra_of(side) } else { factor }
+    if extra { extra_in(side) } else { factor }
 }
 
 // Adds to the sides of a stage their factors; answers how much extra weight they have: the number of its unlimited glyphs.
@@ -176,9 +176,9 @@ fn give_all(stage: u8, sides: &[u8], factors: &[u64], moves: &mut [u64]) -> u64
     let mut i = 0;
     while i < sides.len() {
         let side = sides[i];
-        if stage_of(side) == stage {
+        if stage_in(side) == stage {
             moves[i] += factors[i];
-            unlimited += extra_of(side);
+            unlimited += extra_in(side);
             i += 1;
         } else {
             i += 1;
@@ -205,7 +205,7 @@ fn give(
     let mut i = 0;
     while i < sides.len() {
         let side = sides[i];
-        if stage_of(side) == stage {
+        if stage_in(side) == stage {
             let step = next_share(run, weight_of(extra, side, factors[i]));
             moves[i] += step.share;
             run = step.next;

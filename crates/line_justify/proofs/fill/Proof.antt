@@ -116,7 +116,7 @@ module _ {M : Type 1} (𝓤 : URA M) (H : Heap 𝓤) (A : Atoms 𝓤) (W : Given
 
   -- what a step promises, and a cursor where i verdicts are taken
   abbrev Said : VerdictCursor → VerdictStep → Type 0
-  Said cur r = (leftAt (p .now) cur ≡ r .verdict ∷ leftAt (p .now) (r .next)) × Serves (p .now) (r .next)
+  Said cur r = (leftAt (p .now) cur ≡ r .verdict ∷ leftAt (p .now) (r .past)) × Serves (p .now) (r .past)
 
   abbrev Good : ℕ → VerdictCursor → Type 0
   Good i cur = Taken (p .now) i cur
@@ -268,10 +268,10 @@ module _ {M : Type 1} (𝓤 : URA M) (H : Heap 𝓤) (A : Atoms 𝓤) (W : Given
             use3 W (later (‵ (Own (ls .0)) ⊛ ‵ (flft κ q))) (comes-back-at T.the-row κ (ν ∷ []) q γ b o 𝓤 H A W (named 0) (named 0) (zs i) (length ys) len δ (ls .0) room′ l) $ await ! tt $ split ! $
             rewrite ! 0 (λ (z : List Verdict). ‵ (Own z)) (e′ ∙ stored-next vs ys i (r .verdict) _ (taken-verdict (p .now) i cur good r (e .0)) (omega (arith, pre .room))) refl $
             -- [the list; its token; …; …; the token of what is read; what is read; _10 at 6; …]
-            assigns ! (of-opd ! (load ! (from ! (fld ! refl (stop !))) (look-in ! (6 + at 6) (sub ! 1 refl (whole !))))) (from ! (stop !)) (store ! (6 + at 4) refl (LL.lawful U.the-type U′.the-laws 𝓤 H A W .typed (r .next) _ next-is .0)) $
+            assigns ! (of-opd ! (load ! (from ! (fld ! refl (stop !))) (look-in ! (6 + at 6) (sub ! 1 refl (whole !))))) (from ! (stop !)) (store ! (6 + at 4) refl (LL.lawful U.the-type U′.the-laws 𝓤 H A W .typed (r .past) _ next-is .0)) $
             assigns-last ! (bin ! (var ! (6 + at 5) refl) (lit ! tt) (record { fits = next-fits })) (from ! (stop !)) (store ! (6 + at 5) refl (tt, record { fits = next-fits })) $
             forget ! (6 + at 6) refl $ forget ! (6 + at 7) refl $ forget ! (6 + at 8) refl $ forget ! (6 + at 9) refl $ forget ! (6 + at 10) refl $ rewrite ! (6 + at 5) (λ (j : ℕ). ‵ (fat fullShare word l₅ 0 (vint w64 j))) (add-one i) refl $
-            move ! (2 ∷ 3 ∷ []) $ drop ! $ drop ! $ move ! (0 ∷ 1 ∷ 3 ∷ []) $ by ! (k (r .next) next-is (taken-next (p .now) i cur good r (e .0) (e .1)))))))))))))))
+            move ! (2 ∷ 3 ∷ []) $ drop ! $ drop ! $ move ! (0 ∷ 1 ∷ 3 ∷ []) $ by ! (k (r .past) next-is (taken-next (p .now) i cur good r (e .0) (e .1)))))))))))))))
 
         -- the turn that leaves the loop, and the rest of the body
         ends : (cur : VerdictCursor) (X : SProp 𝓤) → ent 𝓤 (⋆ 𝓤 H A (At n cur)) (Wp 𝓤 H C Λ En code.Mir.turn-1 (afterTurn 𝓤 H X Left))

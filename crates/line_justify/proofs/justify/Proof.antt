@@ -51,7 +51,7 @@ use Rattle.line_rule.proofs.LineShape as L
 use Rattle.line_rule.proofs.LineShape.Laws as L′
 use Rattle.line_call.specs.declared.LineAnswer.{LineAnswer}
 use Rattle.line_call.specs.Justified.{justified}
-use Rattle.line_call.specs.Settle.{lineBy, lentBy, Room as RoomFor}
+use Rattle.line_call.specs.Settle.{lineBy, lentBy, BitRoom}
 use Rattle.line_call.proofs.LineAnswer as N
 use Rattle.line_call.proofs.LineAnswer.Laws as N′
 use Rattle.line_justify.specs.Outcome.{outcomeIs}
@@ -184,14 +184,14 @@ module _ {M : Type 1} (𝓤 : URA M) (H : Heap 𝓤) (A : Atoms 𝓤) (W : Given
     Slices t = fsep Inputs (fsep (MutSlice (named 0) κ u8 .own c (sc ∷ [])) (fsep (MutSlice (named 0) κ i32 .own d (sd ∷ [])) (fsep (MutSlice (named 0) κ i32 .own f (sf ∷ [])) (fsep (MutSlice (named 1) κ′ T.the-row .own x (s ∷ [])) (MutSlice (named 2) (t .lifetime ∷ []) u64 .own (lent-zeros m b (t .work)) (sliceVal (b, 0) m ∷ []))))))
 
     module _ (cn-fits : cn < 2 ^ 32) (sh-is : Is L.the-row sh (LL.vals L.the-type L′.the-laws sh)) where
-      asks : (t : Loan) → RoomFor (length (g .now)) (zeros m) → ent 𝓤 (⋆ 𝓤 H A (Tokens′ t ∷ ‵ (Slices t) ∷ [])) (Inner 𝓤 H A mem run .pre (to-inner t))
+      asks : (t : Loan) → BitRoom (length (g .now)) (zeros m) → ent 𝓤 (⋆ 𝓤 H A (Tokens′ t ∷ ‵ (Slices t) ∷ [])) (Inner 𝓤 H A mem run .pre (to-inner t))
       asks t fit =
           qed W (Tokens′ t ∷ ‵ (Slices t) ∷ []) ∵ says ! fit $ frame ! $ fsplit ! $ fsplit ! $ move ! (1 ∷ []) $ fsplit ! $ move ! (1 ∷ []) $ fsplit ! $ move ! (4 ∷ []) $ fsplit ! $ move ! (1 ∷ []) $ fsplit ! $ move ! (1 ∷ []) $ fsplit ! $ move ! (1 ∷ []) $ fsplit ! $
           -- [the list's; the array's; after's; before's; classes's; glyphs's; advances's; sizes's; table's]
           nothing ! $ move ! (2 ∷ 0 ∷ []) $ fjoin ! $ move ! (1 ∷ 0 ∷ []) $ fjoin ! $ move ! (1 ∷ 0 ∷ []) $ fjoin ! $ move ! (1 ∷ 0 ∷ []) $ fjoin ! $ move ! (1 ∷ 0 ∷ []) $ fjoin ! $ move ! (2 ∷ 0 ∷ []) $ fjoin ! $ move ! (1 ∷ 0 ∷ []) $ fjoin ! $ move ! (1 ∷ 0 ∷ []) $ fjoin ! $
           owned ! L.the-row (Is L.the-row) (LL.makes L.the-type L′.the-plain 𝓤 H A) sh _ sh-is $ fjoin ! $ owned ! u32 (Is u32) (uint-makes 𝓤 H A W w32) cn _ (refl, cn-fits) $ fjoin ! $ move ! (1 ∷ 0 ∷ []) $ fjoin ! $ done !
 
-      lends : Room u64 m → RoomFor (length (g .now)) (zeros m)
+      lends : Room u64 m → BitRoom (length (g .now)) (zeros m)
           → ent 𝓤 (⋆ 𝓤 H A (Tokens ∷ ‵ Passed ∷ ‵ (fat fullShare (array-ty m) b 0 (zeros-val m)) ∷ []))
           (mean 𝓤 H A (later (someI (λ (t : Loan). raw (Inner 𝓤 H A mem run .pre (to-inner t)) ⊛ ‵ (Kept t)))))
       lends room fit =

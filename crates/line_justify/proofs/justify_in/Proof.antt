@@ -57,7 +57,7 @@ use Rattle.line_verdicts.specs.Bits.{told}
 use Rattle.line_call.specs.declared.Settled.{Settled}
 use Rattle.line_call.specs.declared.LineAnswer.{LineAnswer}
 use Rattle.line_call.specs.Justified.{justified}
-use Rattle.line_call.specs.Settle.{lineBy, lentBy, settlementIs, settlementIn, Room as RoomFor, Tells}
+use Rattle.line_call.specs.Settle.{lineBy, lentBy, settlementIs, settlementIn, BitRoom, Tells}
 use Rattle.line_call.proofs.Settled as S
 use Rattle.line_call.proofs.Settled.Laws as S′
 use Rattle.line_call.proofs.LineAnswer as N
@@ -220,7 +220,7 @@ module _ {M : Type 1} (𝓤 : URA M) (H : Heap 𝓤) (A : Atoms 𝓤) (W : Given
   abbrev gave : Settled → Lasts → Gave
   gave r ls = record { result = r; classes = ls .1 .1 .1 .1 .1 .1 .1 .0; before = ls .1 .1 .1 .1 .1 .1 .1 .1 .0; after = ls .1 .1 .1 .1 .1 .1 .1 .1 .1 .0; work = ls .1 .1 .1 .1 .1 .1 .1 .1 .1 .1 .0 }
 
-  module _ (p-room : Room u8 (length (p .now))) (cn-fits : cn < 2 ^ 32) (sh-is : Is L.the-row sh (LL.vals L.the-type L′.the-laws sh)) (z-room : Room u32 (length (z .now))) (g-room : Room u16 (length (g .now))) (a-room : Room i32 (length (a .now))) (c-room : Room u8 (length (c .now))) (d-room : Room i32 (length (d .now))) (f-room : Room i32 (length (f .now))) (room : Room T.the-row k) (u-room : Room u64 (length (u .now))) (fit : RoomFor (length (g .now)) (u .now)) where
+  module _ (p-room : Room u8 (length (p .now))) (cn-fits : cn < 2 ^ 32) (sh-is : Is L.the-row sh (LL.vals L.the-type L′.the-laws sh)) (z-room : Room u32 (length (z .now))) (g-room : Room u16 (length (g .now))) (a-room : Room i32 (length (a .now))) (c-room : Room u8 (length (c .now))) (d-room : Room i32 (length (d .now))) (f-room : Room i32 (length (f .now))) (room : Room T.the-row k) (u-room : Room u64 (length (u .now))) (fit : BitRoom (length (g .now)) (u .now)) where
     asks-settle : (t : Loan) → ent 𝓤 (⋆ 𝓤 H A (Tokens′ t ∷ ‵ (Slices t) ∷ [])) (Settle 𝓤 H A mem run .pre (to-settle t))
     asks-settle t =
         qed W (Tokens′ t ∷ ‵ (Slices t) ∷ []) ∵ says ! fit $ frame ! $ fsplit ! $ fsplit ! $ move ! (1 ∷ []) $ fsplit ! $ move ! (1 ∷ []) $ fsplit ! $ move ! (4 ∷ []) $ fsplit ! $ move ! (1 ∷ []) $ fsplit ! $ move ! (1 ∷ []) $ fsplit ! $
@@ -416,7 +416,7 @@ module _ {M : Type 1} (𝓤 : URA M) (H : Heap 𝓤) (A : Atoms 𝓤) (W : Given
   inner-walks C Λ fm known-settle known-fill = walked 𝓤 H A inner.ended stayed (inner.clauses 𝓤 H A mem run) (WpFn 𝓤 H C Λ code.function)
       (λ κs. (slice-vals, (uint-vals w32, (LL.vals L.the-type L′.the-laws, (slice-vals, (slice-vals, (slice-vals, (slice-vals, (slice-vals, (slice-vals, (slice-vals, (slice-vals, tt))))))))))))
       (λ κs. (shr-slice-tells (named 0) (κs .0) u8, (uint-tells w32, (LL.tells L.the-type L′.the-laws, (shr-slice-tells (named 0) (κs .0) u32, (shr-slice-tells (named 0) (κs .0) u16, (shr-slice-tells (named 0) (κs .0) i32, (mut-slice-tells (named 0) (κs .0) u8, (mut-slice-tells (named 0) (κs .0) i32, (mut-slice-tells (named 0) (κs .0) i32, (mut-slice-tells (named 1) (κs .1 .0) T.the-row, (mut-slice-tells (named 2) (κs .1 .1 .0) u64, tt))))))))))))
-      (λ κs qs bounds a g are. needs 𝓤 (RoomFor (length (a .1 .1 .1 .1 .0 .now)) (a .1 .1 .1 .1 .1 .1 .1 .1 .1 .1 .0 .now)) _ (λ fit.
+      (λ κs qs bounds a g are. needs 𝓤 (BitRoom (length (a .1 .1 .1 .1 .0 .now)) (a .1 .1 .1 .1 .1 .1 .1 .1 .1 .1 .0 .now)) _ (λ fit.
       walk 𝓤 H A W mem run (κs .0) (κs .1 .0) (κs .1 .1 .0) (qs .0) (qs .1 .0) (qs .1 .1 .0) (a .0) (a .1 .0) (a .1 .1 .0) (a .1 .1 .1 .0) (a .1 .1 .1 .1 .0) (a .1 .1 .1 .1 .1 .0) (a .1 .1 .1 .1 .1 .1 .0) (a .1 .1 .1 .1 .1 .1 .1 .0) (a .1 .1 .1 .1 .1 .1 .1 .1 .0) (a .1 .1 .1 .1 .1 .1 .1 .1 .1 .0) (a .1 .1 .1 .1 .1 .1 .1 .1 .1 .1 .0)
       (are .0 .0 .1) (are .1 .0 .1) (are .1 .1 .0) (are .1 .1 .1 .0 .0 .1) (are .1 .1 .1 .1 .0 .0 .1) (are .1 .1 .1 .1 .1 .0 .0 .1) (are .1 .1 .1 .1 .1 .1 .0 .0 .1) (are .1 .1 .1 .1 .1 .1 .1 .0 .0 .1) (are .1 .1 .1 .1 .1 .1 .1 .1 .0 .0 .1) (are .1 .1 .1 .1 .1 .1 .1 .1 .1 .0 .0 .1) (are .1 .1 .1 .1 .1 .1 .1 .1 .1 .1 .0 .0 .1) fit C Λ fm known-settle known-fill))
 

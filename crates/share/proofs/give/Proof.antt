@@ -24,8 +24,8 @@ loop-holds c = let a = c .before .before .before .before .args in
 shared-slice-read-side : tie.Need-shared-slice-read-side Inv-loop μ-loop
 shared-slice-read-side c = omega arith
 
-stage-of-requires : tie.Need-stage-of-requires Inv-loop μ-loop
-stage-of-requires c κs = omega arith
+stage-in-requires : tie.Need-stage-in-requires Inv-loop μ-loop
+stage-in-requires c κs = omega arith
 
 mul-weight-of : tie.Need-mul-weight-of Inv-loop μ-loop
 mul-weight-of c = omega arith
@@ -40,7 +40,7 @@ next-share-requires : tie.Need-next-share-requires Inv-loop μ-loop
 next-share-requires c κs = let a = c .before .before .before .before .before .before .before .before .before .before .before .args in
     let p = c .before .before .before .before .before .before .before .before .before .before .before .pre in
     let l = c .before .before .before .before .before .before .loop in
-    let e = weight-hit (a .stage) (a .sides .now) (l .i) (c .before .before .before .stage-of .ensures) (a .extra) (a .factors .now) (omega arith) (c .before .before .if1 .taken) ∙ sym (c .weight-of .ensures) in
+    let e = weight-hit (a .stage) (a .sides .now) (l .i) (c .before .before .before .stage-in .ensures) (a .extra) (a .factors .now) (omega arith) (c .before .before .if1 .taken) ∙ sym (c .weight-of .ensures) in
     giving-ready (l .inv .1) e (p .0 .1 .small) (omega (arith, p .1)) (omega (arith, p .1)) (weight-low (a .extra) (c .weight-of .ensures) (omega (arith, c .before .before .before .before .shared-slice-known3 .given (l .i))) (p .0 .0 .narrow (l .i)))
 
 mul-moves : tie.Need-mul-moves Inv-loop μ-loop
@@ -53,7 +53,7 @@ add-moves : tie.Need-add-moves Inv-loop μ-loop
 add-moves c = let a = c .before .before .before .before .before .before .before .before .before .before .before .before .before .before .args in
     let p = c .before .before .before .before .before .before .before .before .before .before .before .before .before .before .pre in
     let l = c .before .before .before .before .before .before .before .before .before .loop in
-    let e = weight-hit (a .stage) (a .sides .now) (l .i) (c .before .before .before .before .before .before .stage-of .ensures) (a .extra) (a .factors .now) (omega arith) (c .before .before .before .before .before .if1 .taken) ∙ sym (c .before .before .before .weight-of .ensures) in
+    let e = weight-hit (a .stage) (a .sides .now) (l .i) (c .before .before .before .before .before .before .stage-in .ensures) (a .extra) (a .factors .now) (omega arith) (c .before .before .before .before .before .if1 .taken) ∙ sym (c .before .before .before .weight-of .ensures) in
     let f = giving-fits (l .inv .1) e (c .before .before .next-share .ensures) (omega (arith, p .1)) (p .0 .1 .room) in
     omega arith
 
@@ -71,8 +71,8 @@ loop-again c = let a = c .before .before .before .before .before .before .before
     let p = c .before .before .before .before .before .before .before .before .before .before .before .before .before .before .before .pre in
     let l = c .before .before .before .before .before .before .before .before .before .before .loop in
     let t = c .before .before .before .before .before .before .before .before .before .loop-test .taken in
-    let e = weight-hit (a .stage) (a .sides .now) (l .i) (c .before .before .before .before .before .before .before .stage-of .ensures) (a .extra) (a .factors .now) (omega arith) (c .before .before .before .before .before .before .if1 .taken) ∙ sym (c .before .before .before .before .weight-of .ensures) in
-    (omega arith, giving-on (l .inv .1) e (c .before .before .before .next-share .ensures) (omega (arith, p .0 .1 .even)) (omega (arith, length-weightsAt (a .extra) (a .stage) (p .0 .0))))
+    let e = weight-hit (a .stage) (a .sides .now) (l .i) (c .before .before .before .before .before .before .before .stage-in .ensures) (a .extra) (a .factors .now) (omega arith) (c .before .before .before .before .before .before .if1 .taken) ∙ sym (c .before .before .before .before .weight-of .ensures) in
+    (omega arith, giving-on (l .inv .1) e (c .before .before .before .next-share .ensures) (omega (arith, p .0 .1 .equal)) (omega (arith, length-weightsAt (a .extra) (a .stage) (p .0 .0))))
 
 add-i-2 : tie.Need-add-i-2 Inv-loop μ-loop
 add-i-2 c = omega arith
@@ -84,7 +84,7 @@ loop-again-2 : tie.Need-loop-again-2 Inv-loop μ-loop
 loop-again-2 c = let a = c .before .before .before .before .before .before .before .before .before .args in
     let p = c .before .before .before .before .before .before .before .before .before .pre in
     let l = c .before .before .before .before .loop in
-    (omega arith, giving-none (l .inv .1) (omega (arith, p .0 .1 .even)) (weight-miss (a .stage) (a .sides .now) (l .i) (c .before .stage-of .ensures) (a .extra) (a .factors .now) (c .if1 .left)))
+    (omega arith, giving-none (l .inv .1) (omega (arith, p .0 .1 .equal)) (weight-miss (a .stage) (a .sides .now) (l .i) (c .before .stage-in .ensures) (a .extra) (a .factors .now) (c .if1 .left)))
 
 same-length : tie.Need-same-length Inv-loop μ-loop
 same-length c = let s = c .before .loop .inv .1 .added .same in omega arith
@@ -102,7 +102,7 @@ give-spec =
     start-requires
     loop-holds
     shared-slice-read-side
-    stage-of-requires
+    stage-in-requires
     mul-weight-of
     shared-slice-read-weight-of
     weight-of-requires

@@ -22,8 +22,8 @@ loop-holds c = let a = c .before .before .before .args in
 shared-slice-read-side : tie.Need-shared-slice-read-side Inv-loop μ-loop
 shared-slice-read-side c = omega arith
 
-stage-of-requires : tie.Need-stage-of-requires Inv-loop μ-loop
-stage-of-requires c κs = omega arith
+stage-in-requires : tie.Need-stage-in-requires Inv-loop μ-loop
+stage-in-requires c κs = omega arith
 
 mul-moves : tie.Need-mul-moves Inv-loop μ-loop
 mul-moves c = omega arith
@@ -40,15 +40,15 @@ slice-read-moves c = omega arith
 add-moves : tie.Need-add-moves Inv-loop μ-loop
 add-moves c = let a = c .before .before .before .before .before .before .before .before .before .before .args in
     let l = c .before .before .before .before .before .before .loop in
-    let e = factor-hit (a .stage) (a .sides .now) (l .i) (c .before .before .before .stage-of .ensures) (a .factors .now) (omega arith) (c .before .before .if1 .taken) in
+    let e = factor-hit (a .stage) (a .sides .now) (l .i) (c .before .before .before .stage-in .ensures) (a .factors .now) (omega arith) (c .before .before .if1 .taken) in
     let f = added-fits (l .inv .1) (c .before .before .before .before .before .before .before .before .before .before .pre .1 .room) in
     omega arith
 
 slice-write-moves : tie.Need-slice-write-moves Inv-loop μ-loop
 slice-write-moves c = omega arith
 
-extra-of-requires : tie.Need-extra-of-requires Inv-loop μ-loop
-extra-of-requires c κs = omega arith
+extra-in-requires : tie.Need-extra-in-requires Inv-loop μ-loop
+extra-in-requires c κs = omega arith
 
 add-unlimited : tie.Need-add-unlimited Inv-loop μ-loop
 add-unlimited c = omega arith
@@ -64,12 +64,12 @@ loop-again c = let a = c .before .before .before .before .before .before .before
     let p = c .before .before .before .before .before .before .before .before .before .before .before .pre in
     let l = c .before .before .before .before .before .before .before .loop in
     let t = c .before .before .before .before .before .before .loop-test .taken in
-    let m = c .before .before .before .before .stage-of .ensures in
+    let m = c .before .before .before .before .stage-in .ensures in
     let h = c .before .before .before .if1 .taken in (
       omega arith,
-      added-on (l .inv .1) _ (omega (arith, p .1 .even)) (omega (arith, length-factorsAt (a .stage) (p .0))) (sym (factor-hit (a .stage) (a .sides .now) (l .i) m (a .factors .now) (omega arith) h)),
-      omega (arith, l .inv .2, c .extra-of .ensures .0, upto-next (l .i) (extrasAt (a .stage) (a .sides .now)), extra-hit (a .stage) (a .sides .now) (l .i) m (omega arith) h),
-      omega (arith, l .inv .3, c .extra-of .ensures .1),
+      added-on (l .inv .1) _ (omega (arith, p .1 .equal)) (omega (arith, length-factorsAt (a .stage) (p .0))) (sym (factor-hit (a .stage) (a .sides .now) (l .i) m (a .factors .now) (omega arith) h)),
+      omega (arith, l .inv .2, c .extra-in .ensures .0, upto-next (l .i) (extrasAt (a .stage) (a .sides .now)), extra-hit (a .stage) (a .sides .now) (l .i) m (omega arith) h),
+      omega (arith, l .inv .3, c .extra-in .ensures .1),
     )
 
 add-i-2 : tie.Need-add-i-2 Inv-loop μ-loop
@@ -81,10 +81,10 @@ loop-less-2 c = omega arith
 loop-again-2 : tie.Need-loop-again-2 Inv-loop μ-loop
 loop-again-2 c = let a = c .before .before .before .before .before .before .before .before .args in
     let l = c .before .before .before .before .loop in
-    let m = c .before .stage-of .ensures in
+    let m = c .before .stage-in .ensures in
     let h = c .if1 .left in (
       omega arith,
-      added-none (l .inv .1) (omega (arith, c .before .before .before .before .before .before .before .before .pre .1 .even)) (factor-miss (a .stage) (a .sides .now) (l .i) m (a .factors .now) h),
+      added-none (l .inv .1) (omega (arith, c .before .before .before .before .before .before .before .before .pre .1 .equal)) (factor-miss (a .stage) (a .sides .now) (l .i) m (a .factors .now) h),
       omega (arith, l .inv .2, upto-next (l .i) (extrasAt (a .stage) (a .sides .now)), extra-miss (a .stage) (a .sides .now) (l .i) m h),
       omega (arith, l .inv .3),
     )
@@ -107,14 +107,14 @@ give-all-spec =
     μ-loop
     loop-holds
     shared-slice-read-side
-    stage-of-requires
+    stage-in-requires
     mul-moves
     shared-slice-read-moves
     mul-moves-2
     slice-read-moves
     add-moves
     slice-write-moves
-    extra-of-requires
+    extra-in-requires
     add-unlimited
     add-i
     loop-less

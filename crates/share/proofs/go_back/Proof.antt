@@ -18,7 +18,7 @@ abbrev μ-loop : tie.MeasureT-loop
 returns : tie.Need-returns Inv-loop μ-loop
 returns c = let a = c .before .before .before .before .args in
     let p = c .before .before .before .before .pre in
-    back-none (stagesIn (a .sides .now)) (a .factors .now) (a .moves .now) (length-map (a .sides .now) stageIn ∙ sym (p .1 .even)) (p .0 .even ∙ sym (p .1 .even)) (c .if1 .taken)
+    back-none (stagesIn (a .sides .now)) (a .factors .now) (a .moves .now) (length-map (a .sides .now) stageIn ∙ sym (p .1 .equal)) (p .0 .equal ∙ sym (p .1 .equal)) (c .if1 .taken)
 
 loop-holds : tie.Need-loop-holds Inv-loop μ-loop
 loop-holds c = let a = c .before .before .before .before .args in
@@ -33,7 +33,7 @@ give-requires c κs = let p = c .before .before .before .before .before .before 
     let s = l .inv .1 .same in
     let h = c .before .before .before .loop-test .taken in
     let e = c .before .before .total-of .ensures in (
-      (p .0, record { even = ap length s ∙ p .1 .even; small = p .1 .small; room = omega (arith, ap total s, p .1 .room) }),
+      (p .0, record { equal = ap length s ∙ p .1 .equal; small = p .1 .small; room = omega (arith, ap total s, p .1 .room) }),
       (e ∙ p .2 .totals .at (l .stage) (omega (arith, h)), omega (arith, e, p .2 .low (l .stage) (omega (arith, h))), c .before .if2 .taken),
     )
 
@@ -61,7 +61,7 @@ same-length-2 c = omega (arith, ap length (c .before .loop .inv .1 .same))
 
 returns-3 : tie.Need-returns-3 Inv-loop μ-loop
 returns-3 c = let a = c .before .before .before .before .before .before .args in
-    backing-end (c .before .loop .inv .1) (length-map (a .sides .now) stageIn ∙ sym (c .before .before .before .before .before .before .pre .1 .even)) (omega arith)
+    backing-end (c .before .loop .inv .1) (length-map (a .sides .now) stageIn ∙ sym (c .before .before .before .before .before .before .pre .1 .equal)) (omega arith)
 
 pub go-back-spec : {M : Type 1} → statement M
 go-back-spec =

@@ -11,7 +11,7 @@ returns : tie.Need-returns
 returns c = let a = c .before .before .before .before .args in
     let p = c .before .before .before .before .pre in
     stage-none (factorsAt (a .stage) (a .sides .now) (a .factors .now)) (extrasAt (a .stage) (a .sides .now)) (a .moves .now)
-    (omega (arith, p .0 .1 .even, length-factorsAt (a .stage) (p .0 .0))) (omega (arith, p .0 .1 .even, length-extrasAt (a .stage) (a .sides .now))) (c .if1 .taken)
+    (omega (arith, p .0 .1 .equal, length-factorsAt (a .stage) (p .0 .0))) (omega (arith, p .0 .1 .equal, length-extrasAt (a .stage) (a .sides .now))) (c .if1 .taken)
 
 give-requires : tie.Need-give-requires
 give-requires c κs = search needs
@@ -37,7 +37,7 @@ returns-3 c = let a = c .before .before .before .before .before .before .before 
     let p = c .before .before .before .before .before .before .before .before .before .before .pre in
     let g = c .before .before .before .give-all in
     stage-free (factorsAt (a .stage) (a .sides .now) (a .factors .now)) (a .moves .now) (p .1 .0) (c .before .before .before .before .before .if2 .left) (extrasAt (a .stage) (a .sides .now))
-    (omega (arith, g .ensures .0 .0, c .if3 .taken)) (omega (arith, g .kept, p .0 .1 .even, length-extrasAt (a .stage) (a .sides .now))) (g .ensures .1)
+    (omega (arith, g .ensures .0 .0, c .if3 .taken)) (omega (arith, g .kept, p .0 .1 .equal, length-extrasAt (a .stage) (a .sides .now))) (g .ensures .1)
 
 sub-give : tie.Need-sub-give
 sub-give c = search needs

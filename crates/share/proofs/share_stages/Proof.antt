@@ -27,7 +27,7 @@ share-stage-requires c κs = let l = c .before .before .before .loop in
     let g = l .inv .1 in
     let h = c .before .before .loop-test .taken in
     let e = c .before .total-of .ensures in (
-      (p .0, record { even = g .same ∙ p .1 .even; small = omega (arith, g .less, p .1 .small); room = omega (arith, g .room, p .1 .room) }),
+      (p .0, record { equal = g .same ∙ p .1 .equal; small = omega (arith, g .less, p .1 .small); room = omega (arith, g .room, p .1 .room) }),
       (e ∙ p .2 .totals .at (l .stage) (omega (arith, h)), omega (arith, e, p .2 .low (l .stage) (omega (arith, h)))),
     )
 
@@ -47,7 +47,7 @@ same-length c = let s = c .before .loop .inv .1 .same in omega arith
 
 returns : tie.Need-returns Inv-loop μ-loop
 returns c = let a = c .before .before .before .before .before .args in
-    staging-end (c .before .loop .inv .1) (length-map (a .sides .now) stageIn ∙ sym (c .before .before .before .before .before .pre .1 .even)) (omega arith)
+    staging-end (c .before .loop .inv .1) (length-map (a .sides .now) stageIn ∙ sym (c .before .before .before .before .before .pre .1 .equal)) (omega arith)
 
 pub share-stages-spec : {M : Type 1} → statement M
 share-stages-spec =

@@ -6,14 +6,14 @@ use Rattle.share.specs.Sides.{extraIn}
 use Rattle.share.proofs.weight_of.Statement.{statement}
 use Rattle.share.proofs.weight_of.Tie as tie
 
-extra-of-requires : tie.Need-extra-of-requires
-extra-of-requires c κs = search needs
+extra-in-requires : tie.Need-extra-in-requires
+extra-in-requires c κs = search needs
 
 returns : tie.Need-returns
-returns c = let a = c .before .before .args in c .extra-of .ensures .0 ∙ sym (ap (λ (b : Bool). cond b (extraIn (a .side)) (a .factor)) (c .before .if1 .taken))
+returns c = let a = c .before .before .args in c .extra-in .ensures .0 ∙ sym (ap (λ (b : Bool). cond b (extraIn (a .side)) (a .factor)) (c .before .if1 .taken))
 
 returns-2 : tie.Need-returns-2
 returns-2 c = search needs
 
 pub weight-of-spec : {M : Type 1} → statement M
-weight-of-spec = tie.close (tie.spec extra-of-requires returns returns-2)
+weight-of-spec = tie.close (tie.spec extra-in-requires returns returns-2)
