@@ -23,7 +23,7 @@ use Rattle.encoding.specs.Upto.{from}
 use Rattle.encoding.proofs.UptoLaws.{getD-from, all-from}
 use Rattle.meaning.specs.Limits.{OkContent, OkAction, OkActions}
 use Rattle.actions.specs.Faults.{glyphFault, addedFault, countFault, glyphsFault, type0Fault, type2Fault, type5Fault, dataFault, lengthFault, actionFault, actionsFault, listFault}
-use Rattle.actions.specs.Actions.{bytesAt, contentAt, actionAt, actionsAt, listAt, placeAfter, placeOf, componentsAt, clipped}
+use Rattle.actions.specs.Actions.{bytesAt, contentAt, actionAt, actionsAt, listAt, placeAfter, spotInList, componentsAt, clipped}
 use Rattle.actions.proofs.Steps.{glyph-inside, data-0, components-some}
 use Rattle.actions.proofs.Copies.{bytes-length}
 
@@ -52,8 +52,8 @@ module _ (t : List ℕ) where
   action-past-all (suc n) at (suc k) h = action-past-all n (at + u32At t (at + 4)) k (omega arith)
 
   -- which number a place goes with, and where it is
-  place-means : (at k p : ℕ) → placeOf t at k ≡ At p → (k < u32At t at) × (p ≡ placeAfter t k (at + 4))
-  unfolding placeOf
+  place-means : (at k p : ℕ) → spotInList t at k ≡ At p → (k < u32At t at) × (p ≡ placeAfter t k (at + 4))
+  unfolding spotInList
   place-means at k p e = go (ltb k (u32At t at)) refl e
     where
       go : (b : Bool) → ltb k (u32At t at) ≡ b → cond b (At (placeAfter t k (at + 4))) Nowhere ≡ At p
@@ -61,14 +61,14 @@ module _ (t : List ℕ) where
       go true q f = (ltb-true _ _ q, cc)
       go false q f = let z : _≡_ {A = ℕ} 0 1 = cc in absurd (omega arith)
 
-  pub place-at : (at k p : ℕ) → placeOf t at k ≡ At p → getElem? (listAt t at) k ≡ some (actionAt t p)
+  pub place-at : (at k p : ℕ) → spotInList t at k ≡ At p → getElem? (listAt t at) k ≡ some (actionAt t p)
   unfolding listAt
   place-at at k p e =
       let m = place-means at k p e in
       action-there (u32At t at) (at + 4) k (m .0) ∙ ap (λ (q : ℕ). some (actionAt t q)) (sym (m .1))
 
-  pub place-none : (at k : ℕ) → placeOf t at k ≡ Nowhere → getElem? (listAt t at) k ≡ none
-  unfolding listAt placeOf
+  pub place-none : (at k : ℕ) → spotInList t at k ≡ Nowhere → getElem? (listAt t at) k ≡ none
+  unfolding listAt spotInList
   place-none at k e = go (ltb k (u32At t at)) refl e
     where
       go : (b : Bool) → ltb k (u32At t at) ≡ b → cond b (At (placeAfter t k (at + 4))) Nowhere ≡ Nowhere
@@ -323,7 +323,7 @@ module _ (t : List ℕ) (n : ℕ) where
   list-inside at e = inside-holds t at 4 (then-first _ _ e)
 
   -- the action that is found in it is without fault
-  pub list-each : (at k p : ℕ) → listFault t n at ≡ Clear → placeOf t at k ≡ At p → actionFault t n p ≡ Clear
+  pub list-each : (at k p : ℕ) → listFault t n at ≡ Clear → spotInList t at k ≡ At p → actionFault t n p ≡ Clear
   unfolding listFault
   list-each at k p e f =
       let m = place-means t at k p f in

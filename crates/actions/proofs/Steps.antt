@@ -13,7 +13,7 @@ use Rattle.fields.specs.Faults.{_then_, rule, inside}
 use Rattle.fields.specs.Laws.{then-first, then-stop, then-clear, inside-holds, bad-inside}
 use Rattle.actions.specs.declared.Spot.the-variants.{At, Nowhere}
 use Rattle.actions.specs.Faults.{glyphFault, addedFault, type0Fault, type2Fault, type4Fault, type5Fault, dataFault, actionFault, actionsFault, listFault}
-use Rattle.actions.specs.Actions.{placeAfter, placeOf, componentsAt}
+use Rattle.actions.specs.Actions.{placeAfter, spotInList, componentsAt}
 
 -- ---- faults
 
@@ -95,12 +95,12 @@ module _ (t : List ℕ) where
 
   -- the list's outcomes for a number, `n` being its count as it was read
   module _ (at number n : ℕ) (r : n ≡ u32At t at) where
-    pub place-nowhere : n ≤ number → placeOf t at number ≡ Nowhere
-    unfolding placeOf
+    pub place-nowhere : n ≤ number → spotInList t at number ≡ Nowhere
+    unfolding spotInList
     place-nowhere h = simp (← r, le-ltb number n h)
 
-    pub place-there : number < n → placeOf t at number ≡ At (placeAfter t number (at + 4))
-    unfolding placeOf
+    pub place-there : number < n → spotInList t at number ≡ At (placeAfter t number (at + 4))
+    unfolding spotInList
     place-there h = simp (← r, lt-ltb number n h)
 
   -- the components of an action whose type was read as `k`, and their count as `n`

@@ -44,8 +44,8 @@ placeAfter t zero at = at
 placeAfter t (suc k) at = placeAfter t k (at + u32At t (at + 4))
 
 -- where the action with a number stands, of the list at `at`
-unfoldable pub placeOf : List ℕ → ℕ → ℕ → Spot
-placeOf t at number = cond (ltb number (u32At t at)) (At (placeAfter t number (at + 4))) Nowhere
+unfoldable pub spotInList : List ℕ → ℕ → ℕ → Spot
+spotInList t at number = cond (ltb number (u32At t at)) (At (placeAfter t number (at + 4))) Nowhere
 
 -- a spot's offset, if it has one, is below a number
 abbrev pub SpotBelow : ℕ → Spot → Type 0

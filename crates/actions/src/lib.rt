@@ -9,7 +9,7 @@ ghost use Rattle.fields.specs.Field.{u32At};
 ghost use Rattle.meaning.specs.Ask.{held};
 ghost use Rattle.actions.specs.Faults.{glyphFault, addedFault, countFault, glyphsFault, type0Fault, type2Fault, type4Fault, type5Fault, dataFault, dataSize, lengthFault, actionFault, actionsFault, listFault};
 ghost use Rattle.actions.specs.Notes.{Passed, Passing};
-ghost use Rattle.actions.specs.Actions.{bytesAt, contentAt, actionAt, placeAfter, placeOf, SpotBelow, componentsAt, padded, clipped};
+ghost use Rattle.actions.specs.Actions.{bytesAt, contentAt, actionAt, placeAfter, spotInList, SpotBelow, componentsAt, padded, clipped};
 use fields::Fault;
 use fields::Refusal;
 use types::HeldAction;
@@ -477,9 +477,9 @@ fn place_after(table: &[u8], first: usize, count: u16) -> usize
 }
 
 // Where the action with a number stands, of the list at `at`.
-pub fn place_of(table: &[u8], at: usize, number: u16) -> Spot
+pub fn spot_in_list(table: &[u8], at: usize, number: u16) -> Spot
     requires { ⌜ at < 2 ^ 40 ⌝ }
-    ensures { λ r. ⌜ (r ≡ placeOf (now (table .entry)) at number) × SpotBelow (2 ^ 50) r ⌝ }
+    ensures { λ r. ⌜ (r ≡ spotInList (now (table .entry)) at number) × SpotBelow (2 ^ 50) r ⌝ }
 {
     if fields::u32_at(table, at) <= number as usize {
         return Spot::Nowhere;
@@ -488,7 +488,7 @@ pub fn place_of(table: &[u8], at: usize, number: u16) -> Spot
 }
 
 // How many bytes of data the action at `at` has, of type `ty`; at most 76.
-fn content_size(table: &[u8], at: usize, ty: usize) -> usize
+fn held_size(table: &[u8], at: usize, ty: usize) -> usize
     requires { ⌜ at < 2 ^ 62 ⌝ }
     ensures { λ r. ⌜ (r ≡ length (take 76 (contentAt (now (table .entry)) at ty))) × (r ≤ 76) ⌝ }
 {
@@ -521,7 +521,7 @@ fn content_at(table: &[u8], at: usize, ty: usize) -> [u8; 76]
     requires { ⌜ at < 2 ^ 62 ⌝ }
     ensures { λ r. ⌜ r ≡ padded (take 76 (contentAt (now (table .entry)) at ty)) ⌝ }
 {
-    let mut bytes = copied(table, at + 8, content_size(table, at, ty));
+    let mut bytes = copied(table, at + 8, held_size(table, at, ty));
     if ty != 5 {
         return bytes;
     }
@@ -538,7 +538,7 @@ pub fn action_at(table: &[u8], at: usize) -> HeldAction
 {
     let class = fields::u16_at(table, at);
     let ty = fields::u16_at(table, at + 2);
-    let size = content_size(table, at, ty);
+    let size = held_size(table, at, ty);
     let bytes = content_at(table, at, ty);
     HeldAction {
         class: class as u16,

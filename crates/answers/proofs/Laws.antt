@@ -7,7 +7,7 @@ use lib.Seq.{take-append-seam}
 use Rattle.types.specs.declared.HeldAction.{HeldAction}
 use Rattle.meaning.specs.Meaning.{Action}
 use Rattle.meaning.specs.Ask.{held}
-use Rattle.answers.specs.Says.{actionIn, saysCount, saysSizes, saysClass, saysCell, saysRecord}
+use Rattle.answers.specs.Says.{actionHeld, saysCount, saysSizes, saysClass, saysCell, saysRecord}
 use Rattle.fields.specs.Refusals.{one-number}
 use Rattle.answers.specs.declared.CountAnswer.{CountAnswer}
 use Rattle.answers.specs.declared.CountAnswer.the-variants as count
@@ -71,7 +71,7 @@ one-record (width.Refused r at) width.Nothing i = cc
 one-record (width.Refused r at) (width.Refused u to) i = let z : at ≡ to = cc in ap₂ width.Refused (one-number r u (cc)) z
 
 -- an action in its room is that action
-pub held-is : (a : Action) {h : HeldAction} → h ≡ held a → actionIn h ≡ a
+pub held-is : (a : Action) {h : HeldAction} → h ≡ held a → actionHeld h ≡ a
 held-is a {h} e =
-    ap actionIn e
+    ap actionHeld e
     ∙ ap (λ (l : List ℕ). record { class = a .class; ty = a .ty; content = l }) (take-append-seam (a .content) (replicate (76 - length (a .content)) 0))

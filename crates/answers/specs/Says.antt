@@ -74,11 +74,11 @@ saysRecord width.Nothing = given nothing
 saysRecord (width.Refused r at) = refused (numberOf r) at
 
 -- the action in its room of 76 bytes: its data is the first `size` of them
-abbrev pub actionIn : HeldAction → Action
-actionIn h = record { class = h .class; ty = h .ty; content = take (h .size) (h .bytes) }
+abbrev pub actionHeld : HeldAction → Action
+actionHeld h = record { class = h .class; ty = h .ty; content = take (h .size) (h .bytes) }
 
 abbrev pub saysSought : ActionSought → HeldAction → Reply
-saysSought sought.Found h = given (act (actionIn h))
+saysSought sought.Found h = given (act (actionHeld h))
 saysSought sought.Nothing h = given nothing
 saysSought (sought.Refused r at) h = refused (numberOf r) at
 

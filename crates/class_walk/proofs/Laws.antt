@@ -11,7 +11,7 @@ use lib.Dec.{eqb, ltb}
 use lib.ListN.{length, getD, set, replicate, length-replicate}
 use Rattle.types.specs.declared.Entry.{Entry}
 use Rattle.units.specs.Flags.{stays, markClass, currentClass}
-use Rattle.class_walk.specs.Walk.{Machine, Line, Conf, Walk, going, stopped, Fits, glyphs, current, give, met, givenBy, onAt, taken, step, begin, after, Ends, Never, most, walked}
+use Rattle.class_walk.specs.Walk.{Machine, Line, Conf, Walk, going, stopped, Fits, glyphs, current, give, met, givenBy, onAt, taken, step, begin, after, Ends, Never, mostEntries, walked}
 use Rattle.class_walk.proofs.Theory.{give-length, At, at-first, at-stays, at-moves, at-stops, at-most, stop-most, spent-never, still-at}
 
 module _ (m : Machine) (l : Line) where
@@ -36,7 +36,7 @@ module _ (m : Machine) (l : Line) where
   -- what has stopped by then has ended; this asks nothing of the machine
   pub walked-ends : (cs : List ℕ) (k : ℕ) → walked m l ≡ stopped cs k → Ends m l cs k
   unfolding Ends walked
-  walked-ends cs k e = (most m l, e)
+  walked-ends cs k e = (mostEntries m l, e)
 
   -- a walk that never ends is still going
   pub never-walked : Never m l → (s : Conf) × (walked m l ≡ going s)
@@ -45,7 +45,7 @@ module _ (m : Machine) (l : Line) where
     where
       go : (w : Walk) → walked m l ≡ w → (s : Conf) × (walked m l ≡ going s)
       go (going s) e = (s, e)
-      go (stopped cs k) e = absurd (n (most m l) cs k e)
+      go (stopped cs k) e = absurd (n (mostEntries m l) cs k e)
 
 -- ---- the classes of a walk that ends
 
@@ -122,7 +122,7 @@ ends-low m l = has-end m l (λ (cs : List ℕ). (place : ℕ) → getD cs place 
 
 -- a stop after at most S × (glyphs + 1) steps, as many as entries
 abbrev Stops : Machine → Line → Type 0
-Stops m l = (cs : List ℕ) × (k : ℕ) × (k ≤ most m l) × (after m l k ≡ stopped cs k)
+Stops m l = (cs : List ℕ) × (k : ℕ) × (k ≤ mostEntries m l) × (after m l k ≡ stopped cs k)
 
 module _ (m : Machine) (l : Line) (ok : Fits m l) where
   Stands : ℕ → Type 0
@@ -159,9 +159,9 @@ module _ (m : Machine) (l : Line) (ok : Fits m l) where
 
   settled : Stops m l ⊎ Never m l
   unfolding Stands
-  settled = go (reach (suc (most m l)))
+  settled = go (reach (suc (mostEntries m l)))
     where
-      go : Stands (suc (most m l)) ⊎ (Stops m l ⊎ Never m l) → Stops m l ⊎ Never m l
+      go : Stands (suc (mostEntries m l)) ⊎ (Stops m l ⊎ Never m l) → Stops m l ⊎ Never m l
       go (inr w) = w
       go (inl (s, spent, a, e)) = absurd (omega (arith, at-most m l ok s spent a))
 
@@ -175,11 +175,11 @@ module _ (m : Machine) (l : Line) (ok : Fits m l) where
       go (inr n) = inr n
 
   -- a walk that ends takes at most S × (glyphs + 1) entries, and stops with the last of them
-  pub ends-within : (cs : List ℕ) (k : ℕ) → Ends m l cs k → (k ≤ most m l) × (after m l k ≡ stopped cs k)
+  pub ends-within : (cs : List ℕ) (k : ℕ) → Ends m l cs k → (k ≤ mostEntries m l) × (after m l k ≡ stopped cs k)
   unfolding Ends
   ends-within cs k e = go settled
     where
-      go : Stops m l ⊎ Never m l → (k ≤ most m l) × (after m l k ≡ stopped cs k)
+      go : Stops m l ⊎ Never m l → (k ≤ mostEntries m l) × (after m l k ≡ stopped cs k)
       go (inr n) = absurd (not-both m l cs k e n)
       go (inl (cs′, k′, h, e′)) =
           let q : (cs ≡ cs′) × (k ≡ k′) = same-end m l cs cs′ k k′ e (k′, e′) in
@@ -189,8 +189,8 @@ module _ (m : Machine) (l : Line) (ok : Fits m l) where
   pub ends-walked : (cs : List ℕ) (k : ℕ) → Ends m l cs k → walked m l ≡ stopped cs k
   unfolding walked
   ends-walked cs k e =
-      let w : (k ≤ most m l) × (after m l k ≡ stopped cs k) = ends-within cs k e in
-      still-at m l k (most m l) cs k (w .0) (w .1)
+      let w : (k ≤ mostEntries m l) × (after m l k ≡ stopped cs k) = ends-within cs k e in
+      still-at m l k (mostEntries m l) cs k (w .0) (w .1)
 
   -- what is still going then never ends
   pub walked-never : (s : Conf) → walked m l ≡ going s → Never m l

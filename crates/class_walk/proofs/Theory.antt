@@ -14,7 +14,7 @@ use lib.ListN.{length, getD, set, length-set, length-replicate}
 use borrow.Author.Tests.{lt-ltb, le-ltb, ltb-true}
 use Rattle.types.specs.declared.Entry.{Entry}
 use Rattle.units.specs.Flags.{stays, markClass, currentClass}
-use Rattle.class_walk.specs.Walk.{Machine, Line, Conf, going, stopped, Fits, glyphs, columnAt, current, give, met, givenBy, onAt, taken, entry, step, begin, after, Never, most}
+use Rattle.class_walk.specs.Walk.{Machine, Line, Conf, going, stopped, Fits, glyphs, columnAt, current, give, met, givenBy, onAt, taken, entry, step, begin, after, Never, mostEntries}
 use Rattle.class_walk.proofs.Cycle.{iter, forever}
 
 pub give-length : (g : Option ℕ) (v : ℕ) (cs : List ℕ) → length (give g v cs) ≡ length cs
@@ -215,14 +215,14 @@ module _ (m : Machine) (l : Line) (ok : Fits m l) where
         → after m l (s .count + 1) ≡ stopped (givenBy (met m l s) l s) (s .count + 1)
     at-stops e h = next ∙ taken-stops (met m l s) l s e h
 
-  pub at-most : (s : Conf) (spent : ℕ) → At m l (m .rows) s spent → s .count ≤ most m l
+  pub at-most : (s : Conf) (spent : ℕ) → At m l (m .rows) s spent → s .count ≤ mostEntries m l
   at-most s spent a =
       let c : s .count ≤ m .rows * s .place + spent = a .count-low in
       let p : m .rows * s .place ≤ m .rows * glyphs l = mul-le-mul-left (m .rows) (a .place-low) in
       let e : m .rows * (glyphs l + 1) ≡ m .rows * glyphs l + m .rows = rw (add-one) (mul-suc (m .rows) (glyphs l)) in
       omega (arith, a .spent-low)
 
-  pub stop-most : (s : Conf) (spent : ℕ) → At m l (m .rows) s spent → spent < m .rows → s .count + 1 ≤ most m l
+  pub stop-most : (s : Conf) (spent : ℕ) → At m l (m .rows) s spent → spent < m .rows → s .count + 1 ≤ mostEntries m l
   stop-most s spent a few =
       let c : s .count ≤ m .rows * s .place + spent = a .count-low in
       let p : m .rows * s .place ≤ m .rows * glyphs l = mul-le-mul-left (m .rows) (a .place-low) in

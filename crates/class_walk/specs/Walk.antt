@@ -102,13 +102,13 @@ unfoldable pub Never : Machine → Line → Type 0
 Never m l = (n : ℕ) (cs : List ℕ) (k : ℕ) → after m l n ≡ stopped cs k → ⊥
 
 -- the most entries of a walk that ends: S × (glyphs + 1)
-abbrev pub most : Machine → Line → ℕ
-most m l = m .rows * (glyphs l + 1)
+abbrev pub mostEntries : Machine → Line → ℕ
+mostEntries m l = m .rows * (glyphs l + 1)
 
 -- the walk as it can be computed: after the most entries that a walk which ends can take. Where `Fits` holds, it has stopped by then exactly if it ends
 -- (the laws `walked-ends`, `ends-walked`, `walked-never` and `never-walked`).
 unfoldable pub walked : Machine → Line → Walk
-walked m l = after m l (most m l)
+walked m l = after m l (mostEntries m l)
 
 -- with no machine: every class 0, no entry taken
 abbrev pub noWalk : Line → Walk

@@ -12,11 +12,11 @@ use Rattle.fields.specs.Laws.{then-go, clear-inside, rule-clear}
 use Rattle.units.specs.Fixed.{fixedSize}
 use Rattle.units.specs.Flags.{priorityOf}
 use Rattle.meaning.specs.Limits.{emLimit}
-use Rattle.cluster.specs.Faults.{classAt, classFault, growFault, shrinkFault, flagsFault, pairFault}
+use Rattle.cluster.specs.Faults.{pairClass, pairClassFault, growFault, shrinkFault, flagsFault, pairFault}
 
 module _ (t : List ℕ) (at : ℕ) where
-  class-clear : (least : ℕ) → at + 4 ≤ length t → least ≤ classAt t at → classFault t at least ≡ Clear
-  unfolding classFault
+  class-clear : (least : ℕ) → at + 4 ≤ length t → least ≤ pairClass t at → pairClassFault t at least ≡ Clear
+  unfolding pairClassFault
   class-clear least h l = then-go _ (clear-inside t at 4 h) ∙ rule-clear BadCluster at (le-leb _ _ l)
 
   -- `limit`, `size` and `priority` are the field as the code has read it
@@ -33,7 +33,7 @@ module _ (t : List ℕ) (at : ℕ) where
   flags-clear priority h e l = then-go _ (clear-inside t at 2 h) ∙ rule-clear BadCluster at (le-leb _ _ (rw e at l))
 
   -- a pair: its class as it was read, its limits and its flags
-  pub pair-clear : (least class : ℕ) → at + 24 ≤ length t → class ≡ classAt t at → least ≤ class
+  pub pair-clear : (least class : ℕ) → at + 24 ≤ length t → class ≡ pairClass t at → least ≤ class
       → (growFault t (at + 4) ≡ Clear) × (shrinkFault t (at + 4 + 4) ≡ Clear)
       → (growFault t (at + 12) ≡ Clear) × (shrinkFault t (at + 12 + 4) ≡ Clear)
       → (flagsFault t (at + 20) ≡ Clear) × (flagsFault t (at + 20 + 2) ≡ Clear)

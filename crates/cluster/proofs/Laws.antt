@@ -18,7 +18,7 @@ use Rattle.units.specs.Fixed.{fixedSize}
 use Rattle.units.specs.Flags.{priorityOf, widthFlags, keptFlags, isUnlimited}
 use Rattle.encoding.specs.Codes.{All}
 use Rattle.meaning.specs.Limits.{emLimit, OkFlags, OkPair, Rising, OkCluster}
-use Rattle.cluster.specs.Faults.{classAt, classFault, growFault, shrinkFault, flagsFault, pairFault, pairsFault, clusterFault}
+use Rattle.cluster.specs.Faults.{pairClass, pairClassFault, growFault, shrinkFault, flagsFault, pairFault, pairsFault, clusterFault}
 use Rattle.cluster.specs.Pairs.{pairAt, pairsAt, clusterAt}
 
 and-first : (a b : Bool) → (a && b) ≡ true → a ≡ true
@@ -46,12 +46,12 @@ module _ (t : List ℕ) where
 
   -- ---- a pair without fault
 
-  class-low : (at : ℕ) → classAt t at < 128
-  unfolding classAt
+  class-low : (at : ℕ) → pairClass t at < 128
+  unfolding pairClass
   class-low at = mod-lt (u32At t at) (omega arith)
 
-  class-rises : (at least : ℕ) → classFault t at least ≡ Clear → least ≤ classAt t at
-  unfolding classFault
+  class-rises : (at least : ℕ) → pairClassFault t at least ≡ Clear → least ≤ pairClass t at
+  unfolding pairClassFault
   class-rises at least e = leb-true _ _ (rule-holds _ BadCluster at (then-second _ _ e))
 
   grow-ok : (at : ℕ) → growFault t at ≡ Clear → u32At t at ≤ emLimit
@@ -86,7 +86,7 @@ module _ (t : List ℕ) where
         flags-ok (at + 22) (then-second _ _ e5),
       )
 
-  pair-rises : (at least : ℕ) → pairFault t at least ≡ Clear → least ≤ classAt t at
+  pair-rises : (at least : ℕ) → pairFault t at least ≡ Clear → least ≤ pairClass t at
   unfolding pairFault
   pair-rises at least e = class-rises at least (then-first _ _ e)
 
@@ -100,14 +100,14 @@ module _ (t : List ℕ) where
   pairs-all : (n at least : ℕ) → pairsFault t n at least ≡ Clear → All OkPair (pairsAt t n at)
   unfolding walk pairsAt
   pairs-all zero at least e = tt
-  pairs-all (suc n) at least e = (pair-ok at least (then-first _ _ e), pairs-all n (at + 24) (classAt t at + 1) (then-second _ _ e))
+  pairs-all (suc n) at least e = (pair-ok at least (then-first _ _ e), pairs-all n (at + 24) (pairClass t at + 1) (then-second _ _ e))
 
   pairs-rise : (n at least : ℕ) → pairsFault t n at least ≡ Clear → Rising least (pairsAt t n at)
   unfolding walk pairsAt pairAt
   pairs-rise zero at least e = tt
   pairs-rise (suc n) at least e = (
     pair-rises at least (then-first _ _ e),
-    subst (λ (k : ℕ). Rising k (pairsAt t n (at + 24))) (add-one (classAt t at)) (pairs-rise n (at + 24) (classAt t at + 1) (then-second _ _ e)),
+    subst (λ (k : ℕ). Rising k (pairsAt t n (at + 24))) (add-one (pairClass t at)) (pairs-rise n (at + 24) (pairClass t at + 1) (then-second _ _ e)),
   )
 
   pairs-inside : (n at least : ℕ) → pairsFault t n at least ≡ Clear → at ≤ length t → at + 24 * n ≤ length t
@@ -115,7 +115,7 @@ module _ (t : List ℕ) where
   pairs-inside zero at least e h = omega arith
   pairs-inside (suc n) at least e h =
       let here : at + 24 ≤ length t = pair-inside at least (then-first _ _ e) in
-      let rest : at + 24 + 24 * n ≤ length t = pairs-inside n (at + 24) (classAt t at + 1) (then-second _ _ e) here in
+      let rest : at + 24 + 24 * n ≤ length t = pairs-inside n (at + 24) (pairClass t at + 1) (then-second _ _ e) here in
       omega arith
 
   -- ---- a cluster without fault

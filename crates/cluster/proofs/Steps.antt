@@ -12,16 +12,16 @@ use Rattle.fields.specs.Field.{u32At}
 use Rattle.fields.specs.Faults.{_then_, rule, inside}
 use Rattle.fields.specs.Laws.{then-first, then-stop, inside-holds, bad-inside}
 use Rattle.meaning.specs.Ask.{recordOf}
-use Rattle.cluster.specs.Faults.{classAt, classFault, pairFault, pairsFault, clusterFault}
+use Rattle.cluster.specs.Faults.{pairClass, pairClassFault, pairFault, pairsFault, clusterFault}
 use Rattle.cluster.specs.Pairs.{pairAt, pairsAt}
 
 -- a clear pair begins inside the table, and one that begins past it is refused there
 pub pair-begins : (t : List ℕ) (at least : ℕ) → pairFault t at least ≡ Clear → at + 4 ≤ length t
-unfolding pairFault classFault
+unfolding pairFault pairClassFault
 pair-begins t at least e = inside-holds t at 4 (then-first _ _ (then-first _ _ e))
 
 pub pair-past : (t : List ℕ) (at least : ℕ) → length t < at → pairFault t at least ≡ Bad Outside at
-unfolding pairFault classFault
+unfolding pairFault pairClassFault
 pair-past t at least h =
     let b : inside t at 4 ≡ Bad Outside at = bad-inside t at 4 (omega arith) in
     then-stop _ (then-stop _ b ∙ b) ∙ then-stop _ b ∙ b
@@ -47,16 +47,16 @@ down : (n : ℕ) → suc n - 1 ≡ n
 down n = omega arith
 
 module _ (t : List ℕ) where
-  pub record-here : (n at class : ℕ) → 0 < n → classAt t at ≡ class → recordOf class (pairsAt t n at) ≡ some (pairAt t at)
+  pub record-here : (n at class : ℕ) → 0 < n → pairClass t at ≡ class → recordOf class (pairsAt t n at) ≡ some (pairAt t at)
   unfolding pairsAt pairAt
   record-here zero at class h e = absurd (omega arith)
-  record-here (suc n) at class h e = simp (eq-eqb (classAt t at) class e)
+  record-here (suc n) at class h e = simp (eq-eqb (pairClass t at) class e)
 
-  pub record-next : (n at class : ℕ) → 0 < n → (classAt t at ≡ class → ⊥)
+  pub record-next : (n at class : ℕ) → 0 < n → (pairClass t at ≡ class → ⊥)
       → recordOf class (pairsAt t n at) ≡ recordOf class (pairsAt t (n - 1) (at + 24))
   unfolding pairsAt pairAt
   record-next zero at class h e = absurd (omega arith)
-  record-next (suc n) at class h e = simp (ne-eqb (classAt t at) class e, down n)
+  record-next (suc n) at class h e = simp (ne-eqb (pairClass t at) class e, down n)
 
   pub record-none : (n at class : ℕ) → n ≤ 0 → recordOf class (pairsAt t n at) ≡ none
   unfolding pairsAt

@@ -14,11 +14,11 @@ use Rattle.units.specs.Flags.{priorityOf}
 use Rattle.meaning.specs.Limits.{emLimit}
 
 -- a pair's class: the low 7 bits of its field
-unfoldable pub classAt : List ℕ → ℕ → ℕ
-classAt t at = u32At t at % 128
+unfoldable pub pairClass : List ℕ → ℕ → ℕ
+pairClass t at = u32At t at % 128
 
-unfoldable pub classFault : List ℕ → ℕ → ℕ → Fault
-classFault t at least = inside t at 4 then rule (leb least (classAt t at)) BadCluster at
+unfoldable pub pairClassFault : List ℕ → ℕ → ℕ → Fault
+pairClassFault t at least = inside t at 4 then rule (leb least (pairClass t at)) BadCluster at
 
 unfoldable pub growFault : List ℕ → ℕ → Fault
 growFault t at = inside t at 4 then rule (leb (u32At t at) emLimit) BadCluster at
@@ -33,7 +33,7 @@ flagsFault t at = inside t at 2 then rule (leb (priorityOf (u16At t at)) 3) BadC
 -- the pair at `at`, whose class must be `least` or more
 unfoldable pub pairFault : List ℕ → ℕ → ℕ → Fault
 pairFault t at least =
-    classFault t at least
+    pairClassFault t at least
     then growFault t (at + 4)
     then shrinkFault t (at + 8)
     then growFault t (at + 12)
@@ -43,7 +43,7 @@ pairFault t at least =
 
 -- n pairs from `at` on: each class is above the one before it, the first `least` or more
 abbrev pub pairsFault : List ℕ → ℕ → ℕ → ℕ → Fault
-pairsFault t n at least = walk (pairFault t) (λ p. p + 24) (λ p. classAt t p + 1) n at least
+pairsFault t n at least = walk (pairFault t) (λ p. p + 24) (λ p. pairClass t p + 1) n at least
 
 unfoldable pub clusterFault : List ℕ → ℕ → Fault
 clusterFault t at =

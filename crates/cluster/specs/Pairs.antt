@@ -9,12 +9,12 @@ use Rattle.units.specs.Flags.{keptFlags}
 use Rattle.types.specs.declared.Pair.{Pair}
 use Rattle.cluster.specs.declared.Sought.{Sought}
 use Rattle.cluster.specs.declared.Sought.the-variants.{Record, Nothing}
-use Rattle.cluster.specs.Faults.{classAt}
+use Rattle.cluster.specs.Faults.{pairClass}
 
 unfoldable pub pairAt : List ℕ → ℕ → Pair
 pairAt t at =
     record {
-      class = classAt t at;
+      class = pairClass t at;
       before = record { grow = u32At t (at + 4); shrink = fixedSize (u32At t (at + 8)) };
       after = record { grow = u32At t (at + 12); shrink = fixedSize (u32At t (at + 16)) };
       flags = record { grow = keptFlags (u16At t (at + 20)); shrink = keptFlags (u16At t (at + 22)) };

@@ -9,7 +9,7 @@ ghost use Rattle.fields.specs.Field.{u16At, u32At};
 ghost use Rattle.units.specs.Fixed.{fixedSize};
 ghost use Rattle.units.specs.Flags.{keptFlags};
 ghost use Rattle.meaning.specs.Ask.{recordOf};
-ghost use Rattle.cluster.specs.Faults.{classAt, classFault, growFault, shrinkFault, flagsFault, pairFault, pairsFault, clusterFault};
+ghost use Rattle.cluster.specs.Faults.{pairClass, pairClassFault, growFault, shrinkFault, flagsFault, pairFault, pairsFault, clusterFault};
 ghost use Rattle.cluster.specs.Pairs.{pairAt, pairsAt, clusterAt, soughtPair};
 use fields::Fault;
 use fields::Refusal;
@@ -24,8 +24,8 @@ pub enum Sought {
 }
 
 // A pair's class: the low 7 bits of its field.
-pub fn class_at(table: &[u8], at: usize) -> u32
-    ensures { λ r. ⌜ (r ≡ classAt (now (table .entry)) at) × (r < 128) ⌝ }
+pub fn pair_class(table: &[u8], at: usize) -> u32
+    ensures { λ r. ⌜ (r ≡ pairClass (now (table .entry)) at) × (r < 128) ⌝ }
 {
     (fields::u32_at(table, at) % 128) as u32
 }
@@ -45,7 +45,7 @@ pub fn size_at(table: &[u8], at: usize) -> u32
 }
 
 // Grow or shrink flags as their field has them.
-fn flags_at(table: &[u8], at: usize) -> u16
+fn flags_field(table: &[u8], at: usize) -> u16
     ensures { λ r. ⌜ r ≡ u16At (now (table .entry)) at ⌝ }
 {
     fields::u16_at(table, at) as u16
@@ -55,14 +55,14 @@ fn flags_at(table: &[u8], at: usize) -> u16
 pub fn kept_at(table: &[u8], at: usize) -> u16
     ensures { λ r. ⌜ r ≡ keptFlags (u16At (now (table .entry)) at) ⌝ }
 {
-    units::kept_flags(flags_at(table, at))
+    units::kept_flags(flags_field(table, at))
 }
 
-fn class_fault(table: &[u8], at: usize, least: u32) -> Fault
-    ensures { λ r. ⌜ r ≡ classFault (now (table .entry)) at least ⌝ }
+fn pair_class_fault(table: &[u8], at: usize, least: u32) -> Fault
+    ensures { λ r. ⌜ r ≡ pairClassFault (now (table .entry)) at least ⌝ }
 {
     let inside = fields::in_table(table, at, 4);
-    let class = class_at(table, at);
+    let class = pair_class(table, at);
     fields::then(
         inside,
         fields::ruled(least <= class, Refusal::BadCluster, at),
@@ -95,7 +95,7 @@ fn flags_fault(table: &[u8], at: usize) -> Fault
     ensures { λ r. ⌜ r ≡ flagsFault (now (table .entry)) at ⌝ }
 {
     let inside = fields::in_table(table, at, 2);
-    let priority = units::priority(flags_at(table, at));
+    let priority = units::priority(flags_field(table, at));
     fields::then(
         inside,
         fields::ruled(priority <= 3, Refusal::BadCluster, at),
@@ -112,7 +112,7 @@ fn pair_fault(table: &[u8], at: usize, least: u32) -> Fault
             at,
         };
     }
-    let class = class_fault(table, at, least);
+    let class = pair_class_fault(table, at, least);
     let before_grow = grow_fault(table, at + 4);
     let before_shrink = shrink_fault(table, at + 8);
     let after_grow = grow_fault(table, at + 12);
@@ -137,7 +137,7 @@ fn pairs_fault(table: &[u8], first: usize, count: usize) -> Fault
         if let Fault::Bad { refusal: _, at: _ } = fault {
             return fault;
         }
-        least = class_at(table, at) + 1;
+        least = pair_class(table, at) + 1;
         at += 24;
         left -= 1;
     }
@@ -169,12 +169,12 @@ fn flags_are_clear(table: &[u8], at: usize) -> bool
 // The least class that may follow the pair at `at`, where that pair is seen to be without fault; else 0.
 fn clear_least(table: &[u8], at: usize, least: u32) -> u32
     requires { ⌜ at ≤ length (now table) ⌝ }
-    ensures { λ r. ⌜ (0 < r → (pairFault (now (table .entry)) at least ≡ Clear) × (r ≡ classAt (now (table .entry)) at + 1)) ⌝ }
+    ensures { λ r. ⌜ (0 < r → (pairFault (now (table .entry)) at least ≡ Clear) × (r ≡ pairClass (now (table .entry)) at + 1)) ⌝ }
 {
     if table.len() - at < 24 {
         return 0;
     }
-    let class = class_at(table, at);
+    let class = pair_class(table, at);
     if class < least {
         return 0;
     }
@@ -242,7 +242,7 @@ pub fn pair_at(table: &[u8], at: usize) -> Pair
     ensures { λ r. ⌜ r ≡ pairAt (now (table .entry)) at ⌝ }
 {
     Pair {
-        class: class_at(table, at),
+        class: pair_class(table, at),
         before: Limits {
             grow: fixed_at(table, at + 4),
             shrink: size_at(table, at + 8),
@@ -266,7 +266,7 @@ fn record_from(table: &[u8], first: usize, count: usize, class: u8) -> Sought
     let mut at = first;
     let mut left = count;
     while 0 < left {
-        if class_at(table, at) == class as u32 {
+        if pair_class(table, at) == class as u32 {
             return Sought::Record(pair_at(table, at));
         }
         at += 24;

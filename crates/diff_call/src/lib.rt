@@ -7,9 +7,6 @@ use answers::CountAnswer;
 use fields::Fault;
 use fields::Refusal;
 
-// The numbers of a difference.
-const NUMBERS: usize = 5;
-
 // The first fault of two tables, the first table's before the second's.
 fn either_fault<'a>(one: &'a [u8], other: &'a [u8], count: u32) -> Fault
     ensures { λ r. ⌜ r ≡ eitherFault (now (one .entry)) (now (other .entry)) count ⌝ }
@@ -30,7 +27,7 @@ pub fn difference_count<'a>(one: &'a [u8], other: &'a [u8], count: u32) -> Count
         return CountAnswer::Refused { refusal, at };
     }
     let size = diff_table::size_all(one, other, count as usize);
-    let found = (size / NUMBERS) as u32;
+    let found = (size / diff_rule::NUMBERS) as u32;
     CountAnswer::Count(found)
 }
 
@@ -55,6 +52,6 @@ pub fn differences<'a>(one: &'a [u8], other: &'a [u8], count: u32, list: &mut [u
         return CountAnswer::Count(0);
     }
     diff_table::put_all(one, other, glyphs, list);
-    let found = (size / NUMBERS) as u32;
+    let found = (size / diff_rule::NUMBERS) as u32;
     CountAnswer::Count(found)
 }

@@ -8,7 +8,7 @@ use Rattle.types.specs.declared.Direction.{Direction}
 use Rattle.types.specs.declared.Pair.{Pair}
 use Rattle.meaning.specs.Limits.{Rising}
 use Rattle.meaning.specs.Discrete.{Pair-discrete}
-use Rattle.cluster.specs.Faults.{classAt}
+use Rattle.cluster.specs.Faults.{pairClass}
 use Rattle.cluster.specs.Pairs.{pairAt, pairsAt, clusterAt}
 use Rattle.write_cluster.proofs.Laws.{pairs-cons, pairs-none}
 use Rattle.diff_rule.specs.declared.Aspect.the-variants.{Width}
@@ -23,10 +23,10 @@ use Rattle.diff_rule.proofs.Stored.{stores-none, stores-two, stores-other}
 use Rattle.diff_rule.proofs.Merge.{merge-first, merge-second, merge-both, merge-end}
 use Rattle.diff_clusters.specs.declared.Pairs.{Pairs}
 use Rattle.diff_clusters.specs.declared.MergeStep.{MergeStep}
-use Rattle.diff_clusters.specs.Merge.{pairsIn, leftOf, NextClass, Steps}
+use Rattle.diff_clusters.specs.Merge.{pairsIn, leftOf, FirstClass, Steps}
 
-class-fits : (t : List ℕ) (at : ℕ) → classAt t at < 128
-unfolding classAt
+class-fits : (t : List ℕ) (at : ℕ) → pairClass t at < 128
+unfolding pairClass
 class-fits t at = omega arith
 
 -- ---- the next class
@@ -35,7 +35,7 @@ abbrev afterFirst : Pairs → Pairs
 afterFirst p = record { at = p .at + 24; count = p .count - 1 }
 
 -- a class below 128 is that of a pair
-pub some-left : (t : List ℕ) (p : Pairs) (c : ℕ) → NextClass t p c → c < 128 → 0 < p .count
+pub some-left : (t : List ℕ) (p : Pairs) (c : ℕ) → FirstClass t p c → c < 128 → 0 < p .count
 some-left t p c w h = at (p .count) refl
   where
     at : (n : ℕ) → n ≡ p .count → 0 < p .count
@@ -43,23 +43,23 @@ some-left t p c w h = at (p .count) refl
     at (suc n) e = omega arith
 
 -- of two that are the same, if pairs are left at all
-pub both-left : (t u : List ℕ) (p q : Pairs) (c k : ℕ) → NextClass t p c → NextClass u q k → c ≡ k → 0 < p .count + q .count → c < 128
+pub both-left : (t u : List ℕ) (p q : Pairs) (c k : ℕ) → FirstClass t p c → FirstClass u q k → c ≡ k → 0 < p .count + q .count → c < 128
 both-left t u p q c k w v e h = at (p .count) refl
   where
     at : (n : ℕ) → n ≡ p .count → c < 128
     at zero z =
         let m : 0 < q .count = omega arith in
-        let f : classAt u (q .at) < 128 = class-fits u (q .at) in
+        let f : pairClass u (q .at) < 128 = class-fits u (q .at) in
         omega (arith, v .read m)
     at (suc n) z =
         let m : 0 < p .count = omega arith in
-        let f : classAt t (p .at) < 128 = class-fits t (p .at) in
+        let f : pairClass t (p .at) < 128 = class-fits t (p .at) in
         omega (arith, w .read m)
 
 -- ---- steps
 
 -- pairs whose first class is above c
-above : (u : List ℕ) (c i right b : ℕ) → (0 < right → c < classAt u b) → Rising i (pairsAt u right b) → Rising (suc c) (pairsAt u right b)
+above : (u : List ℕ) (c i right b : ℕ) → (0 < right → c < pairClass u b) → Rising i (pairsAt u right b) → Rising (suc c) (pairsAt u right b)
 unfolding pairsAt pairAt
 above u c i zero b f r = tt
 above u c i (suc k) b f r = (f (omega arith), r .1)
@@ -69,8 +69,8 @@ opened : (t : List ℕ) (i : ℕ) (p : Pairs) → 0 < p .count → Rising i (lef
 opened t i p h r = subst (Rising i) (pairs-cons t (p .count) (p .at) h) r
 
 module _ (t u : List ℕ) (p q : Pairs) where
-  first-by : 0 < p .count → (0 < q .count → classAt t (p .at) < classAt u (q .at))
-      → Steps t u p q (record { class = classAt t (p .at); comparison = Differs OnlyFirst; ones = afterFirst p; others = q })
+  first-by : 0 < p .count → (0 < q .count → pairClass t (p .at) < pairClass u (q .at))
+      → Steps t u p q (record { class = pairClass t (p .at); comparison = Differs OnlyFirst; ones = afterFirst p; others = q })
   unfolding pairAt
   first-by h f = record {
     class = class-fits t (p .at);
@@ -78,34 +78,34 @@ module _ (t u : List ℕ) (p q : Pairs) where
     near = omega arith;
     beside = omega arith;
     ones = λ i r s. opened t i p h r .1;
-    others = λ i r s. above u (classAt t (p .at)) i (q .count) (q .at) f s;
+    others = λ i r s. above u (pairClass t (p .at)) i (q .count) (q .at) f s;
     next = λ d g i n e r s.
-        let fits : classAt t (p .at) < 128 = class-fits t (p .at) in
+        let fits : pairClass t (p .at) < 128 = class-fits t (p .at) in
         ap (λ (l : List Pair). through (recordDiffers d g l (leftOf u q)) n i) (pairs-cons t (p .count) (p .at) h)
-        ∙ merge-first d g n i (128 - suc (classAt t (p .at))) (pairAt t (p .at)) (leftOf t (afterFirst p)) (leftOf u q) (opened t i p h r)
-        (above u (classAt t (p .at)) i (q .count) (q .at) f s) (omega arith) (omega arith);
+        ∙ merge-first d g n i (128 - suc (pairClass t (p .at))) (pairAt t (p .at)) (leftOf t (afterFirst p)) (leftOf u q) (opened t i p h r)
+        (above u (pairClass t (p .at)) i (q .count) (q .at) f s) (omega arith) (omega arith);
   }
 
-  second-by : 0 < q .count → (0 < p .count → classAt u (q .at) < classAt t (p .at))
-      → Steps t u p q (record { class = classAt u (q .at); comparison = Differs OnlySecond; ones = p; others = afterFirst q })
+  second-by : 0 < q .count → (0 < p .count → pairClass u (q .at) < pairClass t (p .at))
+      → Steps t u p q (record { class = pairClass u (q .at); comparison = Differs OnlySecond; ones = p; others = afterFirst q })
   unfolding pairAt
   second-by h f = record {
     class = class-fits u (q .at);
     fewer = omega arith;
     near = omega arith;
     beside = omega arith;
-    ones = λ i r s. above t (classAt u (q .at)) i (p .count) (p .at) f r;
+    ones = λ i r s. above t (pairClass u (q .at)) i (p .count) (p .at) f r;
     others = λ i r s. opened u i q h s .1;
     next = λ d g i n e r s.
-        let fits : classAt u (q .at) < 128 = class-fits u (q .at) in
+        let fits : pairClass u (q .at) < 128 = class-fits u (q .at) in
         ap (λ (l : List Pair). through (recordDiffers d g (leftOf t p) l) n i) (pairs-cons u (q .count) (q .at) h)
-        ∙ merge-second d g n i (128 - suc (classAt u (q .at))) (pairAt u (q .at)) (leftOf t p) (leftOf u (afterFirst q))
-        (above t (classAt u (q .at)) i (p .count) (p .at) f r) (opened u i q h s) (omega arith) (omega arith);
+        ∙ merge-second d g n i (128 - suc (pairClass u (q .at))) (pairAt u (q .at)) (leftOf t p) (leftOf u (afterFirst q))
+        (above t (pairClass u (q .at)) i (p .count) (p .at) f r) (opened u i q h s) (omega arith) (omega arith);
   }
 
-  both-by : (o : Comparison) → 0 < p .count → 0 < q .count → classAt t (p .at) ≡ classAt u (q .at)
+  both-by : (o : Comparison) → 0 < p .count → 0 < q .count → pairClass t (p .at) ≡ pairClass u (q .at)
       → markSeen o ≡ markOf Pair-discrete (some (pairAt t (p .at))) (some (pairAt u (q .at)))
-      → Steps t u p q (record { class = classAt t (p .at); comparison = o; ones = afterFirst p; others = afterFirst q })
+      → Steps t u p q (record { class = pairClass t (p .at); comparison = o; ones = afterFirst p; others = afterFirst q })
   unfolding pairAt
   both-by o h k e eo = record {
     class = class-fits t (p .at);
@@ -115,25 +115,25 @@ module _ (t u : List ℕ) (p q : Pairs) where
     ones = λ i r s. opened t i p h r .1;
     others = λ i r s. subst (λ (x : ℕ). Rising (suc x) (leftOf u (afterFirst q))) (sym e) (opened u i q k s .1);
     next = λ d g i n m r s.
-        let fits : classAt t (p .at) < 128 = class-fits t (p .at) in
+        let fits : pairClass t (p .at) < 128 = class-fits t (p .at) in
         ap₂ (λ (x y : List Pair). through (recordDiffers d g x y) n i) (pairs-cons t (p .count) (p .at) h) (pairs-cons u (q .count) (q .at) k)
-        ∙ merge-both d g n i (128 - suc (classAt t (p .at))) (pairAt t (p .at)) (pairAt u (q .at)) (leftOf t (afterFirst p)) (leftOf u (afterFirst q))
+        ∙ merge-both d g n i (128 - suc (pairClass t (p .at))) (pairAt t (p .at)) (pairAt u (q .at)) (leftOf t (afterFirst p)) (leftOf u (afterFirst q))
         (opened t i p h r) (opened u i q k s) e (omega arith) (omega arith)
-        ∙ ap (λ (x : Option Mark). noted d Width g (classAt t (p .at)) x
-        ++ through (recordDiffers d g (leftOf t (afterFirst p)) (leftOf u (afterFirst q))) (128 - suc (classAt t (p .at))) (suc (classAt t (p .at)))) (sym eo);
+        ∙ ap (λ (x : Option Mark). noted d Width g (pairClass t (p .at)) x
+        ++ through (recordDiffers d g (leftOf t (afterFirst p)) (leftOf u (afterFirst q))) (128 - suc (pairClass t (p .at))) (suc (pairClass t (p .at)))) (sym eo);
   }
 
-  module _ (c k : ℕ) (w : NextClass t p c) (v : NextClass u q k) where
+  module _ (c k : ℕ) (w : FirstClass t p c) (v : FirstClass u q k) where
     pub first-steps : (r : Pairs) → c < k → r ≡ afterFirst p → Steps t u p q (record { class = c; comparison = Differs OnlyFirst; ones = r; others = q })
     first-steps r l er =
         let h : 0 < p .count = some-left t p c w (omega (arith, v .most)) in
-        let e : classAt t (p .at) ≡ c = sym (w .read h) in
+        let e : pairClass t (p .at) ≡ c = sym (w .read h) in
         subst (Steps t u p q) (λ i. record { class = e i; comparison = Differs OnlyFirst; ones = sym er i; others = q }) (first-by h (λ m. omega (arith, v .read m)))
 
     pub second-steps : (r : Pairs) → k < c → r ≡ afterFirst q → Steps t u p q (record { class = k; comparison = Differs OnlySecond; ones = p; others = r })
     second-steps r l er =
         let h : 0 < q .count = some-left u q k v (omega (arith, w .most)) in
-        let e : classAt u (q .at) ≡ k = sym (v .read h) in
+        let e : pairClass u (q .at) ≡ k = sym (v .read h) in
         subst (Steps t u p q) (λ i. record { class = e i; comparison = Differs OnlySecond; ones = p; others = sym er i }) (second-by h (λ m. omega (arith, w .read m)))
 
     pub both-steps : (o : Comparison) (r s : Pairs) → c ≡ k → c < 128 → markSeen o ≡ markOf Pair-discrete (some (pairAt t (p .at))) (some (pairAt u (q .at)))
@@ -141,7 +141,7 @@ module _ (t u : List ℕ) (p q : Pairs) where
     both-steps o r s e l eo er es =
         let h : 0 < p .count = some-left t p c w l in
         let m : 0 < q .count = some-left u q k v (omega arith) in
-        let a : classAt t (p .at) ≡ c = sym (w .read h) in
+        let a : pairClass t (p .at) ≡ c = sym (w .read h) in
         subst (Steps t u p q) (λ i. record { class = a i; comparison = o; ones = sym er i; others = sym es i }) (both-by o h m (a ∙ e ∙ v .read m) eo)
 
 -- the differences `done` are followed by those of what is left

@@ -6,7 +6,7 @@ use Rattle.fields.specs.Field.{u32At}
 use Rattle.types.specs.declared.Direction.{Direction}
 use Rattle.types.specs.declared.Pair.{Pair}
 use Rattle.meaning.specs.Limits.{Rising}
-use Rattle.cluster.specs.Faults.{classAt}
+use Rattle.cluster.specs.Faults.{pairClass}
 use Rattle.cluster.specs.Pairs.{pairsAt}
 use Rattle.diff_rule.specs.declared.Aspect.the-variants.{Width}
 use Rattle.diff_rule.specs.Differences.{noted, markSeen, through, recordDiffers}
@@ -22,8 +22,8 @@ abbrev pub leftOf : List ℕ → Pairs → List Pair
 leftOf t p = pairsAt t (p .count) (p .at)
 
 -- the class of the first, above every other where there is none
-pub record NextClass (t : List ℕ) (p : Pairs) (c : ℕ) : Type 0 where
-  pub read : 0 < p .count → c ≡ classAt t (p .at)
+pub record FirstClass (t : List ℕ) (p : Pairs) (c : ℕ) : Type 0 where
+  pub read : 0 < p .count → c ≡ pairClass t (p .at)
   pub past : p .count ≡ 0 → c ≡ 128
   pub most : c ≤ 128
 

@@ -8,7 +8,7 @@ ghost use Rattle.meaning.specs.Discrete.{Pair-discrete};
 ghost use Rattle.cluster.specs.Pairs.{pairAt, clusterAt};
 ghost use Rattle.diff_rule.specs.Differences.{markOf, markSeen, recordsDiffer};
 ghost use Rattle.diff_rule.specs.Order.{Stores};
-ghost use Rattle.diff_clusters.specs.Merge.{pairsIn, NextClass, Steps};
+ghost use Rattle.diff_clusters.specs.Merge.{pairsIn, FirstClass, Steps};
 use diff_rule::Aspect;
 use diff_rule::Comparison;
 use diff_rule::Mark;
@@ -66,14 +66,14 @@ fn after(pairs: Pairs) -> Pairs
     }
 }
 
-// The class of the first.
-fn class_of(table: &[u8], pairs: Pairs) -> u32
-    ensures { λ r. ⌜ NextClass (now (table .entry)) pairs r ⌝ }
+// The class of the first; 128 where none is left.
+fn first_class(table: &[u8], pairs: Pairs) -> u32
+    ensures { λ r. ⌜ FirstClass (now (table .entry)) pairs r ⌝ }
 {
     if pairs.count == 0 {
         return NO_CLASS;
     }
-    cluster::class_at(table, pairs.at)
+    cluster::pair_class(table, pairs.at)
 }
 
 // The next class of what is left of two clusters.
@@ -81,8 +81,8 @@ fn next_class<'a>(one: &'a [u8], other: &'a [u8], ones: Pairs, others: Pairs) ->
     requires { ⌜ (ones .at < 2 ^ 60) × (others .at < 2 ^ 60) × (0 < ones .count + others .count) ⌝ }
     ensures { λ r. ⌜ Steps (now (one .entry)) (now (other .entry)) ones others r ⌝ }
 {
-    let class = class_of(one, ones);
-    let beside = class_of(other, others);
+    let class = first_class(one, ones);
+    let beside = first_class(other, others);
     if class < beside {
         return MergeStep {
             class: class as u16,

@@ -23,9 +23,6 @@ use diff_stretches::Sources;
 use lookup_targets::Kind;
 use types::Direction;
 
-// The numbers of a difference.
-const NUMBERS: usize = 5;
-
 // The numbers of a glyph's differences, at most 128 of five numbers each.
 const BLOCK: usize = 640;
 
@@ -59,7 +56,7 @@ fn compare_lists<'a>(one: &'a [u8], other: &'a [u8], places: Places) -> Comparis
 }
 
 // Stores the difference of glyph 0, if its lists stand at two places, and answers where that ends.
-fn put_list<'a>(
+fn put_changed_list<'a>(
     one: &'a [u8],
     other: &'a [u8],
     places: Places,
@@ -96,7 +93,7 @@ fn put_places<'a>(
             block,
             0,
         ),
-        Kind::Lists => put_list(one, other, places, direction, block),
+        Kind::Lists => put_changed_list(one, other, places, direction, block),
     }
 }
 
@@ -171,7 +168,7 @@ fn compare_places<'a>(
     keep(same, places, size);
     Compared {
         places,
-        each: size / NUMBERS,
+        each: size / diff_rule::NUMBERS,
     }
 }
 
@@ -227,7 +224,7 @@ fn put_stretch(
         return to;
     }
     if list.len() <= to {
-        return to + (end - glyph) * (NUMBERS * count);
+        return to + (end - glyph) * (diff_rule::NUMBERS * count);
     }
     put_alike(block, count, glyph, end, list, to)
 }
@@ -246,7 +243,7 @@ fn put_by<'a>(
     requires { ⌜ Comparable (now one) (now other) sources × (5 * 128 ≤ length (now block)) × AllNowhere (now same) × (to < 2 ^ 56) ⌝ }
     ensures { λ r. ⌜ Stores (now (list .entry)) (now (list .exit)) to r (glyphsDiffer direction (now (one .entry)) (now (other .entry)) sources) × (r ≤ to + 2 ^ 26) ⌝ }
 {
-    let mut runs = diff_stretches::begin(one, other, sources);
+    let mut runs = diff_stretches::begin_both(one, other, sources);
     let mut last = nowhere();
     let mut glyph: usize = 0;
     let mut at = to;

@@ -20,7 +20,7 @@ use Rattle.diff_rule.specs.declared.Difference.{Difference}
 use Rattle.diff_rule.specs.Differences.{noted, classesDiffer, cellsDiffer, machinesDiffer, widthsDiffer, listsDiffer, sidesDiffer, differences}
 use Rattle.diff_rule.specs.Order.{directionNumber, aspectNumber}
 use Rattle.diff_rule.proofs.Empty as empty
-use Rattle.diff_laws.specs.Unlike.{Alike, Names, Unnamed}
+use Rattle.diff_laws.specs.Unlike.{SameAnswer, Names, Unnamed}
 use Rattle.diff_laws.proofs.Throughout.{of-glyphs, EachCell, of-side}
 
 -- a difference of a direction is of no class and of no cell
@@ -66,7 +66,7 @@ other-side n d d′ k a b =
     cells (some x) = λ mark r c l i e. absurd (k e)
 
 module _ (m m′ : Meaning) where
-  aside : (d : Direction) → (Alike m m′ d sizes → ⊥) → All (Aside d) (differences m m′)
+  aside : (d : Direction) → (SameAnswer m m′ d sizes → ⊥) → All (Aside d) (differences m m′)
   unfolding differences ask
   aside Horizontal k =
       all-append (Aside Horizontal) (sidesDiffer Horizontal (m .glyphs) (m .horizontal) (m′ .horizontal)) (sidesDiffer Vertical (m .glyphs) (m .vertical) (m′ .vertical))
@@ -77,7 +77,7 @@ module _ (m m′ : Meaning) where
       (other-side (m .glyphs) Horizontal Vertical (λ e. let z : _≡_ {A = ℕ} 0 1 = ap directionNumber e in omega arith) (m .horizontal) (m′ .horizontal))
       (side-aside (m .glyphs) Vertical (m .vertical) (m′ .vertical) k)
 
-  pub alone : (d : Direction) → (Alike m m′ d sizes → ⊥) → (g r c : ℕ) → Unnamed d (class g) (differences m m′) × Unnamed d (cell r c) (differences m m′)
+  pub alone : (d : Direction) → (SameAnswer m m′ d sizes → ⊥) → (g r c : ℕ) → Unnamed d (class g) (differences m m′) × Unnamed d (cell r c) (differences m m′)
   alone d k g r c = (
     all-map (Aside d) (λ (x : Difference). Names d (class g) x → ⊥) (λ x w z. w (z .0) .0 (z .1)) (differences m m′) (aside d k),
     all-map (Aside d) (λ (x : Difference). Names d (cell r c) x → ⊥) (λ x w z. w (z .0) .1 (z .1)) (differences m m′) (aside d k),

@@ -27,7 +27,7 @@ use Rattle.diff_rule.specs.declared.Difference.{Difference}
 use Rattle.diff_rule.specs.Differences.{markOf, noted, through, classesDiffer, cellsDiffer, machinesDiffer, recordDiffers, recordsDiffer, widthsDiffer, someList, listDiffers, listsDiffer, sidesDiffer, differences}
 use Rattle.diff_rule.proofs.Empty as empty
 use Rattle.diff_rule.proofs.Empty.{none-same, list-same}
-use Rattle.diff_laws.specs.Unlike.{Alike, Names, Unnamed, Listable}
+use Rattle.diff_laws.specs.Unlike.{SameAnswer, Names, Unnamed, Listable}
 
 -- ---- lists of differences, taken apart
 
@@ -243,7 +243,7 @@ module _ (d : Direction) (xs ys : List Difference) where
   listable-second (action g k) s = tt
 
 module _ (m m′ : Meaning) (v : Valid m) (v′ : Valid m′) (e : m .glyphs ≡ m′ .glyphs) where
-  pub all-named : (d : Direction) (part : Part) → Listable d part (differences m m′) → Unnamed d part (differences m m′) → Alike m m′ d part
+  pub all-named : (d : Direction) (part : Part) → Listable d part (differences m m′) → Unnamed d part (differences m m′) → SameAnswer m m′ d part
   unfolding differences ask
   all-named Horizontal part s w =
       let n : ℕ = m .glyphs in

@@ -13,11 +13,11 @@ use Rattle.types.specs.declared.Pair.{Pair}
 use Rattle.lookup.specs.Units.{firstOf}
 use Rattle.lookup.specs.Lookup.{formatFault, trimmedFault, lookupFault}
 use Rattle.lookup.specs.Find.{covers, unitValue, unitsValue, hasUnits, unitCount, trimmedValue, valueFrom, valueOf}
-use Rattle.cluster.specs.Faults.{classAt}
+use Rattle.cluster.specs.Faults.{pairClass}
 use Rattle.cluster.specs.Pairs.{pairAt, pairsAt, clusterAt}
 use Rattle.actions.specs.Actions.{actionsAt, listAt}
 use Rattle.actions.specs.Faults.{listFault}
-use Rattle.lookup_targets.specs.Values.{glyphFault, valuesFault, clusterOf, listOf}
+use Rattle.lookup_targets.specs.Values.{targetFault, valuesFault, clusterOf, listOf}
 use Rattle.meaning.specs.Meaning.{emptySide}
 use Rattle.meaning.specs.Discrete.{Pair-discrete}
 use Rattle.table.specs.Table.{present, headerFault, offsetsFault, machinePart, actionPart, directionFault, tableFault, Accepted}
@@ -34,11 +34,11 @@ use Rattle.diff_laws.specs.Samples.{emptyList, growing, glyphWith}
 
 -- glyph 0 has a record of class 5 in the second table only, and then in the first only
 pub record-second : allNumbers (differencesOf bareTable zeroTable 1) ≡ 0 ∷ 3 ∷ 2 ∷ 0 ∷ 5 ∷ []
-unfolding bareTable zeroTable u16At u32At meaningOf directionOf emptySide sideAt machineOf listsOf clusterOf listOf from valueOf valueFrom unitCount hasUnits unitsValue covers firstOf unitValue clusterAt pairsAt pairAt classAt differencesOf differences sidesDiffer widthsDiffer recordsDiffer listsDiffer through allNumbers numbersOf
+unfolding bareTable zeroTable u16At u32At meaningOf directionOf emptySide sideAt machineOf listsOf clusterOf listOf from valueOf valueFrom unitCount hasUnits unitsValue covers firstOf unitValue clusterAt pairsAt pairAt pairClass differencesOf differences sidesDiffer widthsDiffer recordsDiffer listsDiffer through allNumbers numbersOf
 record-second = refl
 
 pub record-first : allNumbers (differencesOf zeroTable bareTable 1) ≡ 0 ∷ 3 ∷ 1 ∷ 0 ∷ 5 ∷ []
-unfolding bareTable zeroTable u16At u32At meaningOf directionOf emptySide sideAt machineOf listsOf clusterOf listOf from valueOf valueFrom unitCount hasUnits unitsValue covers firstOf unitValue clusterAt pairsAt pairAt classAt differencesOf differences sidesDiffer widthsDiffer recordsDiffer listsDiffer through allNumbers numbersOf
+unfolding bareTable zeroTable u16At u32At meaningOf directionOf emptySide sideAt machineOf listsOf clusterOf listOf from valueOf valueFrom unitCount hasUnits unitsValue covers firstOf unitValue clusterAt pairsAt pairAt pairClass differencesOf differences sidesDiffer widthsDiffer recordsDiffer listsDiffer through allNumbers numbersOf
 record-first = refl
 
 -- of machines of 4 and of 5 classes, in which the glyph has class 1 and class 2, the sizes alone are listed; and the record
@@ -50,7 +50,7 @@ unlike-machines =
 
 -- an empty list is none
 pub empty-accepted : Accepted emptyList 1
-unfolding emptyList Accepted tableFault headerFault directionFault present offsetsFault machinePart actionPart u16At u32At inside rule _then_ walk valuesFault lookupFault formatFault trimmedFault glyphFault valueOf valueFrom trimmedValue hasUnits unitCount listFault
+unfolding emptyList Accepted tableFault headerFault directionFault present offsetsFault machinePart actionPart u16At u32At inside rule _then_ walk valuesFault lookupFault formatFault trimmedFault targetFault valueOf valueFrom trimmedValue hasUnits unitCount listFault
 empty-accepted = refl
 
 pub empty-none : differencesOf bareTable emptyList 1 ≡ []

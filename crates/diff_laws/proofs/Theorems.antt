@@ -34,7 +34,7 @@ use Rattle.diff_call.specs.Calls.{differencesOf, eitherFault, differencesCounte
 use Rattle.diff_call.proofs.Laws.{first-clear}
 use Rattle.encoding.specs.Codes.{All}
 use Rattle.diff_laws.specs.Reach.{InReach}
-use Rattle.diff_laws.specs.Unlike.{Alike, Founded, Unnamed, Listable}
+use Rattle.diff_laws.specs.Unlike.{SameAnswer, Founded, Unnamed, Listable}
 use Rattle.diff_laws.proofs.Unlike.{all-told}
 use Rattle.diff_laws.proofs.Complete.{all-named}
 use Rattle.diff_laws.proofs.Alone.{alone}
@@ -143,11 +143,11 @@ unfolding differencesOf
 told-parts t u n = all-told (meaningOf t n) (meaningOf u n)
 
 named-parts : (t u : List ℕ) (n : ℕ) → Bytes t → Bytes u → Accepted t n → Accepted u n → (d : Direction) (part : Part)
-    → Listable d part (differencesOf t u n) → Unnamed d part (differencesOf t u n) → Alike (meaningOf t n) (meaningOf u n) d part
+    → Listable d part (differencesOf t u n) → Unnamed d part (differencesOf t u n) → SameAnswer (meaningOf t n) (meaningOf u n) d part
 unfolding differencesOf meaningOf
 named-parts t u n b c a e = all-named (meaningOf t n) (meaningOf u n) (valid-meaning t n b a) (valid-meaning u n c e) refl
 
-unlike-sizes : (t u : List ℕ) (n : ℕ) (d : Direction) → (Alike (meaningOf t n) (meaningOf u n) d sizes → ⊥) → (g r c : ℕ)
+unlike-sizes : (t u : List ℕ) (n : ℕ) (d : Direction) → (SameAnswer (meaningOf t n) (meaningOf u n) d sizes → ⊥) → (g r c : ℕ)
     → Unnamed d (class g) (differencesOf t u n) × Unnamed d (cell r c) (differencesOf t u n)
 unfolding differencesOf
 unlike-sizes t u n = alone (meaningOf t n) (meaningOf u n)

@@ -21,7 +21,7 @@ use Rattle.diff_rule.specs.Order.{keyOf, Between, allNumbers}
 use Rattle.diff_rule.specs.Exchange.{exchanged}
 use Rattle.diff_call.specs.Calls.{differencesOf, differencesCounted, ListAnswer, differencesListed}
 use Rattle.diff_laws.specs.Reach.{InReach, Precedes}
-use Rattle.diff_laws.specs.Unlike.{Alike, Founded, Unnamed, Listable}
+use Rattle.diff_laws.specs.Unlike.{SameAnswer, Founded, Unnamed, Listable}
 
 -- an answer of `difference_count` for the tables t and u read with n
 abbrev pub CountAnswered : List ℕ → List ℕ → ℕ → CountAnswer → Type 0
@@ -48,9 +48,9 @@ pub record Changes : Type 0 where
   pub nothing-else : (t u : List ℕ) (n : ℕ) → All (Founded (meaningOf t n) (meaningOf u n)) (differencesOf t u n)
   -- and nothing is left out: a part that no difference names answers alike; a class or a cell where the sizes are not named either
   pub nothing-left-out : (t u : List ℕ) (n : ℕ) → Bytes t → Bytes u → Accepted t n → Accepted u n → (d : Direction) (part : Part)
-      → Listable d part (differencesOf t u n) → Unnamed d part (differencesOf t u n) → Alike (meaningOf t n) (meaningOf u n) d part
+      → Listable d part (differencesOf t u n) → Unnamed d part (differencesOf t u n) → SameAnswer (meaningOf t n) (meaningOf u n) d part
   -- where the sizes are unlike, no class and no cell of that direction is named
-  pub sizes-alone : (t u : List ℕ) (n : ℕ) (d : Direction) → (Alike (meaningOf t n) (meaningOf u n) d sizes → ⊥) → (g r c : ℕ)
+  pub sizes-alone : (t u : List ℕ) (n : ℕ) (d : Direction) → (SameAnswer (meaningOf t n) (meaningOf u n) d sizes → ⊥) → (g r c : ℕ)
       → Unnamed d (class g) (differencesOf t u n) × Unnamed d (cell r c) (differencesOf t u n)
   -- where the tables are exchanged, so are the marks, and nothing else
   pub exchange : (t u : List ℕ) (n : ℕ) → differencesOf u t n ≡ map exchanged (differencesOf t u n)

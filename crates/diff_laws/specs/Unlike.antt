@@ -13,15 +13,15 @@ use Rattle.diff_rule.specs.declared.Mark.{Mark}
 use Rattle.diff_rule.specs.declared.Mark.the-variants.{Changed, OnlyFirst, OnlySecond}
 use Rattle.diff_rule.specs.declared.Difference.{Difference}
 
-abbrev pub Alike : Meaning → Meaning → Direction → Part → Type 0
-Alike m m′ d p = ask m (along d p) ≡ ask m′ (along d p)
+abbrev pub SameAnswer : Meaning → Meaning → Direction → Part → Type 0
+SameAnswer m m′ d p = ask m (along d p) ≡ ask m′ (along d p)
 
 abbrev pub AllAlike : Aspect → Meaning → Meaning → Direction → ℕ → ℕ → Type 0
-AllAlike Sizes m m′ d x y = Alike m m′ d sizes
-AllAlike Class m m′ d x y = Alike m m′ d (class x)
-AllAlike Cell m m′ d x y = Alike m m′ d (cell x y)
-AllAlike Width m m′ d x y = Alike m m′ d (width x y)
-AllAlike Actions m m′ d x y = (k : ℕ) → Alike m m′ d (action x k)
+AllAlike Sizes m m′ d x y = SameAnswer m m′ d sizes
+AllAlike Class m m′ d x y = SameAnswer m m′ d (class x)
+AllAlike Cell m m′ d x y = SameAnswer m m′ d (cell x y)
+AllAlike Width m m′ d x y = SameAnswer m m′ d (width x y)
+AllAlike Actions m m′ d x y = (k : ℕ) → SameAnswer m m′ d (action x k)
 
 -- the part that is asked for; a glyph has a list where it has a first action
 abbrev pub namedPart : Aspect → ℕ → ℕ → Part

@@ -42,10 +42,10 @@ module _ (t u : List ℕ) (m : Machines) where
   class-equal x p q = ap (noted (m .direction) Class x 0) (sym (mark-same ℕ-discrete (classAt t (m .first) x) (classAt u (m .second) x) (p ∙ sym q)))
 
   -- glyphs that neither class table covers are of class 1 in both
-  pub classes-whole : (classes beside : ClassTable) (span : Span) → ClassesAt t (m .first) classes → ClassesAt u (m .second) beside
-      → Spans classes beside (m .glyphs) span → through (classDiffers t u m) (span .until - span .from) (span .from) ≡ classesBy t u m
+  pub classes-whole : (ones others : ClassTable) (span : Span) → ClassesAt t (m .first) ones → ClassesAt u (m .second) others
+      → Spans ones others (m .glyphs) span → through (classDiffers t u m) (span .until - span .from) (span .from) ≡ classesBy t u m
   unfolding classesBy
-  classes-whole classes beside span w v s =
+  classes-whole ones others span w v s =
       sym (through-within (classDiffers t u m) (m .glyphs) (span .from) (span .until) (s .rises) (s .most)
       (λ x l. class-equal x (class-before t (m .first) x (omega (arith, w .first, s .low x l .0))) (class-before u (m .second) x (omega (arith, v .first, s .low x l .1))))
       (λ x l k. class-equal x

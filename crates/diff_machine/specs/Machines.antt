@@ -51,8 +51,8 @@ pub record WithClasses (t u : List ℕ) (m : Machines) : Type 0 where
   pub others : 0 < classCount u (m .second)
 
 -- the glyphs below n from `from` on and before `until` hold all that one of two class tables covers; there may be others among them
-pub record Spans (classes beside : ClassTable) (n : ℕ) (s : Span) : Type 0 where
+pub record Spans (ones others : ClassTable) (n : ℕ) (s : Span) : Type 0 where
   pub rises : s .from ≤ s .until
   pub most : s .until ≤ n
-  pub low : (x : ℕ) → x < s .from → (x < classes .first) × (x < beside .first)
-  pub high : (x : ℕ) → s .until ≤ x → x < n → (classes .first + classes .count ≤ x) × (beside .first + beside .count ≤ x)
+  pub low : (x : ℕ) → x < s .from → (x < ones .first) × (x < others .first)
+  pub high : (x : ℕ) → s .until ≤ x → x < n → (ones .first + ones .count ≤ x) × (others .first + others .count ≤ x)

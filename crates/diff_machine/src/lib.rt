@@ -112,15 +112,15 @@ fn put_cells<'a>(
 }
 
 // The glyphs that one of two class tables covers; all others are of class 1 in both.
-fn class_span(classes: ClassTable, beside: ClassTable, glyphs: usize) -> Span
-    requires { ⌜ Near classes × Near beside ⌝ }
-    ensures { λ r. ⌜ Spans classes beside glyphs r ⌝ }
+fn class_span(ones: ClassTable, others: ClassTable, glyphs: usize) -> Span
+    requires { ⌜ Near ones × Near others ⌝ }
+    ensures { λ r. ⌜ Spans ones others glyphs r ⌝ }
 {
-    let end = fields::larger(classes.first + classes.count, beside.first + beside.count);
+    let end = fields::larger(ones.first + ones.count, others.first + others.count);
     let until = fields::lower(end, glyphs);
-    let first = fields::lower(classes.first, beside.first);
+    let start = fields::lower(ones.first, others.first);
     Span {
-        from: fields::lower(first, until),
+        from: fields::lower(start, until),
         until,
     }
 }
@@ -129,15 +129,15 @@ fn class_span(classes: ClassTable, beside: ClassTable, glyphs: usize) -> Span
 fn compare_classes<'a>(
     one: &'a [u8],
     other: &'a [u8],
-    classes: ClassTable,
-    beside: ClassTable,
+    ones: ClassTable,
+    others: ClassTable,
     glyph: u16,
 ) -> Comparison
-    requires { ⌜ Near classes × Near beside ⌝ }
-    ensures { λ r. ⌜ ((here there : ℕ) → ClassesAt (now (one .entry)) here classes → ClassesAt (now (other .entry)) there beside
+    requires { ⌜ Near ones × Near others ⌝ }
+    ensures { λ r. ⌜ ((here there : ℕ) → ClassesAt (now (one .entry)) here ones → ClassesAt (now (other .entry)) there others
         → markSeen r ≡ markOf ℕ-discrete (some (classAt (now (one .entry)) here glyph)) (some (classAt (now (other .entry)) there glyph))) ⌝ }
 {
-    if machine::class_by(one, classes, glyph) == machine::class_by(other, beside, glyph) {
+    if machine::class_by(one, ones, glyph) == machine::class_by(other, others, glyph) {
         return Comparison::Same;
     }
     Comparison::Differs(Mark::Changed)
@@ -154,14 +154,14 @@ fn put_classes<'a>(
     requires { ⌜ WithClasses (now one) (now other) machines × (to < 2 ^ 56) ⌝ }
     ensures { λ r. ⌜ Stores (now (list .entry)) (now (list .exit)) to r (classesBy (now (one .entry)) (now (other .entry)) machines) × (r ≤ to + 2 ^ 20) ⌝ }
 {
-    let classes = machine::class_table(one, machines.first);
-    let beside = machine::class_table(other, machines.second);
-    let span = class_span(classes, beside, machines.glyphs);
+    let ones = machine::class_table(one, machines.first);
+    let others = machine::class_table(other, machines.second);
+    let span = class_span(ones, others, machines.glyphs);
     let mut glyph = span.from;
     let mut at = to;
     while glyph < span.until {
         let direction = machines.direction;
-        let comparison = compare_classes(one, other, classes, beside, glyph as u16);
+        let comparison = compare_classes(one, other, ones, others, glyph as u16);
         at = diff_rule::put_noted(
             list,
             at,

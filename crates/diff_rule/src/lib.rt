@@ -42,6 +42,9 @@ pub struct Difference {
     pub class: u16,
 }
 
+// How many numbers a difference is stored as.
+pub const NUMBERS: usize = 5;
+
 fn direction_number(direction: Direction) -> u16
     ensures { λ r. ⌜ r ≡ directionNumber direction ⌝ }
 {

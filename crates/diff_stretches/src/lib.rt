@@ -62,7 +62,7 @@ fn first_run(table: &[u8], glyphs: usize, source: Source) -> Run
 }
 
 // Where a pass begins.
-pub fn begin<'a>(one: &'a [u8], other: &'a [u8], sources: Sources) -> RunPair
+pub fn begin_both<'a>(one: &'a [u8], other: &'a [u8], sources: Sources) -> RunPair
     requires { ⌜ BothSound (now one) (now other) sources ⌝ }
     ensures { λ r. ⌜ BothTell (now (one .entry)) (now (other .entry)) sources 0 r ⌝ }
 {
@@ -140,7 +140,7 @@ fn base_of(source: Source) -> usize
 }
 
 // The place of what a glyph has, by its run.
-fn place_of(table: &[u8], kind: Kind, source: Source, run: Run, glyph: usize) -> u16
+fn place_by_run(table: &[u8], kind: Kind, source: Source, run: Run, glyph: usize) -> u16
     requires { ⌜ (baseOf source < 2 ^ 16) × (glyph < 2 ^ 16) × (run .place < 2 ^ 41) ⌝ }
     ensures { λ r. ⌜ r ≡ runPlace kind (now (table .entry)) (baseOf source) (run .from) (run .place) (run .array) glyph ⌝ }
 {
@@ -169,8 +169,8 @@ pub fn next_stretch<'a>(
     GlyphStretch {
         end: fields::lower(both, glyphs),
         places: Places {
-            first: place_of(one, kind, source, a, glyph),
-            second: place_of(other, kind, beside, b, glyph),
+            first: place_by_run(one, kind, source, a, glyph),
+            second: place_by_run(other, kind, beside, b, glyph),
         },
         runs: RunPair {
             first: a,

@@ -35,7 +35,7 @@ use Rattle.diff_rule.proofs.Stored.{numbers-length}
 use Rattle.diff_rule.proofs.Through.{through-same}
 use Rattle.diff_glyphs.specs.Glyphs.{itemDiffers, glyphDiffers, glyphsDiffer, Rises, AllRise, Comparable}
 use Rattle.diff_table.specs.declared.DirectionPair.{DirectionPair}
-use Rattle.diff_table.specs.Sides.{GoodSide, GoodSides, sidesOf, sourcesOf, machinesIn, kindIn, sidesIn}
+use Rattle.diff_table.specs.Sides.{GoodSide, GoodSides, sidesOf, sourcesOf, machinesIn, glyphsIn, sidesIn}
 
 -- ---- a direction by its sources
 
@@ -51,7 +51,7 @@ module _ (t u : List ℕ) (s : DirectionPair) where
   abbrev other : Side
   other = by-sources u (s .glyphs) (s .second)
 
-  widths-are : widthsDiffer (s .direction) (s .glyphs) one other ≡ kindIn t u s Clusters
+  widths-are : widthsDiffer (s .direction) (s .glyphs) one other ≡ glyphsIn t u s Clusters
   unfolding widthsDiffer glyphsDiffer glyphDiffers itemDiffers by-sources
   widths-are =
       through-same
@@ -60,7 +60,7 @@ module _ (t u : List ℕ) (s : DirectionPair) where
       (λ g h l.
       ap₂ (recordsDiffer (s .direction) g) (item-get Clusters t (s .glyphs) (sourceAt t (s .first) Clusters) g (omega arith)) (item-get Clusters u (s .glyphs) (sourceAt u (s .second) Clusters) g (omega arith)))
 
-  lists-are : listsDiffer (s .direction) (s .glyphs) one other ≡ kindIn t u s Lists
+  lists-are : listsDiffer (s .direction) (s .glyphs) one other ≡ glyphsIn t u s Lists
   unfolding listsDiffer glyphsDiffer glyphDiffers itemDiffers by-sources
   lists-are =
       through-same
@@ -69,11 +69,11 @@ module _ (t u : List ℕ) (s : DirectionPair) where
       (λ g h l.
       ap₂ (listDiffers (s .direction) g) (item-get Lists t (s .glyphs) (sourceAt t (s .first) Lists) g (omega arith)) (item-get Lists u (s .glyphs) (sourceAt u (s .second) Lists) g (omega arith)))
 
-  by-parts : sidesDiffer (s .direction) (s .glyphs) one other ≡ machinesIn t u s ++ (kindIn t u s Clusters ++ kindIn t u s Lists)
+  by-parts : sidesDiffer (s .direction) (s .glyphs) one other ≡ machinesIn t u s ++ (glyphsIn t u s Clusters ++ glyphsIn t u s Lists)
   unfolding sidesDiffer by-sources
   by-parts = ap₂ (λ (x y : List Difference). machinesIn t u s ++ (x ++ y)) widths-are lists-are
 
-  pub side-parts : machinesIn t u s ++ (kindIn t u s Clusters ++ kindIn t u s Lists) ≡ sidesIn t u s
+  pub side-parts : machinesIn t u s ++ (glyphsIn t u s Clusters ++ glyphsIn t u s Lists) ≡ sidesIn t u s
   side-parts = sym by-parts ∙ ap₂ (λ (x y : Side). sidesDiffer (s .direction) (s .glyphs) x y) (sym (direction-is t (s .glyphs) (s .first))) (sym (direction-is u (s .glyphs) (s .second)))
 
 -- ---- what a good direction gives

@@ -34,8 +34,8 @@ sourcesOf t u s kind = record { kind = kind; glyphs = s .glyphs; first = sourceA
 abbrev pub machinesIn : List ℕ → List ℕ → DirectionPair → List Difference
 machinesIn t u s = machinesDiffer (s .direction) (s .glyphs) (machineOf t (s .glyphs) (machinePlace t (s .first))) (machineOf u (s .glyphs) (machinePlace u (s .second)))
 
-abbrev pub kindIn : List ℕ → List ℕ → DirectionPair → Kind → List Difference
-kindIn t u s kind = glyphsDiffer (s .direction) t u (sourcesOf t u s kind)
+abbrev pub glyphsIn : List ℕ → List ℕ → DirectionPair → Kind → List Difference
+glyphsIn t u s kind = glyphsDiffer (s .direction) t u (sourcesOf t u s kind)
 
 abbrev pub sidesIn : List ℕ → List ℕ → DirectionPair → List Difference
 sidesIn t u s = sidesDiffer (s .direction) (s .glyphs) (directionOf t (s .glyphs) (s .first)) (directionOf u (s .glyphs) (s .second))

@@ -10,13 +10,13 @@ ghost use Rattle.table.specs.Means.{meaningOf};
 ghost use Rattle.diff_rule.specs.Differences.{differences};
 ghost use Rattle.diff_rule.specs.Order.{allNumbers, Stores};
 ghost use Rattle.diff_glyphs.specs.Glyphs.{Comparable};
-ghost use Rattle.diff_table.specs.Sides.{GoodSides, sidesOf, sourcesOf, machinesIn, kindIn, sidesIn};
+ghost use Rattle.diff_table.specs.Sides.{GoodSides, sidesOf, sourcesOf, machinesIn, glyphsIn, sidesIn};
 use diff_stretches::Sources;
 use lookup_targets::Kind;
 use types::Direction;
 
 // Whether two tables are the same byte for byte, and so mean the same.
-fn same_bytes<'a>(one: &'a [u8], other: &'a [u8]) -> bool
+fn same_table<'a>(one: &'a [u8], other: &'a [u8]) -> bool
     ensures { λ r. ⌜ (r ≡ true → now (one .entry) ≡ now (other .entry)) ⌝ }
 {
     let count = one.len();
@@ -84,7 +84,7 @@ fn put_kind<'a>(
     to: usize,
 ) -> usize
     requires { ⌜ GoodSides (now one) (now other) sides × (to < 2 ^ 56) ⌝ }
-    ensures { λ r. ⌜ Stores (now (list .entry)) (now (list .exit)) to r (kindIn (now (one .entry)) (now (other .entry)) sides kind) × (r ≤ to + 2 ^ 26) ⌝ }
+    ensures { λ r. ⌜ Stores (now (list .entry)) (now (list .exit)) to r (glyphsIn (now (one .entry)) (now (other .entry)) sides kind) × (r ≤ to + 2 ^ 26) ⌝ }
 {
     let direction = sides.direction;
     let sources = sources_of(one, other, sides, kind);
@@ -92,7 +92,7 @@ fn put_kind<'a>(
 }
 
 // Stores the differences of the machines, and answers where they end.
-fn put_machines<'a>(
+fn put_side_machines<'a>(
     one: &'a [u8],
     other: &'a [u8],
     sides: DirectionPair,
@@ -119,7 +119,7 @@ fn put_side<'a>(
     requires { ⌜ GoodSides (now one) (now other) sides × (to < 2 ^ 54) ⌝ }
     ensures { λ r. ⌜ Stores (now (list .entry)) (now (list .exit)) to r (sidesIn (now (one .entry)) (now (other .entry)) sides) × (r ≤ to + 2 ^ 40) ⌝ }
 {
-    let machines = put_machines(one, other, sides, list, to);
+    let machines = put_side_machines(one, other, sides, list, to);
     let widths = put_kind(one, other, sides, Kind::Clusters, list, machines);
     put_kind(one, other, sides, Kind::Lists, list, widths)
 }
@@ -141,7 +141,7 @@ pub fn size_all<'a>(one: &'a [u8], other: &'a [u8], glyphs: usize) -> usize
     requires { ⌜ (tableFault (now one) glyphs ≡ Clear) × (tableFault (now other) glyphs ≡ Clear) ⌝ }
     ensures { λ r. ⌜ (r ≡ length (allNumbers (differences (meaningOf (now (one .entry)) glyphs) (meaningOf (now (other .entry)) glyphs)))) × (r < 2 ^ 30) ⌝ }
 {
-    if same_bytes(one, other) {
+    if same_table(one, other) {
         return 0;
     }
     let mut none = [0u16; 0];

@@ -1,7 +1,7 @@
 -- The first fault of a chain of fields (document 01, "Numbers of refusal": a field is found inside before it is judged).
 -- `Bad refusal at`: the refusal, and for 4 to 8 the offset of the first byte of the field that was found or judged; 0 for the others.
 use Prim.Native.Nat.{ℕ, _+_}
-use mathlib.Core.List.{List}
+use mathlib.Core.List.{List, [], _∷_}
 use mathlib.Core.Bool.{Bool, true, false}
 use lib.ListN.{length}
 use lib.Dec.{leb}
@@ -24,3 +24,9 @@ rule false r at = Bad r at
 -- refusal 4 unless `width` bytes stand at `at`
 unfoldable pub inside : List ℕ → ℕ → ℕ → Fault
 inside t at width = rule (leb (at + width) (length t)) Outside at
+
+-- the first fault of a list
+abbrev pub firstFault : List Fault → Fault
+firstFault [] = Clear
+firstFault (f ∷ []) = f
+firstFault (f ∷ g ∷ fs) = f then firstFault (g ∷ fs)

@@ -9,7 +9,7 @@ use Rattle.fields.specs.Field.{u32At}
 use Rattle.font_directory.specs.declared.TableRecord.{TableRecord}
 use Rattle.font_directory.specs.declared.Listing.the-variants.{Listed, Missing}
 use Rattle.font_directory.specs.Sum.{wordSum, wordsFor, checksumOf}
-use Rattle.font_directory.specs.Directory.{tableCount, recordAt, firstFrom, firstListed, tableOf}
+use Rattle.font_directory.specs.Directory.{tableCount, tableRecordAt, firstFrom, firstListed, tableOf}
 
 module _ (bytes : List ℕ) where
   -- none of `words` words, which hold all bytes, is summed yet
@@ -59,18 +59,18 @@ named-bytes font r =
     ap (λ (k : ℕ). take k (drop (r .offset) font)) s
 
 pub record-as : (font : List ℕ) (p s o l : ℕ) → s ≡ u32At font (p + 4) → o ≡ u32At font (p + 8) → l ≡ u32At font (p + 12)
-    → _≡_ {A = TableRecord} (record { sum = s; offset = o; length = l }) (recordAt font p)
+    → _≡_ {A = TableRecord} (record { sum = s; offset = o; length = l }) (tableRecordAt font p)
 record-as font p s o l a b d =
     ap (λ (x : ℕ). record { sum = x; offset = o; length = l }) a
     ∙ ap (λ (x : ℕ). record { sum = u32At font (p + 4); offset = x; length = l }) b
     ∙ ap (λ (x : ℕ). record { sum = u32At font (p + 4); offset = u32At font (p + 8); length = x }) d
 
 module _ (font : List ℕ) (tag : ℕ) where
-  pub listed-here : (n p word : ℕ) {r : TableRecord} → 0 < n → word ≡ u32At font p → word ≡ tag → r ≡ recordAt font p → firstFrom font tag n p ≡ Listed r
+  pub listed-here : (n p word : ℕ) {r : TableRecord} → 0 < n → word ≡ u32At font p → word ≡ tag → r ≡ tableRecordAt font p → firstFrom font tag n p ≡ Listed r
   unfolding firstFrom
   listed-here zero p word h w e q = absurd (omega arith)
   listed-here (suc n) p word h w e q =
-      let here : firstFrom font tag (suc n) p ≡ Listed (recordAt font p) = simp (eq-eqb (u32At font p) tag (sym w ∙ e)) in
+      let here : firstFrom font tag (suc n) p ≡ Listed (tableRecordAt font p) = simp (eq-eqb (u32At font p) tag (sym w ∙ e)) in
       here ∙ ap Listed (sym q)
 
   pub listed-next : (n p word : ℕ) → 0 < n → word ≡ u32At font p → (word ≡ tag → ⊥) → firstFrom font tag n p ≡ firstFrom font tag (n - 1) (p + 16)

@@ -24,13 +24,13 @@ abbrev pub directorySize : List ℕ → ℕ
 directorySize font = headerSize + recordSize * tableCount font
 
 -- the record at `p`, after its tag
-abbrev pub recordAt : List ℕ → ℕ → TableRecord
-recordAt font p = record { sum = u32At font (p + 4); offset = u32At font (p + 8); length = u32At font (p + 12) }
+abbrev pub tableRecordAt : List ℕ → ℕ → TableRecord
+tableRecordAt font p = record { sum = u32At font (p + 4); offset = u32At font (p + 8); length = u32At font (p + 12) }
 
 -- the first of `n` records from `p` on that has a tag
 unfoldable pub firstFrom : List ℕ → ℕ → ℕ → ℕ → Listing
 firstFrom font tag zero p = Missing
-firstFrom font tag (suc n) p = cond (eqb (u32At font p) tag) (Listed (recordAt font p)) (firstFrom font tag n (p + recordSize))
+firstFrom font tag (suc n) p = cond (eqb (u32At font p) tag) (Listed (tableRecordAt font p)) (firstFrom font tag n (p + recordSize))
 
 -- "If a tag stands twice, the first counts."
 unfoldable pub firstListed : List ℕ → ℕ → Listing

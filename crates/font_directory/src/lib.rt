@@ -3,7 +3,7 @@ ghost use mathlib.Core.Path.{_≡_};
 ghost use Prim.Native.Nat.{_+_, _≤_, _<_, _^_};
 ghost use lib.ListN.{length};
 ghost use Rattle.font_directory.specs.Sum.{wordsFor, checksumOf};
-ghost use Rattle.font_directory.specs.Directory.{directorySize, recordAt, firstListed, tableOf};
+ghost use Rattle.font_directory.specs.Directory.{directorySize, tableRecordAt, firstListed, tableOf};
 
 // What the directory says of a table: its checksum, where it begins in the font, and its length in bytes.
 pub struct TableRecord {
@@ -77,9 +77,9 @@ pub fn directory_size(font: &[u8]) -> usize
 }
 
 // What the record at `p` says.
-fn record_at(font: &[u8], p: usize) -> TableRecord
+fn table_record_at(font: &[u8], p: usize) -> TableRecord
     requires { ⌜ p < 2 ^ 32 ⌝ }
-    ensures { λ r. ⌜ r ≡ recordAt (now (font .entry)) p ⌝ }
+    ensures { λ r. ⌜ r ≡ tableRecordAt (now (font .entry)) p ⌝ }
 {
     let sum = fields::u32_at(font, p + SUM) as u32;
     let offset = fields::u32_at(font, p + OFFSET) as u32;
@@ -99,7 +99,7 @@ pub fn find_record(font: &[u8], tag: usize) -> Listing
     let mut left = fields::u16_at(font, TABLE_COUNT);
     while 0 < left {
         if fields::u32_at(font, p) == tag {
-            return Listing::Listed(record_at(font, p));
+            return Listing::Listed(table_record_at(font, p));
         }
         p += RECORD;
         left -= 1;

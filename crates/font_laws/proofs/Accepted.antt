@@ -8,9 +8,9 @@ use lib.ListN.{length, take, drop}
 use Rattle.fields.specs.declared.Fault.{Fault}
 use Rattle.fields.specs.declared.Fault.the-variants.{Clear, Bad}
 use Rattle.fields.specs.declared.Refusal.the-variants.{FontEnds}
-use Rattle.fields.specs.Faults.{_then_}
+use Rattle.fields.specs.Faults.{_then_, firstFault}
 use Rattle.fields.specs.Refusals.{numberOf}
-use Rattle.fields.specs.Laws.{then-first, then-second, then-go}
+use Rattle.fields.specs.Laws.{then-second, then-go}
 use Rattle.meaning.specs.Ask.{ask, sideOf}
 use Rattle.answers.specs.Says.{judgedBy, unlessBad}
 use Rattle.table.specs.Table.{tableFault, Accepted}
@@ -22,13 +22,14 @@ use Rattle.table_ask.specs.Places.{lookupIn, actionSpot}
 use Rattle.table_ask.specs.Components.{componentsHere, unlessFault, componentsOf}
 use Rattle.table_find.specs.Values.{foundIn, unlessRefused, valueAsked, unitsIn, unitsSaid, unitsAsked}
 use Rattle.line_rule.specs.Line.{Line}
-use Rattle.line_call.specs.Justified.{Lent, lengthsOf, inputTests, workTests, roomTest, firstFault, workedFault, lineFault, settled, justified}
+use Rattle.line_call.specs.Justified.{Lent, lengthsOf, workTests, roomTest, workedFault, lineFault, settled, justified}
+use Rattle.line_input.specs.Input.{inputTests}
 use Rattle.sheet_write.specs.Written.{sheetOf, lengthBy, sheetLength, writtenBy, written}
 use Rattle.font_directory.specs.declared.TableRecord.{TableRecord}
 use Rattle.font_directory.specs.declared.Listing.{Listing}
 use Rattle.font_directory.specs.declared.Listing.the-variants.{Listed, Missing}
 use Rattle.font_directory.specs.Directory.{firstListed, tableOf}
-use Rattle.font_open.specs.Opened.{just, maxp, glyphCountOf, insideFault, sumFault, placesFault, sumsFault, tablesFault, opened, refused, openedUnless, openedBy, directoryFault, fontOpened}
+use Rattle.font_open.specs.Opened.{just, maxp, glyphCountOf, insideFault, sumFault, extentsFault, sumsFault, tablesFault, opened, refused, openedUnless, openedBy, directoryFault, fontOpened}
 use Rattle.font_open.proofs.Laws.{tables-clear}
 use Rattle.font_laws.specs.Accepted.{ownFault, ServesTable, Opens}
 
@@ -61,7 +62,7 @@ module _ (font : List ℕ) where
   no-faults : (j m : TableRecord) → tablesFault font j m ≡ Clear → Opens font j (glyphCountOf font m)
   unfolding tablesFault
   no-faults j m e =
-      let rest = then-second (placesFault font j m) (sumsFault font j m then tableFault (tableOf font j) (glyphCountOf font m)) e in
+      let rest = then-second (extentsFault font j m) (sumsFault font j m then tableFault (tableOf font j) (glyphCountOf font m)) e in
       record {
         inside = tables-clear font j m e .0;
         serves = serving (tableOf font j) (glyphCountOf font m) (then-second (sumsFault font j m) (tableFault (tableOf font j) (glyphCountOf font m)) rest);
@@ -98,7 +99,7 @@ module _ (font : List ℕ) where
   -- ---- offsets (document 02, 4/14)
 
   placed-tables : (j m : TableRecord) → Placed (tablesFault font j m)
-  unfolding tablesFault placesFault sumsFault insideFault sumFault
+  unfolding tablesFault extentsFault sumsFault insideFault sumFault
   placed-tables j m = (zero-at _ _ and zero-at _ _ and zero-at _ _) and (zero-at _ _ and zero-at _ _) and placed-table (tableOf font j) (glyphCountOf font m)
 
   pub placed-font : (number at : ℕ) → fontOpened font ≡ refused number at → Offset number at

@@ -5,7 +5,7 @@ use mathlib.Core.Path.{_≡_}
 use mathlib.Core.List.{List, _++_}
 use lib.ListN.{length}
 use Rattle.fields.specs.declared.Fault.{Fault}
-use Rattle.fields.specs.Faults.{_then_}
+use Rattle.fields.specs.Faults.{_then_, firstFault}
 use Rattle.types.specs.declared.Direction.{Direction}
 use Rattle.meaning.specs.Ask.{Question, ask, sideOf}
 use Rattle.answers.specs.declared.Checked.{Checked}
@@ -18,7 +18,8 @@ use Rattle.table_ask.specs.Places.{lookupIn, actionSpot}
 use Rattle.table_ask.specs.Components.{componentsHere, componentsOf}
 use Rattle.table_find.specs.Values.{foundIn, valueAsked, unitsIn, leastOver, unitsOf, unitsAsked}
 use Rattle.line_rule.specs.Line.{Line}
-use Rattle.line_call.specs.Justified.{Lent, lengthsOf, inputTests, workTests, roomTest, firstFault, settled, justified}
+use Rattle.line_call.specs.Justified.{Lent, lengthsOf, workTests, roomTest, settled, justified}
+use Rattle.line_input.specs.Input.{inputTests}
 use Rattle.sheet_write.specs.declared.LengthAnswer.{LengthAnswer}
 use Rattle.sheet_write.specs.Written.{saysLength, sheetOf, sheetLength, bytes, written, stored}
 use Rattle.font_directory.specs.declared.TableRecord.{TableRecord}

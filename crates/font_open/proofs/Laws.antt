@@ -18,7 +18,7 @@ use Rattle.font_directory.specs.declared.Listing.{Listing}
 use Rattle.font_directory.specs.declared.Listing.the-variants.{Listed, Missing}
 use Rattle.font_directory.specs.Sum.{checksumOf}
 use Rattle.font_directory.specs.Directory.{directorySize, firstListed, tableOf}
-use Rattle.font_open.specs.Opened.{just, maxp, leastMaxp, Inside, glyphCountOf, insideFault, sumFault, placesFault, sumsFault, tablesFault, FontReply, opened, refused, openedUnless, openedBy, directoryFault, fontOpened}
+use Rattle.font_open.specs.Opened.{just, maxp, leastMaxp, Inside, glyphCountOf, insideFault, sumFault, extentsFault, sumsFault, tablesFault, FontReply, opened, refused, openedUnless, openedBy, directoryFault, fontOpened}
 
 module _ (font : List ℕ) where
   pub directory-as : {size : ℕ} {r : Fault} → size ≡ directorySize font → r ≡ rule (leb size (length font)) FontEnds 0 → r ≡ directoryFault font
@@ -40,12 +40,12 @@ module _ (font : List ℕ) where
 
   module _ (j m : TableRecord) where
     pub places-as : {f g h u r : Fault} → f ≡ insideFault font j → g ≡ insideFault font m → h ≡ rule (leb leastMaxp (m .length)) FontEnds 0
-        → u ≡ (g then h) → r ≡ (f then u) → r ≡ placesFault font j m
-    unfolding placesFault
+        → u ≡ (g then h) → r ≡ (f then u) → r ≡ extentsFault font j m
+    unfolding extentsFault
     places-as a b c d e = then-of e a (then-of d b c)
 
-    pub places-clear : placesFault font j m ≡ Clear → Inside font j × Inside font m
-    unfolding placesFault
+    pub places-clear : extentsFault font j m ≡ Clear → Inside font j × Inside font m
+    unfolding extentsFault
     places-clear e =
         let rest = then-second (insideFault font j) (insideFault font m then rule (leb leastMaxp (m .length)) FontEnds 0) e in (
           inside-clear j (then-first (insideFault font j) (insideFault font m then rule (leb leastMaxp (m .length)) FontEnds 0) e),
@@ -57,7 +57,7 @@ module _ (font : List ℕ) where
     sums-as a b e = then-of e a b
 
     -- the chain by its first fault; `f` and `g` are its first two parts as the code has them
-    module _ {f : Fault} (a : f ≡ placesFault font j m) where
+    module _ {f : Fault} (a : f ≡ extentsFault font j m) where
       pub places-stop : {r : Refusal} {at : ℕ} → f ≡ Bad r at → f ≡ tablesFault font j m
       unfolding tablesFault
       places-stop e = a ∙ sym (then-stop _ (sym a ∙ e))
@@ -75,7 +75,7 @@ module _ (font : List ℕ) where
 
     pub tables-clear : tablesFault font j m ≡ Clear → Inside font j × Inside font m
     unfolding tablesFault
-    tables-clear e = places-clear (then-first (placesFault font j m) (sumsFault font j m then tableFault (tableOf font j) (glyphCountOf font m)) e)
+    tables-clear e = places-clear (then-first (extentsFault font j m) (sumsFault font j m then tableFault (tableOf font j) (glyphCountOf font m)) e)
 
     -- both tables are listed
     module _ {f : Fault} (a : f ≡ tablesFault font j m) where

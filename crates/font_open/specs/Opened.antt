@@ -48,8 +48,8 @@ unfoldable pub sumFault : List ℕ → TableRecord → Fault
 sumFault font r = rule (eqb (checksumOf (tableOf font r)) (r .sum)) WrongSum 0
 
 -- "21, one is not wholly in the file, or 'maxp' is under 6 bytes"; the record of 'just' is `j`, that of 'maxp' `m`
-unfoldable pub placesFault : List ℕ → TableRecord → TableRecord → Fault
-placesFault font j m = insideFault font j then insideFault font m then rule (leb leastMaxp (m .length)) FontEnds 0
+unfoldable pub extentsFault : List ℕ → TableRecord → TableRecord → Fault
+extentsFault font j m = insideFault font j then insideFault font m then rule (leb leastMaxp (m .length)) FontEnds 0
 
 -- "23, a checksum disagrees"
 unfoldable pub sumsFault : List ℕ → TableRecord → TableRecord → Fault
@@ -57,7 +57,7 @@ sumsFault font j m = sumFault font j then sumFault font m
 
 -- both before the refusals of document 01, which are those of the bytes of 'just', read with the count
 unfoldable pub tablesFault : List ℕ → TableRecord → TableRecord → Fault
-tablesFault font j m = placesFault font j m then sumsFault font j m then tableFault (tableOf font j) (glyphCountOf font m)
+tablesFault font j m = extentsFault font j m then sumsFault font j m then tableFault (tableOf font j) (glyphCountOf font m)
 
 -- what an answer says: the offset and the length of 'just' and the glyph count; or a refusal's number and, for 4 to 8, its offset from the start of 'just'
 pub data FontReply : Type 0 where

@@ -3,7 +3,7 @@ ghost use mathlib.Core.Path.{_≡_};
 ghost use Rattle.table.specs.Table.{tableFault};
 ghost use Rattle.font_directory.specs.declared.Listing.the-variants.{Listed};
 ghost use Rattle.font_directory.specs.Directory.{tableOf};
-ghost use Rattle.font_open.specs.Opened.{Inside, glyphCountOf, insideFault, sumFault, placesFault, sumsFault, tablesFault, saysFont, openedBy, directoryFault, fontOpened};
+ghost use Rattle.font_open.specs.Opened.{Inside, glyphCountOf, insideFault, sumFault, extentsFault, sumsFault, tablesFault, saysFont, openedBy, directoryFault, fontOpened};
 ghost use Rattle.font_open.specs.OpenedInC.{fontIn};
 use fields::Fault;
 use fields::Refusal;
@@ -73,7 +73,7 @@ fn sum_fault(font: &[u8], place: TableRecord) -> Fault
 }
 
 // The glyph count that 'maxp' has.
-fn count_of(font: &[u8], maxp: TableRecord) -> u32
+fn glyph_count_of(font: &[u8], maxp: TableRecord) -> u32
     requires { ⌜ Inside (now font) maxp ⌝ }
     ensures { λ r. ⌜ r ≡ glyphCountOf (now (font .entry)) maxp ⌝ }
 {
@@ -82,19 +82,19 @@ fn count_of(font: &[u8], maxp: TableRecord) -> u32
     fields::u16_at(&font[from..to], GLYPH_COUNT) as u32
 }
 
-// The first fault of the table that a record names, read with a glyph count.
-fn table_fault(font: &[u8], place: TableRecord, count: u32) -> Fault
-    requires { ⌜ Inside (now font) place ⌝ }
-    ensures { λ r. ⌜ r ≡ tableFault (tableOf (now (font .entry)) place) count ⌝ }
+// The first fault of 'just', read with a glyph count.
+fn just_fault(font: &[u8], just: TableRecord, count: u32) -> Fault
+    requires { ⌜ Inside (now font) just ⌝ }
+    ensures { λ r. ⌜ r ≡ tableFault (tableOf (now (font .entry)) just) count ⌝ }
 {
-    let from = place.offset as usize;
-    let to = from + place.length as usize;
+    let from = just.offset as usize;
+    let to = from + just.length as usize;
     table::table_fault(&font[from..to], count)
 }
 
 // Refusal 21 unless both tables are wholly in the font and 'maxp' holds the glyph count.
-fn places_fault(font: &[u8], just: TableRecord, maxp: TableRecord) -> Fault
-    ensures { λ r. ⌜ r ≡ placesFault (now (font .entry)) just maxp ⌝ }
+fn extents_fault(font: &[u8], just: TableRecord, maxp: TableRecord) -> Fault
+    ensures { λ r. ⌜ r ≡ extentsFault (now (font .entry)) just maxp ⌝ }
 {
     let just_inside = inside_fault(font, just);
     let maxp_inside = inside_fault(font, maxp);
@@ -116,7 +116,7 @@ fn sums_fault(font: &[u8], just: TableRecord, maxp: TableRecord) -> Fault
 fn tables_fault(font: &[u8], just: TableRecord, maxp: TableRecord) -> Fault
     ensures { λ r. ⌜ r ≡ tablesFault (now (font .entry)) just maxp ⌝ }
 {
-    let places = places_fault(font, just, maxp);
+    let places = extents_fault(font, just, maxp);
     if let Fault::Bad { refusal: _, at: _ } = places {
         return places;
     }
@@ -124,7 +124,7 @@ fn tables_fault(font: &[u8], just: TableRecord, maxp: TableRecord) -> Fault
     if let Fault::Bad { refusal: _, at: _ } = sums {
         return sums;
     }
-    table_fault(font, just, count_of(font, maxp))
+    just_fault(font, just, glyph_count_of(font, maxp))
 }
 
 // What opening a font answers where the directory has both tables.
@@ -135,7 +135,7 @@ fn open_tables(font: &[u8], just: TableRecord, maxp: TableRecord) -> FontAnswer
         Fault::Clear => FontAnswer::Opened {
             offset: just.offset,
             length: just.length,
-            count: count_of(font, maxp),
+            count: glyph_count_of(font, maxp),
         },
         Fault::Bad { refusal, at } => FontAnswer::Refused { refusal, at },
     }

@@ -431,7 +431,7 @@ pub extern "C" fn just_table_components(
 ) -> JustStretch
     ensures { λ r. ⌜ r ≡ stretchIn (componentsOf (now (table .entry)) glyphs (directionIn direction) glyph number) ⌝ }
 {
-    let stretch = table_ask::components_at(
+    let stretch = table_ask::component_stretch(
         table,
         glyphs,
         types::direction_in(direction),

@@ -7,7 +7,7 @@ use Rattle.types.specs.declared.Verdict.{Verdict}
 use Rattle.line_rule.specs.declared.LineShape.{LineShape}
 use Rattle.line_call.specs.declared.LineAnswer.{LineAnswer}
 use Rattle.line_call.specs.Justified.{Lent, saysLine, justified}
-use Rattle.line_call.specs.Settle.{lineBy}
+use Rattle.line_rule.specs.Shape.{lineBy}
 use Rattle.line_justify.specs.Outcome.{outcomeIs}
 use Rattle.just_line.specs.declared.JustLine.{JustLine}
 use Rattle.just_line.specs.LineInC.{lineIn, calledIn, calledIs}

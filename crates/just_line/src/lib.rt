@@ -3,7 +3,8 @@
 // is 0 for horizontal, any other number for vertical. specs/LineInC.antt says what the struct holds.
 ghost use mathlib.Core.Path.{_≡_};
 ghost use Rattle.line_call.specs.Justified.{saysLine, justified};
-ghost use Rattle.line_call.specs.Settle.{lineBy, lentBy};
+ghost use Rattle.line_rule.specs.Shape.{lineBy};
+ghost use Rattle.line_call.specs.Settle.{lentBy};
 ghost use Rattle.just_line.specs.LineInC.{shapeIn, lineIn, calledIn, calledIs};
 use line_call::LineAnswer;
 use line_rule::LineShape;

@@ -1,5 +1,4 @@
-pub mod Tests
-pub mod Gaps
+pub mod Copies
 pub mod Work
 pub mod Outcomes
 pub mod Theorems

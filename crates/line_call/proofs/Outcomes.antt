@@ -32,8 +32,9 @@ use Rattle.line_call.specs.declared.Worked.{Worked}
 use Rattle.line_call.specs.declared.Worked.the-variants as worked
 use Rattle.line_call.specs.Justified.{justifies, roomTest, workedFault, lineFault, settled, justified}
 use Rattle.line_call.specs.Settle.{lentBy, settlementIs, settlementIn, BitRoom, Tells}
-use Rattle.line_call.specs.Steps.{inputFault, Admitted, workFault, restFault, workedBy, MovesOf, WorkedOut, Counted, LineRoom, refusedBy, Deliverable, Delivered, SettledIn}
-use Rattle.line_call.proofs.Tests.{lengths-hold, sizes-small}
+use Rattle.line_input.specs.Steps.{inputFault}
+use Rattle.line_call.specs.Steps.{Admitted, workFault, restFault, workedBy, MovesOf, WorkedOut, Counted, LineRoom, refusedBy, Deliverable, Delivered, SettledIn}
+use Rattle.line_input.proofs.Tests.{lengths-hold, sizes-small}
 use Rattle.line_call.proofs.Work.{barred}
 
 -- ---- the verdicts that a room tells

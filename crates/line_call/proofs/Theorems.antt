@@ -30,13 +30,13 @@ use Rattle.share.specs.Line.{Glyph, evens, odds, lineMoves, lineLeft, beforeMov
 use Rattle.share.proofs.Lines.{line-sum-signed, line-remainder, line-limits, line-full, line-lengths}
 use Rattle.line_rule.specs.Line.{Line, goesBack, gapOf, shrinks, gapSize, walkMachine, columnOf, walkOf, hasStopped, classesOf, entriesOf, partsFor, beforeOf, afterOf, remainderOf, verdictsOf}
 use Rattle.line_rule.proofs.Still.{none-signed}
-use Rattle.line_moves.specs.Parts.{KnownGlyphs}
+use Rattle.line_input.specs.Input.{KnownGlyphs}
 use Rattle.line_moves.proofs.Walks.{walk-length}
 use Rattle.line_moves.proofs.Parts.{parts-length}
 use Rattle.line_call.specs.Justified.{Lent, justifies, refuses, lengthsOf, workedFault, lineFault, settled, justified}
 use Rattle.line_call.specs.Settle.{storedIn}
 use Rattle.line_call.specs.FullFactors.{partsIn, LimitsFull, LimitsIs}
-use Rattle.line_call.proofs.Tests.{lengths-hold, known-each}
+use Rattle.line_input.proofs.Tests.{lengths-hold, known-each}
 
 -- ---- refusals
 

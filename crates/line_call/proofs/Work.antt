@@ -23,15 +23,17 @@ use Rattle.share.proofs.Lines.{line-sum}
 use Rattle.line_rule.specs.Line.{Line, goesBack, gapOf, shrinks, gapSize, walkOf, hasStopped, classesOf, entriesOf, partsFor, beforeOf, afterOf, remainderOf}
 use Rattle.line_moves.specs.declared.Shared.{Shared}
 use Rattle.line_moves.specs.declared.Shared.the-variants.{Left, Over}
-use Rattle.line_moves.specs.Parts.{inUnits, SharedOut, SharedGap}
+use Rattle.units.specs.Fixed.{inUnits}
+use Rattle.line_moves.specs.Parts.{SharedOut, SharedGap}
 use Rattle.line_moves.proofs.Sharing.{left-small}
-use Rattle.line_call.specs.declared.Gap.the-variants as gap
+use Rattle.line_input.specs.declared.Gap.the-variants as gap
 use Rattle.line_call.specs.declared.Worked.{Worked}
 use Rattle.line_call.specs.declared.Worked.the-variants as worked
-use Rattle.line_call.specs.Justified.{within, noneNegative, goodAdvances, allKnown}
-use Rattle.line_call.specs.Steps.{measuredLine, gapIn, workFault, workedBy, MovesOf, WorkedOut}
-use Rattle.line_call.proofs.Tests.{and-left, and-right}
-use Rattle.line_call.proofs.Gaps.{within-most, apart}
+use Rattle.line_input.specs.Input.{within, noneNegative, goodAdvances, allKnown}
+use Rattle.line_input.specs.Steps.{measuredLine, gapIn}
+use Rattle.line_call.specs.Steps.{workFault, workedBy, MovesOf, WorkedOut}
+use Rattle.line_input.proofs.Tests.{and-left, and-right}
+use Rattle.line_input.proofs.Gaps.{within-most, apart}
 
 -- ---- the gap that was found
 

@@ -4,15 +4,13 @@ use mathlib.Core.Path.{_≡_}
 use mathlib.Core.Bool.{true, cond}
 use mathlib.Core.List.{List, map}
 use lib.IntN.{ℤ, pos}
-use Rattle.meaning.specs.Ask.{sideOf}
-use Rattle.table.specs.Means.{meaningOf}
 use Rattle.share.specs.Line.{Glyph, evens, odds, signedOf, noneUnlimited, fullMoves, fullTotal}
 use Rattle.line_rule.specs.Line.{Line, shrinks, gapSize, partsFor}
-use Rattle.line_call.specs.Justified.{Lent, justifies, justified}
+use Rattle.line_call.specs.Justified.{Lent, sideFor, justifies, justified}
 
 -- the parts of a line's glyphs by its table
 abbrev pub partsIn : List ℕ → ℕ → Line → List Glyph
-partsIn t n l = partsFor (sideOf (l .direction) (meaningOf t n)) l
+partsIn t n l = partsFor (sideFor t n l) l
 
 -- every side that takes part has its full factor, each other side 0, and no stage has an unlimited glyph
 pub record FullFactors (t : List ℕ) (n : ℕ) (l : Line) (b : Lent) : Type 0 where

@@ -1,4 +1,4 @@
--- A line's call from its parameters, and all that it settles before the verdicts are stored (document 01, demand 2): the answer, how many verdicts there are to store,
+-- What is lent to a line's call, and all that it settles before the verdicts are stored (document 01, demand 2): the answer, how many verdicts there are to store,
 -- what the lent classes and movements hold, and where the verdicts are told until then.
 use Prim.Native.Nat.{ℕ, _*_, _≤_}
 use mathlib.Core.Path.{_≡_}
@@ -6,26 +6,11 @@ use mathlib.Core.List.{List}
 use lib.IntN.{ℤ}
 use lib.ListN.{length, take}
 use Rattle.types.specs.declared.Verdict.{Verdict}
-use Rattle.line_rule.specs.declared.LineShape.{LineShape}
-use Rattle.line_rule.specs.Line.{Line}
 use Rattle.line_verdicts.specs.Bits.{told}
 use Rattle.line_call.specs.declared.Settled.{Settled}
 use Rattle.line_call.specs.Justified.{Lent, LineReply, justifies, refuses, saysLine, Outcome}
 
--- the line and what is lent, as the call has them
-abbrev pub lineBy : LineShape → List ℕ → List ℕ → List ℤ → Line
-lineBy shape sizes glyphs advances =
-    record {
-      direction = shape .direction;
-      starts = shape .starts;
-      ends = shape .ends;
-      sizes = sizes;
-      glyphs = glyphs;
-      advances = advances;
-      target = shape .target;
-      edition = shape .edition;
-    }
-
+-- what is lent, as the call has it
 abbrev pub lentBy : List ℕ → List ℤ → List ℤ → List Verdict → Lent
 lentBy classes before after verdicts = record { classes = classes; before = before; after = after; verdicts = verdicts }
 

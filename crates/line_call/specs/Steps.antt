@@ -1,57 +1,34 @@
--- Names for the contracts of the functions inside the crate: the refusals of a line's call in three stretches (the table's, 9, 10, 18 and 11; 12 to 15; 16), what each
--- stretch leaves, and how it is delivered.
+-- Names for the contracts of the functions inside the crate: what the first stretch of a line's refusals leaves (the table's, 9, 10, 18 and 11: `inputFault` of
+-- crates/line_input), the other two stretches (12 to 15; 16), what they leave, and how it is delivered.
 use Prim.Native.Nat.{ℕ, _*_, _<_, _≤_, _^_}
 use mathlib.Core.Path.{_≡_}
-use mathlib.Core.Bool.{false, cond, _&&_}
-use mathlib.Core.List.{List, [], _∷_, map}
+use mathlib.Core.List.{List, map}
 use lib.IntN.{ℤ}
 use lib.ListN.{length, replicate}
 use Rattle.fields.specs.declared.Refusal.{Refusal}
 use Rattle.fields.specs.declared.Fault.{Fault}
 use Rattle.fields.specs.declared.Fault.the-variants.{Clear, Bad}
-use Rattle.fields.specs.Faults.{_then_}
-use Rattle.types.specs.declared.Direction.the-variants.{Horizontal}
+use Rattle.fields.specs.Faults.{_then_, firstFault}
 use Rattle.types.specs.declared.Verdict.{Verdict}
 use Rattle.meaning.specs.Meaning.{Side}
 use Rattle.meaning.specs.Ask.{sideOf}
 use Rattle.share.specs.Share.{total}
-use Rattle.share.specs.Line.{evens, odds, signedOf, sumℤ}
+use Rattle.share.specs.Line.{evens, odds, signedOf}
 use Rattle.table.specs.Table.{tableFault}
 use Rattle.table.specs.Means.{meaningOf}
-use Rattle.line_rule.specs.Line.{Line, gapOf, shrinks, walkOf, classesOf, entriesOf, beforeOf, afterOf, remainderOf, verdictsOf}
-use Rattle.line_moves.specs.Parts.{SmallSizes, inUnits}
+use Rattle.line_rule.specs.Line.{Line, shrinks, walkOf, classesOf, entriesOf, beforeOf, afterOf, remainderOf, verdictsOf}
+use Rattle.line_input.specs.Input.{SmallSizes}
 use Rattle.line_call.specs.declared.LineAnswer.the-variants.{Justified, Refused}
 use Rattle.line_call.specs.declared.Settled.{Settled}
 use Rattle.line_call.specs.declared.Call.{Call}
-use Rattle.line_call.specs.declared.Sum.{Sum}
-use Rattle.line_call.specs.declared.Sum.the-variants as sum
-use Rattle.line_call.specs.declared.Gap.{Gap}
-use Rattle.line_call.specs.declared.Gap.the-variants as gap
 use Rattle.line_call.specs.declared.Tally.{Tally}
 use Rattle.line_call.specs.declared.Worked.{Worked}
 use Rattle.line_call.specs.declared.Worked.the-variants as worked
-use Rattle.line_call.specs.Justified.{within, noneNegative, goodAdvances, inputTests, workTests, roomTest, firstFault, settled}
-use Rattle.line_call.specs.Settle.{lineBy, lentBy, settlementIs, settlementIn, Tells}
+use Rattle.line_call.specs.Justified.{workTests, roomTest, settled}
+use Rattle.line_rule.specs.Shape.{lineBy}
+use Rattle.line_call.specs.Settle.{lentBy, settlementIs, settlementIn, Tells}
 
--- ---- the table's refusals, then 9, 10, 18 and 11
-
-unfoldable pub inputFault : List ℕ → ℕ → Line → List ℕ → Fault
-inputFault t n l lengths = firstFault (tableFault t n ∷ inputTests l lengths)
-
--- ---- 12: the advances' sum, and the gap
-
--- a line of which only its advances and its target are said: no size and no edition
-abbrev pub measuredLine : List ℤ → ℤ → Line
-measuredLine advances target =
-    record { direction = Horizontal; starts = false; ends = false; sizes = []; glyphs = []; advances = advances; target = target; edition = 0 }
-
-abbrev pub sumIn : List ℤ → Sum
-sumIn advances = cond (noneNegative advances && within (sumℤ advances)) (sum.Total (inUnits (sumℤ advances))) sum.Unfit
-
-unfoldable pub gapIn : Line → Gap
-gapIn l = cond (goodAdvances l) (gap.Of (inUnits (gapOf l))) gap.Unfit
-
--- what is known of a table and a line that none of these bars
+-- what is known of a table and a line that neither the table's refusals nor 9, 10, 18 and 11 bar
 pub record Admitted (t : List ℕ) (n : ℕ) (zs gs : List ℕ) : Type 0 where
   pub accepted : tableFault t n ≡ Clear
   pub short : length gs ≤ 1024

@@ -2,24 +2,23 @@
 // Here: all of it but the storing of the verdicts, whose number `settle` answers beside the call's answer, and whose
 // bits it leaves in a lent room. No lent class or movement is written before every refusal is judged.
 ghost use mathlib.Core.Path.{_≡_};
-ghost use mathlib.Core.Bool.{_||_};
-ghost use mathlib.Core.List.{List, [], _∷_};
+ghost use mathlib.Core.List.{List};
 ghost use Prim.Native.Nat.{_*_};
-ghost use lib.Dec.{eqb, ltb};
 ghost use lib.ListN.{length};
 ghost use Rattle.types.specs.declared.Verdict.{Verdict};
 ghost use Rattle.meaning.specs.Ask.{sideOf};
 ghost use Rattle.table.specs.Means.{meaningOf};
 ghost use Rattle.line_rule.specs.Line.{verdictsOf};
 ghost use Rattle.line_call.specs.declared.Worked.the-variants.{Bad};
-ghost use Rattle.line_call.specs.Justified.{allLong, goodSize, goodSizes, allKnown, justified};
-ghost use Rattle.line_call.specs.Settle.{lineBy, lentBy, settlementIs, settlementIn, BitRoom, Tells};
-ghost use Rattle.line_call.specs.Steps.{measuredLine, sumIn, gapIn, inputFault, Admitted, workFault, sideIn, calledLine, WorkedOut, Counted, WorkRoom, LineRoom, refusedBy, Deliverable, Delivered, SettledCall};
+ghost use Rattle.line_call.specs.Justified.{justified};
+ghost use Rattle.line_rule.specs.Shape.{lineBy};
+ghost use Rattle.line_call.specs.Settle.{lentBy, settlementIs, settlementIn, BitRoom, Tells};
+ghost use Rattle.line_call.specs.Steps.{Admitted, workFault, sideIn, calledLine, WorkedOut, Counted, WorkRoom, LineRoom, refusedBy, Deliverable, Delivered, SettledCall};
 use fields::Fault;
 use fields::Refusal;
+use line_input::Gap;
 use line_moves::Shared;
 use line_rule::LineShape;
-use units::Units;
 
 // What a line's call answers: the remainder in units, the count of entries that the class walk took, and the count
 // of verdicts; or the refusal and its offset.
@@ -39,18 +38,6 @@ pub enum LineAnswer {
 pub struct Settled {
     pub answer: LineAnswer,
     pub stored: usize,
-}
-
-// The sum of advances, or that they may not be.
-enum Sum {
-    Total(Units),
-    Unfit,
-}
-
-// A line's gap, negative where the line shrinks; or that advances and target may not be.
-enum Gap {
-    Of(Units),
-    Unfit,
 }
 
 // What a line's call says beside its slices: the font's count of glyphs, the line's shape, and the room for verdicts.
@@ -73,158 +60,6 @@ struct Tally {
 enum Worked {
     Done(Tally),
     Bad { refusal: Refusal, at: usize },
-}
-
-// The most units that advances may sum to, and the most that a target may be.
-const MOST: u64 = 1073741823;
-
-// The most glyphs of a line.
-const LONGEST: usize = 1024;
-
-// The most units of a point size: 1,024 points.
-const LARGEST: u32 = 67108864;
-
-// Refusal 9's test.
-fn equal_lengths(
-    glyphs: usize,
-    sizes: usize,
-    advances: usize,
-    classes: usize,
-    before: usize,
-    after: usize,
-) -> bool
-    ensures { λ r. ⌜ r ≡ allLong glyphs (sizes ∷ advances ∷ classes ∷ before ∷ after ∷ []) ⌝ }
-{
-    if sizes != glyphs {
-        return false;
-    }
-    if advances != glyphs {
-        return false;
-    }
-    if classes != glyphs {
-        return false;
-    }
-    if before != glyphs {
-        return false;
-    }
-    after == glyphs
-}
-
-// Whether a size is within its bounds.
-fn good_size(size: u32) -> bool
-    ensures { λ r. ⌜ r ≡ goodSize size ⌝ }
-{
-    if size < 1 {
-        return false;
-    }
-    size <= LARGEST
-}
-
-// Refusal 11's test.
-fn good_sizes(sizes: &[u32]) -> bool
-    ensures { λ r. ⌜ r ≡ goodSizes (now (sizes .entry)) ⌝ }
-{
-    let mut i = 0;
-    while i < sizes.len() {
-        if good_size(sizes[i]) {
-            i += 1;
-        } else {
-            return false;
-        }
-    }
-    true
-}
-
-// The table's refusals, then 9, 10, 18 and 11.
-fn input_fault(
-    table: &[u8],
-    count: u32,
-    shape: LineShape,
-    sizes: &[u32],
-    glyphs: &[u16],
-    advances: &[i32],
-    classes: usize,
-    before: usize,
-    after: usize,
-) -> Fault
-    ensures { λ r. ⌜
-        r ≡ inputFault (now (table .entry)) count (lineBy shape (now (sizes .entry)) (now (glyphs .entry)) (now (advances .entry)))
-        (classes ∷ before ∷ after ∷ [])
-        ⌝ }
-{
-    let n = glyphs.len();
-    let table_is = table::table_fault(table, count);
-    let equal = equal_lengths(n, sizes.len(), advances.len(), classes, before, after);
-    let lengths = fields::ruled(equal, Refusal::UnequalLengths, 0);
-    let short = fields::ruled(n <= LONGEST, Refusal::LongLine, 0);
-    let known = line_rule::known_edition(shape.edition);
-    let edition = fields::ruled(known, Refusal::UnknownEdition, 0);
-    let sized = fields::ruled(good_sizes(sizes), Refusal::PointSize, 0);
-    fields::then(
-        table_is,
-        fields::then(lengths, fields::then(short, fields::then(edition, sized))),
-    )
-}
-
-// The sum of advances of which none is negative, at most the most that it may be.
-fn sum_of(advances: &[i32]) -> Sum
-    ensures { λ r. ⌜ r ≡ sumIn (now (advances .entry)) ⌝ }
-{
-    let mut sum: u64 = 0;
-    let mut i = 0;
-    while i < advances.len() {
-        let advance = advances[i];
-        if advance < 0 {
-            return Sum::Unfit;
-        }
-        sum += advance as u64;
-        if MOST < sum {
-            return Sum::Unfit;
-        }
-        i += 1;
-    }
-    Sum::Total(Units(sum as i64))
-}
-
-// The gap, unless refusal 12 bars the line.
-fn gap_of(advances: &[i32], target: i32) -> Gap
-    ensures { λ r. ⌜ r ≡ gapIn (measuredLine (now (advances .entry)) target) ⌝ }
-{
-    let Sum::Total(sum) = sum_of(advances) else {
-        return Gap::Unfit;
-    };
-    if target < 0 {
-        return Gap::Unfit;
-    }
-    if MOST < target as u64 {
-        return Gap::Unfit;
-    }
-    Gap::Of(Units((target as i64) - sum.0))
-}
-
-// Whether a glyph is one of the font's, or deleted.
-fn known(count: u32, glyph: u16) -> bool
-    ensures { λ r. ⌜ r ≡ (ltb glyph count || eqb glyph 0xFFFF) ⌝ }
-{
-    if (glyph as u32) < count {
-        return true;
-    }
-    glyph == 0xFFFF
-}
-
-// Refusal 13's test.
-fn all_known(count: u32, glyphs: &[u16]) -> bool
-    ensures { λ r. ⌜ r ≡ allKnown count (now (glyphs .entry)) ⌝ }
-{
-    let mut i = 0;
-    while i < glyphs.len() {
-        if known(count, glyphs[i]) {
-            i += 1;
-        } else {
-            return false;
-        }
-    }
-    true
 }
 
 fn copy_classes(from: &[u8], to: &mut [u8])
@@ -262,10 +97,10 @@ fn share_out(
 {
     let count = call.count;
     let shape = call.shape;
-    let Gap::Of(gap) = gap_of(advances, shape.target) else {
+    let Gap::Of(gap) = line_input::gap_of(advances, shape.target) else {
         return barred(Refusal::Advances);
     };
-    if all_known(count, glyphs) {
+    if line_input::all_known(count, glyphs) {
         let walked = line_moves::line_walk(table, count, shape, glyphs, held);
         if walked.ends {
             let shared = line_moves::share_glyphs(
@@ -474,7 +309,7 @@ pub fn settle<'a, 'b>(
         (now (work .exit))
         ⌝ }
 {
-    let fault = input_fault(
+    let fault = line_input::input_fault(
         table,
         count,
         shape,

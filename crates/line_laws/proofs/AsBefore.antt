@@ -5,14 +5,14 @@ use mathlib.Core.Bool.{Bool, true, false, _&&_}
 use mathlib.Core.Option.{Option, none, some}
 use mathlib.Core.List.{List, [], _∷_, _++_, map}
 use native.Mathlib.Omega.{arith}
-use lib.Dec.{leb, eqb}
+use lib.Dec.{leb}
 use lib.IntN.{ℤ, _+ℤ_}
 use lib.ListN.{length, getD, drop, replicate, length-replicate}
 use borrow.Author.Tests.{eq-eqb}
 use Rattle.fields.specs.declared.Refusal.the-variants.{UnequalLengths, LongLine, PointSize, Advances, UnknownGlyph, EndlessWalk, StageTotal, ShortRoom}
 use Rattle.fields.specs.declared.Fault.{Fault}
 use Rattle.fields.specs.declared.Fault.the-variants.{Clear, Bad}
-use Rattle.fields.specs.Faults.{_then_, rule}
+use Rattle.fields.specs.Faults.{_then_, rule, firstFault}
 use Rattle.types.specs.declared.Verdict.{Verdict}
 use Rattle.meaning.specs.Meaning.{Machine, Side}
 use Rattle.meaning.specs.Ask.{sideOf}
@@ -21,7 +21,8 @@ use Rattle.table.specs.Table.{tableFault}
 use Rattle.table.specs.Means.{meaningOf}
 use Rattle.class_walk.specs.Walk.{Walk}
 use Rattle.line_rule.specs.Line.{gapOf, shrinks, gapSize, walkOf, hasStopped, classesOf, entriesOf, recordFor, partOf, partsOf, partsFor, beforeOf, afterOf, remainderOf, firings, verdictsFrom, verdictsOf}
-use Rattle.line_call.specs.Justified.{Lent, allLong, lengthsOf, equalLengths, goodSize, goodSizes, goodAdvances, allKnown, firstFault, workedFault, lineFault, justifies, settled, justified}
+use Rattle.line_call.specs.Justified.{Lent, lengthsOf, workedFault, lineFault, justifies, settled, justified}
+use Rattle.line_input.specs.Input.{allLong, equalLengths, goodSize, goodSizes, goodAdvances, allKnown}
 use Rattle.line_laws.specs.OneSize as one
 use Rattle.line_laws.specs.OneSize.{unsized}
 use Rattle.line_laws.specs.AsBefore.{inOneSize, AsBefore, EmptyAsBefore}

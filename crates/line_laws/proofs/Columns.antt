@@ -15,9 +15,9 @@ use Rattle.units.specs.Flags.{widthFlags}
 use Rattle.meaning.specs.Meaning.{emptySide}
 use Rattle.lookup.specs.Find.{valueFrom, valueOf}
 use Rattle.lookup.specs.Lookup.{formatFault, lookupFault}
-use Rattle.cluster.specs.Faults.{classAt, classFault, growFault, shrinkFault, flagsFault, pairFault, clusterFault}
+use Rattle.cluster.specs.Faults.{pairClass, pairClassFault, growFault, shrinkFault, flagsFault, pairFault, clusterFault}
 use Rattle.cluster.specs.Pairs.{pairAt, pairsAt, clusterAt}
-use Rattle.lookup_targets.specs.Values.{placeFault, glyphFault, valuesFault, clusterOf}
+use Rattle.lookup_targets.specs.Values.{placeFault, targetFault, valuesFault, clusterOf}
 use Rattle.table.specs.Table.{present, headerFault, offsetsFault, machinePart, actionPart, directionFault, tableFault}
 use Rattle.table.specs.Means.{machineOf, listsOf, sideAt, directionOf, meaningOf}
 use Rattle.share.specs.Share.{stages, shares, stageMoves, stageLeft, movesBy, leftBy}
@@ -25,7 +25,8 @@ use Rattle.share.specs.Line.{lineFits, lineMoves, lineLeft}
 use Rattle.line_rule.specs.Line.{Line, gapOf, walkOf, partsOf, beforeOf, afterOf, remainderOf, firings, verdictsFrom, verdictsOf}
 use Rattle.line_rule.specs.Edges.{aimed}
 use Rattle.line_call.specs.Justified.{Lent, workedFault, lineFault, justified}
-use Rattle.line_call.specs.Settle.{lineBy, lentBy}
+use Rattle.line_rule.specs.Shape.{lineBy}
+use Rattle.line_call.specs.Settle.{lentBy}
 use Rattle.line_laws.specs.Edges.{Shown, left, right}
 
 -- horizontal, at 10: no machine, no actions, clusters from 20 on, and a width lookup of format 0 whose one value is 0; the cluster at 20 has one pair, for class 0, whose
@@ -61,7 +62,7 @@ pub columns : Stands 1 (pos 60) (negℤ (pos 10)) (pos 60) (pos 0)
     × Stands 1 (pos 140) (pos 13) (pos 140) (pos 0)
     × Stands 2 (pos 140) (pos 10) (pos 130) (pos 10)
     × Stands 2 (pos 50) (negℤ (pos 10)) (pos 60) (negℤ (pos 10))
-unfolding onePair justified lineFault workedFault tableFault headerFault directionFault present offsetsFault machinePart actionPart u16At u32At inside rule _then_ walk valuesFault lookupFault formatFault placeFault glyphFault valueOf valueFrom clusterFault pairFault classAt classFault growFault shrinkFault flagsFault fixedSize widthFlags pairAt pairsAt clusterAt clusterOf machineOf listsOf sideAt directionOf meaningOf emptySide from stages shares stageMoves stageLeft movesBy leftBy lineFits lineMoves lineLeft gapOf walkOf partsOf beforeOf afterOf remainderOf verdictsFrom verdictsOf firings
+unfolding onePair justified lineFault workedFault tableFault headerFault directionFault present offsetsFault machinePart actionPart u16At u32At inside rule _then_ walk valuesFault lookupFault formatFault placeFault targetFault valueOf valueFrom clusterFault pairFault pairClass pairClassFault growFault shrinkFault flagsFault fixedSize widthFlags pairAt pairsAt clusterAt clusterOf machineOf listsOf sideAt directionOf meaningOf emptySide from stages shares stageMoves stageLeft movesBy leftBy lineFits lineMoves lineLeft gapOf walkOf partsOf beforeOf afterOf remainderOf verdictsFrom verdictsOf firings
 columns = (
   record { shown = record { remainder = pos 0; entries = 0; verdicts = 0; answer = refl }; left-over = refl; left-at = refl; right-at = refl },
   record { shown = record { remainder = pos 0; entries = 0; verdicts = 0; answer = refl }; left-over = refl; left-at = refl; right-at = refl },

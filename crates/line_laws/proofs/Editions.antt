@@ -21,15 +21,16 @@ use Rattle.units.specs.Fixed.{fixedSize}
 use Rattle.units.specs.Flags.{widthFlags}
 use Rattle.lookup.specs.Find.{valueFrom, valueOf}
 use Rattle.lookup.specs.Lookup.{formatFault, lookupFault}
-use Rattle.cluster.specs.Faults.{classAt, classFault, growFault, shrinkFault, flagsFault, pairFault, clusterFault}
-use Rattle.lookup_targets.specs.Values.{placeFault, glyphFault, valuesFault}
+use Rattle.cluster.specs.Faults.{pairClass, pairClassFault, growFault, shrinkFault, flagsFault, pairFault, clusterFault}
+use Rattle.lookup_targets.specs.Values.{placeFault, targetFault, valuesFault}
 use Rattle.table.specs.Table.{Accepted, present, headerFault, offsetsFault, machinePart, actionPart, directionFault, tableFault}
 use Rattle.table_laws.specs.Order.{NoFault}
 use Rattle.table_laws.proofs.Faults.{rule-bad}
 use Rattle.line_rule.specs.Line.{Line, knownEdition}
-use Rattle.line_call.specs.Justified.{Lent, lengthsOf, equalLengths, goodSizes, workTests, roomTest, refuses, workedFault, lineFault, justified}
+use Rattle.line_call.specs.Justified.{Lent, sideFor, lengthsOf, workTests, roomTest, refuses, workedFault, lineFault, justified}
+use Rattle.line_input.specs.Input.{equalLengths, goodSizes}
 use Rattle.line_call.specs.Settle.{lentBy}
-use Rattle.line_laws.specs.Bars.{sideFor, OneLength, KnownEdition}
+use Rattle.line_laws.specs.Bars.{OneLength, KnownEdition}
 use Rattle.line_laws.proofs.Tests.{lengths-are, edition-is}
 use Rattle.line_laws.proofs.Refusals.{Spares, table-spares, rule-spares, only-first, first-after, call-refused}
 use Rattle.line_laws.proofs.Columns.{onePair, textLine, room}
@@ -80,5 +81,5 @@ pub in-no-edition :
     (justified onePair 1 (textLine 0 [] [] [] (pos 0)) (lentBy [] [] [] []) ≡ record { answer = refuses 18 0; lent = lentBy [] [] [] [] })
     × (justified onePair 1 (textLine 3 (0 ∷ []) (0 ∷ []) (pos 100 ∷ []) (pos 100)) room ≡ record { answer = refuses 18 0; lent = room })
     × (justified onePair 1 (textLine 3 (0 ∷ []) (0 ∷ []) [] (pos 100)) room ≡ record { answer = refuses 9 0; lent = room })
-unfolding onePair justified lineFault workedFault tableFault headerFault directionFault present offsetsFault machinePart actionPart u16At u32At inside rule _then_ walk valuesFault lookupFault formatFault placeFault glyphFault valueOf valueFrom clusterFault pairFault classAt classFault growFault shrinkFault flagsFault fixedSize widthFlags
+unfolding onePair justified lineFault workedFault tableFault headerFault directionFault present offsetsFault machinePart actionPart u16At u32At inside rule _then_ walk valuesFault lookupFault formatFault placeFault targetFault valueOf valueFrom clusterFault pairFault pairClass pairClassFault growFault shrinkFault flagsFault fixedSize widthFlags
 in-no-edition = (refl, refl, refl)

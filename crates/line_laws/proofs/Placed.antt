@@ -10,8 +10,7 @@ use Rattle.fields.specs.Refusals.{numberOf}
 use Rattle.table_laws.specs.Offsets.{Offset, Placed}
 use Rattle.table_laws.proofs.Placed.{placed-bad, _and_, zero-at, placed-table}
 use Rattle.line_rule.specs.Line.{Line}
-use Rattle.line_call.specs.Justified.{Lent, refuses, workedFault, lineFault, settled, justified}
-use Rattle.line_laws.specs.Bars.{sideFor}
+use Rattle.line_call.specs.Justified.{Lent, sideFor, refuses, workedFault, lineFault, settled, justified}
 
 module _ (t : List ℕ) (n : ℕ) (l : Line) (b : Lent) where
   placed-fault : Placed (lineFault t n l b)

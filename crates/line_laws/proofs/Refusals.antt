@@ -2,7 +2,7 @@
 use Prim.Native.Nat.{ℕ, _<_}
 use mathlib.Core.Path.{_≡_, refl, sym, ap, ap₂, _∙_}
 use mathlib.Core.Logic.{inl, inr, _↔_}
-use mathlib.Core.Bool.{Bool, true, false, true≢false}
+use mathlib.Core.Bool.{Bool, false, true≢false}
 use mathlib.Core.List.{List, [], _∷_, _++_}
 use native.Mathlib.Omega.{arith}
 use lib.Dec.{eqb}
@@ -20,8 +20,8 @@ use Rattle.table_laws.proofs.Faults.{rule-bad, chain, chain-first, first-chain,
 use Rattle.table_laws.proofs.Numbers.{table-number}
 use Rattle.line_rule.specs.Line.{Line}
 use Rattle.fields.specs.Refusals.{numberOf, one-number}
-use Rattle.line_call.specs.Justified.{Lent, justifies, refuses, workedFault, lineFault, settled, justified}
-use Rattle.line_laws.specs.Bars.{sideFor, lineParts}
+use Rattle.line_call.specs.Justified.{Lent, sideFor, justifies, refuses, workedFault, lineFault, settled, justified}
+use Rattle.line_laws.specs.Bars.{lineParts}
 
 -- ---- a refusal that only one of the faults gives
 

@@ -4,9 +4,8 @@ use mathlib.Core.Path.{_≡_, refl, sym, ap, ap₂, _∙_}
 use mathlib.Core.List.{List, _∷_, _++_}
 use lib.ListN.{length}
 use Rattle.fields.specs.declared.Fault.{Fault}
-use Rattle.fields.specs.declared.Fault.the-variants.{Clear}
 use Rattle.fields.specs.Field.{Bytes}
-use Rattle.fields.specs.Faults.{_then_}
+use Rattle.fields.specs.Faults.{_then_, firstFault}
 use Rattle.meaning.specs.Meaning.{Side, Meaning}
 use Rattle.meaning.specs.Ask.{sideOf}
 use Rattle.meaning.specs.Sheet.{write}
@@ -15,7 +14,8 @@ use Rattle.table.specs.Table.{Accepted, tableFault}
 use Rattle.table.specs.Means.{meaningOf}
 use Rattle.table_laws.proofs.Valid.{valid-meaning}
 use Rattle.line_rule.specs.Line.{Line}
-use Rattle.line_call.specs.Justified.{Lent, Outcome, lengthsOf, inputTests, workTests, roomTest, firstFault, workedFault, lineFault, settled, justified}
+use Rattle.line_call.specs.Justified.{Lent, Outcome, lengthsOf, workTests, roomTest, workedFault, lineFault, settled, justified}
+use Rattle.line_input.specs.Input.{inputTests}
 
 -- a line's outcome from its table's fault and the meaning of its direction
 abbrev outcomeBy : ℕ → Line → Lent → Fault → Side → Outcome

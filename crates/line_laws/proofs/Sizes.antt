@@ -24,9 +24,9 @@ use Rattle.units.specs.Flags.{widthFlags}
 use Rattle.meaning.specs.Meaning.{emptySide}
 use Rattle.lookup.specs.Find.{valueFrom, valueOf}
 use Rattle.lookup.specs.Lookup.{formatFault, lookupFault}
-use Rattle.cluster.specs.Faults.{classAt, classFault, growFault, shrinkFault, flagsFault, pairFault, clusterFault}
+use Rattle.cluster.specs.Faults.{pairClass, pairClassFault, growFault, shrinkFault, flagsFault, pairFault, clusterFault}
 use Rattle.cluster.specs.Pairs.{pairAt, pairsAt, clusterAt}
-use Rattle.lookup_targets.specs.Values.{placeFault, glyphFault, valuesFault, clusterOf}
+use Rattle.lookup_targets.specs.Values.{placeFault, targetFault, valuesFault, clusterOf}
 use Rattle.table.specs.Table.{Accepted, present, headerFault, offsetsFault, machinePart, actionPart, directionFault, tableFault}
 use Rattle.table.specs.Means.{machineOf, listsOf, sideAt, directionOf, meaningOf}
 use Rattle.table_laws.specs.Order.{NoFault}
@@ -34,9 +34,10 @@ use Rattle.table_laws.proofs.Faults.{rule-bad}
 use Rattle.share.specs.Share.{stages, shares, stageMoves, stageLeft, movesBy, leftBy}
 use Rattle.share.specs.Line.{lineFits, lineMoves, lineLeft}
 use Rattle.line_rule.specs.Line.{Line, knownEdition, gapOf, walkOf, partsOf, beforeOf, afterOf, remainderOf, firings, verdictsFrom, verdictsOf}
-use Rattle.line_call.specs.Justified.{Lent, lengthsOf, equalLengths, goodSize, goodSizes, workTests, roomTest, justifies, refuses, workedFault, lineFault, justified}
+use Rattle.line_call.specs.Justified.{Lent, sideFor, lengthsOf, workTests, roomTest, justifies, refuses, workedFault, lineFault, justified}
+use Rattle.line_input.specs.Input.{equalLengths, goodSize, goodSizes}
 use Rattle.line_call.specs.Settle.{lentBy}
-use Rattle.line_laws.specs.Bars.{sideFor, OneLength, KnownEdition, OutOfRange}
+use Rattle.line_laws.specs.Bars.{OneLength, KnownEdition, OutOfRange}
 use Rattle.line_laws.proofs.Tests.{lengths-are, edition-is, size-is, sizes-are}
 use Rattle.line_laws.proofs.Refusals.{Spares, table-spares, rule-spares, only-first, first-after, call-refused}
 use Rattle.line_laws.proofs.Columns.{onePair, textLine}
@@ -132,5 +133,5 @@ pub in-two-sizes :
     (justified onePair 1 (textLine 1 (65536 ∷ 131072 ∷ []) (0 ∷ 0 ∷ []) (pos 100 ∷ pos 100 ∷ []) (pos 290)) lentTwo
     ≡ record { answer = justifies (pos 0) 0 0; lent = lentBy (0 ∷ 0 ∷ []) (pos 10 ∷ pos 20 ∷ []) (pos 20 ∷ pos 40 ∷ []) [] })
     × (justified onePair 1 (textLine 1 (65536 ∷ 0 ∷ []) (0 ∷ 0xFFFF ∷ []) (pos 100 ∷ pos 0 ∷ []) (pos 100)) lentTwo ≡ record { answer = refuses 11 0; lent = lentTwo })
-unfolding onePair justified lineFault workedFault tableFault headerFault directionFault present offsetsFault machinePart actionPart u16At u32At inside rule _then_ walk valuesFault lookupFault formatFault placeFault glyphFault valueOf valueFrom clusterFault pairFault classAt classFault growFault shrinkFault flagsFault fixedSize widthFlags pairAt pairsAt clusterAt clusterOf machineOf listsOf sideAt directionOf meaningOf emptySide from stages shares stageMoves stageLeft movesBy leftBy lineFits lineMoves lineLeft gapOf walkOf partsOf beforeOf afterOf remainderOf verdictsFrom verdictsOf firings
+unfolding onePair justified lineFault workedFault tableFault headerFault directionFault present offsetsFault machinePart actionPart u16At u32At inside rule _then_ walk valuesFault lookupFault formatFault placeFault targetFault valueOf valueFrom clusterFault pairFault pairClass pairClassFault growFault shrinkFault flagsFault fixedSize widthFlags pairAt pairsAt clusterAt clusterOf machineOf listsOf sideAt directionOf meaningOf emptySide from stages shares stageMoves stageLeft movesBy leftBy lineFits lineMoves lineLeft gapOf walkOf partsOf beforeOf afterOf remainderOf verdictsFrom verdictsOf firings
 in-two-sizes = (refl, refl)

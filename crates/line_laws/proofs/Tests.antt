@@ -9,12 +9,12 @@ use lib.Dec.{leb, ltb, eqb}
 use lib.IntN.{ℤ, pos, negsuc, natAbs, _+ℤ_}
 use lib.ListN.{length}
 use borrow.Author.Tests.{leb-true, le-leb, eqb-true, eq-eqb, lt-ltb}
-use Rattle.share.specs.Share.{total, stages, most}
+use Rattle.share.specs.Share.{total, stages, mostTotal}
 use Rattle.share.specs.Line.{Glyph, lineFits, sumℤ}
 use Rattle.line_rule.specs.Line.{Line, knownEdition}
-use Rattle.line_moves.specs.Parts.{KnownGlyphs}
-use Rattle.line_call.specs.Justified.{Lent, equalLengths, lengthsOf, goodSize, goodSizes, within, noneNegative, goodAdvances, allKnown}
-use Rattle.line_call.proofs.Tests.{and-left, and-right, lengths-hold, known-each}
+use Rattle.line_input.specs.Input.{KnownGlyphs, equalLengths, goodSize, goodSizes, within, noneNegative, goodAdvances, allKnown}
+use Rattle.line_call.specs.Justified.{Lent, lengthsOf}
+use Rattle.line_input.proofs.Tests.{and-left, and-right, lengths-hold, known-each}
 use Rattle.line_laws.specs.Bars.{OneLength, KnownEdition, Sized, Measured, stageTotal, SmallTotals}
 
 and-both : {a b : Bool} → a ≡ true → b ≡ true → (a && b) ≡ true
@@ -149,7 +149,7 @@ unfolding lineFits stages
 totals-are gs = (holds, tested)
   where
     t : ℕ → Bool
-    t s = leb (stageTotal gs s) most
+    t s = leb (stageTotal gs s) mostTotal
 
     holds : lineFits gs ≡ true → SmallTotals gs
     holds e =
@@ -166,4 +166,4 @@ totals-are gs = (holds, tested)
     tested : SmallTotals gs → lineFits gs ≡ true
     tested h =
         and-both (le-leb _ _ (h .first))
-        (and-both (le-leb _ _ (h .second)) (and-both (le-leb _ _ (h .third)) (and-both (le-leb (stageTotal gs 3) most (omega (arith, h .fourth))) refl)))
+        (and-both (le-leb _ _ (h .second)) (and-both (le-leb _ _ (h .third)) (and-both (le-leb (stageTotal gs 3) mostTotal (omega (arith, h .fourth))) refl)))

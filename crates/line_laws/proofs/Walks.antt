@@ -31,10 +31,10 @@ use Rattle.table_laws.specs.Order.{NoFault}
 use Rattle.table_laws.proofs.Faults.{rule-bad}
 use Rattle.table_laws.proofs.Valid.{valid-meaning}
 use Rattle.line_rule.specs.Line.{Line, knownEdition, walkMachine, walkOf, hasStopped, classesOf, entriesOf, partsFor}
-use Rattle.line_moves.specs.Parts.{KnownGlyphs}
-use Rattle.line_call.specs.Justified.{Lent, lengthsOf, equalLengths, goodSizes, goodAdvances, allKnown, roomTest, justifies, refuses, justified}
+use Rattle.line_input.specs.Input.{KnownGlyphs, equalLengths, goodSizes, goodAdvances, allKnown}
+use Rattle.line_call.specs.Justified.{Lent, sideFor, lengthsOf, roomTest, justifies, refuses, justified}
 use Rattle.line_call.proofs.Theorems.{answered, cleared, walk-ends, walk-never}
-use Rattle.line_laws.specs.Bars.{sideFor, walkLine, NeverEnds, EndsWith, Walkable}
+use Rattle.line_laws.specs.Bars.{walkLine, NeverEnds, EndsWith, Walkable}
 use Rattle.line_laws.proofs.Tests.{lengths-are, edition-is, sizes-are, advances-are, glyphs-are}
 use Rattle.line_laws.proofs.Refusals.{Spares, table-spares, rule-spares, only-first, first-after, call-refused}
 

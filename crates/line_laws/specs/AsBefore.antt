@@ -5,7 +5,8 @@ use mathlib.Core.Bool.{true}
 use mathlib.Core.List.{List, []}
 use lib.ListN.{length, replicate}
 use Rattle.line_rule.specs.Line.{Line}
-use Rattle.line_call.specs.Justified.{Lent, goodSize, justified}
+use Rattle.line_call.specs.Justified.{Lent, justified}
+use Rattle.line_input.specs.Input.{goodSize}
 use Rattle.line_laws.specs.OneSize as one
 
 -- a line in one size, handed in with that size for each of its glyphs, and in edition 1

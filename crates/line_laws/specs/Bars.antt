@@ -7,22 +7,16 @@ use mathlib.Core.List.{List, [], _∷_, _++_, map}
 use lib.IntN.{pos}
 use lib.ListN.{length, getD, replicate}
 use Rattle.fields.specs.declared.Fault.{Fault}
-use Rattle.meaning.specs.Meaning.{Side, Machine}
-use Rattle.meaning.specs.Ask.{sideOf}
+use Rattle.meaning.specs.Meaning.{Machine}
 use Rattle.class_walk.specs.Walk.{Ends, Never}
 use Rattle.class_walk.specs.Walk as walk
 use Rattle.class_walk.specs.Line.{lineOf}
 use Rattle.share.specs.Share.{total, ofStage}
 use Rattle.share.specs.Line.{Glyph, sideStages, sideFactors}
 use Rattle.table.specs.Table.{tableFault}
-use Rattle.table.specs.Means.{meaningOf}
 use Rattle.line_rule.specs.Line.{Line, walkMachine, columnOf}
-use Rattle.line_moves.specs.Parts.{KnownGlyphs}
-use Rattle.line_call.specs.Justified.{Lent, lengthsOf, inputTests, workTests, roomTest}
-
--- the direction of a line in the meaning of its table
-abbrev pub sideFor : List ℕ → ℕ → Line → Side
-sideFor t n l = sideOf (l .direction) (meaningOf t n)
+use Rattle.line_input.specs.Input.{KnownGlyphs, inputTests}
+use Rattle.line_call.specs.Justified.{Lent, sideFor, lengthsOf, workTests, roomTest}
 
 -- what can bar a line, in order
 abbrev pub lineParts : List ℕ → ℕ → Line → Lent → List Fault

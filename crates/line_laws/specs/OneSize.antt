@@ -10,7 +10,7 @@ use Rattle.fields.specs.declared.Refusal.the-variants.{UnequalLengths, LongLine
 use Rattle.fields.specs.declared.Fault.{Fault}
 use Rattle.fields.specs.declared.Fault.the-variants.{Clear, Bad}
 use Rattle.fields.specs.Refusals.{numberOf}
-use Rattle.fields.specs.Faults.{_then_, rule}
+use Rattle.fields.specs.Faults.{_then_, rule, firstFault}
 use Rattle.types.specs.declared.Direction.{Direction}
 use Rattle.types.specs.declared.Verdict.{Verdict}
 use Rattle.meaning.specs.Meaning.{Side}
@@ -20,7 +20,8 @@ use Rattle.table.specs.Table.{tableFault}
 use Rattle.table.specs.Means.{meaningOf}
 use Rattle.line_rule.specs.Line as sized
 use Rattle.line_rule.specs.Line.{shrinks, gapSize, walkOf, hasStopped, classesOf, entriesOf, recordFor, partOf, firings}
-use Rattle.line_call.specs.Justified.{Lent, allLong, lengthsOf, goodAdvances, allKnown, firstFault, justifies, refuses, Outcome}
+use Rattle.line_call.specs.Justified.{Lent, lengthsOf, justifies, refuses, Outcome}
+use Rattle.line_input.specs.Input.{allLong, goodAdvances, allKnown}
 
 -- a line: its direction, whether it starts and ends the text, its point size, its glyphs with their advances, and its target, in units
 pub record Line : Type 0 where

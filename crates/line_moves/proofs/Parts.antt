@@ -45,7 +45,8 @@ use Rattle.share.specs.Line.{Glyph, apart, sideStages, sideFactors, sideExtras,
 use Rattle.share.proofs.Lists.{div-mono}
 use Rattle.share.proofs.Fill.{fill-again, fill-end}
 use Rattle.line_rule.specs.Line.{recordFor, unitsOf, partBy, partOf, partsOf}
-use Rattle.line_moves.specs.Parts.{SmallSizes, Small, IsSize, PartOf, glyphOf, Layable, putSides, Laying, Laid, LaidOut, Sharable}
+use Rattle.line_input.specs.Input.{SmallSizes}
+use Rattle.line_moves.specs.Parts.{Small, IsSize, PartOf, glyphOf, Layable, putSides, Laying, Laid, LaidOut, Sharable}
 use Rattle.line_moves.specs.declared.GlyphPart.{GlyphPart}
 
 -- ---- factors

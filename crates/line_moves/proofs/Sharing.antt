@@ -21,13 +21,14 @@ use Rattle.line_rule.specs.Line.{goesBack, partsOf}
 use Rattle.share.specs.Share.{stages}
 use Rattle.share.specs.declared.Totals.{Totals}
 use Rattle.share.specs.Line.{Glyph, Narrow, lineMoves, lineLeft, lineFits, signedOf}
-use Rattle.share.specs.Sides.{Sides, totalsWithin, movesIn, leftIn, fitsIn}
+use Rattle.share.specs.Sides.{Sides, totalsFit, movesIn, leftIn, fitsIn}
 use Rattle.share.proofs.Sums.{totals-fit}
 use Rattle.share.proofs.Lines.{line-sum}
 use Rattle.line_moves.proofs.Parts.{record-limits, parts-narrow}
 use Rattle.line_moves.specs.declared.Shared.{Shared}
 use Rattle.line_moves.specs.declared.Shared.the-variants.{Left, Over}
-use Rattle.line_moves.specs.Parts.{Laid, LaidOut, inUnits, SharedOut, SharedGap, Sharable}
+use Rattle.line_moves.specs.Parts.{Laid, LaidOut, SharedOut, SharedGap, Sharable}
+use Rattle.units.specs.Fixed.{inUnits}
 
 module _ {ps : List Glyph} {sides fs : List ℕ} (w : Laid ps sides fs) where
   -- the rule on the two lists
@@ -40,7 +41,7 @@ module _ {ps : List Glyph} {sides fs : List ℕ} (w : Laid ps sides fs) where
   laid-left back gap = rw (w .stages, w .extras, w .factors)
 
 -- refusal 15's test, on the totals that were found
-module _ {ps : List Glyph} {ts : Totals} {sides fs : List ℕ} (w : LaidOut ps ts sides fs) {r : Bool} (e : r ≡ totalsWithin ts stages) where
+module _ {ps : List Glyph} {ts : Totals} {sides fs : List ℕ} (w : LaidOut ps ts sides fs) {r : Bool} (e : r ≡ totalsFit ts stages) where
   pub test-sides : fitsIn sides fs ≡ r
   test-sides = sym (e ∙ totals-fit ts sides fs (w .totals))
 

@@ -30,14 +30,15 @@ use Rattle.table.specs.Means as means
 use Rattle.table_ask.specs.Places.{machineIn}
 use Rattle.table_ask.proofs.Rows.{cell-by, index-below}
 use Rattle.table_ask.proofs.Asked.{side-is, machine-is}
-use Rattle.class_walk.specs.Walk.{Machine, Line, Conf, Walk, going, stopped, Fits, glyphs, columnAt, met, onAt, givenBy, taken, step, begin, after, most, walked, noWalk}
+use Rattle.class_walk.specs.Walk.{Machine, Line, Conf, Walk, going, stopped, Fits, glyphs, columnAt, met, onAt, givenBy, taken, step, begin, after, mostEntries, walked, noWalk}
 use Rattle.class_walk.specs.Line.{machineAt, lineOf, lineColumn, lineColumns, HandedOut, SoundMachine, Columns}
 use Rattle.class_walk.specs.declared.Walked.{Walked}
 use Rattle.class_walk.proofs.Laws.{walked-ends, ends-length}
 use Rattle.class_walk.proofs.Line.{fits-of, columns-of, handed-same, handed-ended, handed-going}
 use Rattle.line_rule.specs.Line.{walkMachine, columnOf, walkOf, hasStopped, classesOf, entriesOf}
 use Rattle.line_rule.specs.Line as lines
-use Rattle.line_moves.specs.Parts.{KnownGlyphs, bareLine}
+use Rattle.line_input.specs.Input.{KnownGlyphs}
+use Rattle.line_moves.specs.Parts.{bareLine}
 
 -- ---- two machines with the same cells walk alike
 
@@ -99,7 +100,7 @@ module _ (m m′ : Machine) (l : Line) (ok : Fits m l) (same : (r c : ℕ) → r
 
   pub same-walked : m .rows ≡ m′ .rows → walked m l ≡ walked m′ l
   unfolding walked
-  same-walked e = same-after (most m l) ∙ ap (λ (r : ℕ). after m′ l (r * (glyphs l + 1))) e
+  same-walked e = same-after (mostEntries m l) ∙ ap (λ (r : ℕ). after m′ l (r * (glyphs l + 1))) e
 
 -- ---- the machine in the table's bytes, and that of the meaning
 

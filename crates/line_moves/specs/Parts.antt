@@ -2,16 +2,14 @@
 -- their classes, the parts of the glyphs side by side, and a gap that was shared or that refusal 15 bars.
 use Prim.Native.Nat.{ℕ, _+_, _*_, _<_, _≤_, _^_}
 use mathlib.Core.Path.{_≡_}
-use mathlib.Core.Logic.{_⊎_}
 use mathlib.Core.Bool.{Bool, cond}
 use mathlib.Core.Option.{Option, none, some}
 use mathlib.Core.List.{List, []}
 use lib.IntN.{ℤ, pos, natAbs}
-use lib.ListN.{length, getD, set}
+use lib.ListN.{length, set}
 use lib.Signed.{ltZ}
 use Rattle.types.specs.declared.Direction.the-variants.{Horizontal}
 use Rattle.types.specs.declared.Pair.{Pair}
-use Rattle.units.specs.declared.Units.{Units}
 use Rattle.meaning.specs.Meaning.{Side}
 use Rattle.meaning.specs.Limits.{OkLimits}
 use Rattle.fields.specs.declared.Fault.the-variants.{Clear}
@@ -20,23 +18,17 @@ use Rattle.share.specs.Carry.{widest}
 use Rattle.share.specs.Line.{Glyph, sideStages, sideFactors, sideExtras, lineMoves, lineLeft, lineFits, signedOf}
 use Rattle.share.specs.Sides.{stagesIn, extrasIn, TotalsOf}
 use Rattle.share.specs.declared.Totals.{Totals}
+use Rattle.units.specs.Fixed.{inUnits}
 use Rattle.line_rule.specs.Line.{Line, goesBack, partsOf}
+use Rattle.line_input.specs.Input.{SmallSizes}
 use Rattle.line_moves.specs.declared.GlyphPart.{GlyphPart}
 use Rattle.line_moves.specs.declared.Shared.{Shared}
 use Rattle.line_moves.specs.declared.Shared.the-variants.{Left, Over}
-
--- every glyph of a line is below N, or deleted
-abbrev pub KnownGlyphs : ℕ → List ℕ → Type 0
-KnownGlyphs n gs = (place : ℕ) → place < length gs → (getD gs place 0 ≡ 0xFFFF) ⊎ (getD gs place 0 < n)
 
 -- a line of which only that is said which the class walk looks at: its glyphs, and whether it starts and ends the text; no size and no edition
 abbrev pub bareLine : List ℕ → Bool → Bool → Line
 bareLine glyphs starts ends =
     record { direction = Horizontal; starts = starts; ends = ends; sizes = []; glyphs = glyphs; advances = []; target = pos 0; edition = 0 }
-
--- every size of a line's glyphs is at most 1,024 points
-abbrev pub SmallSizes : List ℕ → Type 0
-SmallSizes sizes = (place : ℕ) → getD sizes place 0 ≤ 67108864
 
 -- the limits of a width record, if there is one, are at most 16 em
 abbrev pub Small : Option Pair → Type 0
@@ -87,10 +79,6 @@ pub record Laid (gs : List Glyph) (sides fs : List ℕ) : Type 0 where
 pub record LaidOut (gs : List Glyph) (ts : Totals) (sides fs : List ℕ) : Type 0 where
   pub laid : Laid gs sides fs
   pub totals : TotalsOf ts sides fs
-
--- a distance as the code has it
-abbrev pub inUnits : ℤ → Units
-inUnits z = record { 0 = z }
 
 -- a gap, given as its size, shared over the sides of glyphs with these parts, by an edition that goes back or not: the remainder with the gap's sign, the movements as their
 -- sizes; where a stage's total is above the most that it may be, the movements stay as they were

@@ -16,7 +16,8 @@ ghost use Rattle.table.specs.Means.{meaningOf};
 ghost use Rattle.table_ask.specs.Places.{lookupIn, Readable};
 ghost use Rattle.class_walk.specs.Line.{HandedOut};
 ghost use Rattle.line_rule.specs.Line.{walkOf, recordFor, unitsOf, stageOf, partBy, partOf, partsOf};
-ghost use Rattle.line_moves.specs.Parts.{KnownGlyphs, bareLine, Small, IsSize, PartOf, glyphOf, Layable, Laying, LaidOut, Sharable, SharedGap};
+ghost use Rattle.line_input.specs.Input.{KnownGlyphs};
+ghost use Rattle.line_moves.specs.Parts.{bareLine, Small, IsSize, PartOf, glyphOf, Layable, Laying, LaidOut, Sharable, SharedGap};
 use actions::Spot;
 use class_walk::Walked;
 use cluster::Sought;
@@ -138,7 +139,7 @@ fn part_of(shrink: bool, size: u32, sought: Sought) -> GlyphPart
 }
 
 // A factor, which is not below 0, as the plain number that slices hold.
-fn plain(factor: Units) -> u64
+fn plain_factor(factor: Units) -> u64
     requires { ⌜ factor .0 ≡ pos (natAbs (factor .0)) ⌝ }
     ensures { λ r. ⌜ r ≡ natAbs (factor .0) ⌝ }
 {
@@ -189,10 +190,10 @@ fn lay_part(part: GlyphPart, place: usize, sides: &mut [u8], factors: &mut [u64]
     requires { ⌜ (2 * place + 1 < length (now sides)) × (2 * place + 1 < length (now factors)) ⌝ }
     ensures { λ r. ⌜ Laying (glyphOf part) place (now (sides .entry)) (now (factors .entry)) r (now (sides .exit)) (now (factors .exit)) ⌝ }
 {
-    let before = plain(part.before);
-    let after = plain(part.after);
-    sides[2 * place] = share::side_of(part.priority, 0);
-    sides[2 * place + 1] = share::side_of(part.priority, part.extra);
+    let before = plain_factor(part.before);
+    let after = plain_factor(part.after);
+    sides[2 * place] = share::side_number(part.priority, 0);
+    sides[2 * place + 1] = share::side_number(part.priority, part.extra);
     factors[2 * place] = before;
     factors[2 * place + 1] = after;
     before + after

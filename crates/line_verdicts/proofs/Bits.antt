@@ -112,10 +112,10 @@ module _ (bit : ℕ) (b : GlyphBits) where
   noted-substitutes Plain = omega arith
   noted-substitutes Substitutes = refl
 
-  noted-count : (f : Fires) (place number : ℕ) → noteAction f bit b .count ≡ b .count + length (recordIf f place number)
-  noted-count No place number = omega arith
-  noted-count Plain place number = refl
-  noted-count Substitutes place number = refl
+  noted-firing : (f : Fires) (place number : ℕ) → noteAction f bit b .firing ≡ b .firing + length (recordIf f place number)
+  noted-firing No place number = omega arith
+  noted-firing Plain place number = refl
+  noted-firing Substitutes place number = refl
 
 fires-most : (f : Fires) (bit : ℕ) → firesWeight f bit ≤ bit
 fires-most No bit = omega arith
@@ -133,13 +133,13 @@ module _ (does bit : ℕ) (b : GlyphBits) where
   note-none z Plain e = absurd (omega arith)
   note-none z Substitutes e = absurd (omega arith)
 
-  pub note-plain : does ≡ 1 → (f : Fires) → does ≡ firesNumber f → record { fires = b .fires + bit; substitutes = b .substitutes; count = b .count + 1 } ≡ noteAction f bit b
+  pub note-plain : does ≡ 1 → (f : Fires) → does ≡ firesNumber f → record { fires = b .fires + bit; substitutes = b .substitutes; firing = b .firing + 1 } ≡ noteAction f bit b
   note-plain z No e = absurd (omega arith)
   note-plain z Plain e = refl
   note-plain z Substitutes e = absurd (omega arith)
 
   pub note-substitutes : (does ≡ 0 → ⊥) → (does ≡ 1 → ⊥) → (f : Fires) → does ≡ firesNumber f
-      → record { fires = b .fires + bit; substitutes = b .substitutes + bit; count = b .count + 1 } ≡ noteAction f bit b
+      → record { fires = b .fires + bit; substitutes = b .substitutes + bit; firing = b .firing + 1 } ≡ noteAction f bit b
   note-substitutes z u No e = absurd (z e)
   note-substitutes z u Plain e = absurd (u e)
   note-substitutes z u Substitutes e = refl
@@ -154,8 +154,8 @@ pub record Noting (t : List ℕ) (class : ℕ) (growth : ℤ) (size count first 
   pub substitutes : b .substitutes < 2 ^ number
   pub told : (place : ℕ) → firings place class size growth 0 (actionsAt t count first)
       ≡ bitsTell number place 0 (b .fires) (b .substitutes) ++ firings place class size growth number (actionsAt t left at)
-  pub counted : (place : ℕ) → b .count ≡ length (bitsTell number place 0 (b .fires) (b .substitutes))
-  pub most : b .count ≤ number
+  pub counted : (place : ℕ) → b .firing ≡ length (bitsTell number place 0 (b .fires) (b .substitutes))
+  pub most : b .firing ≤ number
 
 module _ (t : List ℕ) (class : ℕ) (growth : ℤ) (size : ℕ) where
   split : (place number left at : ℕ) → 0 < left
@@ -166,7 +166,7 @@ module _ (t : List ℕ) (class : ℕ) (growth : ℤ) (size : ℕ) where
   split place number (suc m) at h = let d : suc m - 1 ≡ m = omega arith in simp (d, add-one)
 
   pub noting-start : (count first : ℕ) → ClearList t count first
-      → Noting t class growth size count first (record { fires = 0; substitutes = 0; count = 0 }) 0 count first
+      → Noting t class growth size count first (record { fires = 0; substitutes = 0; firing = 0 }) 0 count first
   unfolding bitsTell
   noting-start count first s =
       record {
@@ -181,7 +181,7 @@ module _ (t : List ℕ) (class : ℕ) (growth : ℤ) (size : ℕ) where
 
   module _ (count first : ℕ) (b : GlyphBits) (number left at : ℕ) (n : Noting t class growth size count first b number left at) where
     -- there is room for the bit of the next
-    pub note-room : 0 < left → (b .fires + 2 ^ number < 2 ^ 64) × (b .substitutes + 2 ^ number < 2 ^ 64) × (b .count < 64)
+    pub note-room : 0 < left → (b .fires + 2 ^ number < 2 ^ 64) × (b .substitutes + 2 ^ number < 2 ^ 64) × (b .firing < 64)
     note-room h =
         let m : 2 ^ suc number ≤ 2 ^ 64 = pow-mono {i = suc number} {j = 64} (omega (arith, n .few)) in
         (omega (arith, m, pow-double number, n .fires), omega (arith, m, pow-double number, n .substitutes), omega (arith, n .few, n .most))
@@ -204,11 +204,11 @@ module _ (t : List ℕ) (class : ℕ) (growth : ℤ) (size : ℕ) where
               ∙ sym (append-assoc (bitsTell number place 0 (b .fires) (b .substitutes)) _ _)
               ∙ ap (λ (vs : List Verdict). vs ++ firings place class size growth (number + 1) (actionsAt t (left - 1) (at + u32At t (at + 4)))) (sym (longer place));
           counted =
-              λ place. noted-count (2 ^ number) b f place number
+              λ place. noted-firing (2 ^ number) b f place number
               ∙ ap (λ (k : ℕ). k + length (recordIf f place number)) (n .counted place)
               ∙ sym (length-append (bitsTell number place 0 (b .fires) (b .substitutes)) (recordIf f place number))
               ∙ ap (λ (vs : List Verdict). length vs) (sym (longer place));
-          most = omega (arith, n .most, noted-count (2 ^ number) b f 0 0, one-most f 0 0);
+          most = omega (arith, n .most, noted-firing (2 ^ number) b f 0 0, one-most f 0 0);
         }))
       where
         f : Fires
@@ -229,7 +229,7 @@ module _ (t : List ℕ) (class : ℕ) (growth : ℤ) (size : ℕ) where
     noting-end e =
         record {
           told = λ place. tell-longer number 64 place 0 (b .fires) (b .substitutes) (n .fires) (omega (arith, n .few)) ∙ sym (all place);
-          count = λ place. n .counted place ∙ ap (λ (vs : List Verdict). length vs) (sym (all place));
+          firing = λ place. n .counted place ∙ ap (λ (vs : List Verdict). length vs) (sym (all place));
           few = omega (arith, n .most, n .few);
         }
       where
@@ -240,8 +240,8 @@ module _ (t : List ℕ) (class : ℕ) (growth : ℤ) (size : ℕ) where
             ∙ append-nil _
 
 -- nothing is kept of an empty list
-pub keeps-none : (class : ℕ) (growth : ℤ) (size : ℕ) (actions : List Action) → actions ≡ [] → Keeps class growth size actions (record { fires = 0; substitutes = 0; count = 0 })
+pub keeps-none : (class : ℕ) (growth : ℤ) (size : ℕ) (actions : List Action) → actions ≡ [] → Keeps class growth size actions (record { fires = 0; substitutes = 0; firing = 0 })
 unfolding firings
 keeps-none class growth size actions e =
-    subst (λ (l : List Action). Keeps class growth size l (record { fires = 0; substitutes = 0; count = 0 })) (sym e)
-    (record { told = λ place. tell-zero 64 place 0 0; count = λ place. refl; few = omega arith })
+    subst (λ (l : List Action). Keeps class growth size l (record { fires = 0; substitutes = 0; firing = 0 })) (sym e)
+    (record { told = λ place. tell-zero 64 place 0 0; firing = λ place. refl; few = omega arith })

@@ -73,7 +73,7 @@ module _ {s : Side} {shrink : Bool} {zs cs ms glyphs : List ℕ} where
 
     pub keeping-next : FitsGlyphs zs cs ms glyphs → (b : GlyphBits) (growth : ℤ) → growth ≡ growthAt shrink ms k
         → Keeps (getD cs k 0) growth (getD zs k 0) (getD (s .lists) (getD glyphs k 0) []) b → k < length glyphs
-        → Keeping s shrink zs cs ms glyphs (set (set bits (2 * k) (b .fires)) (2 * k + 1) (b .substitutes)) (total + b .count) (k + 1)
+        → Keeping s shrink zs cs ms glyphs (set (set bits (2 * k) (b .fires)) (2 * k + 1) (b .substitutes)) (total + b .firing) (k + 1)
     keeping-next fits b growth g w h =
         record {
           within = omega arith;
@@ -83,7 +83,7 @@ module _ {s : Side} {shrink : Bool} {zs cs ms glyphs : List ℕ} where
               ∙ ap (λ (vs : List Verdict). told (take (2 * k) bits) ++ vs) (verdicts-next s glyphs shrink zs cs ms fits k h)
               ∙ sym (append-assoc (told (take (2 * k) bits)) _ _)
               ∙ ap (λ (vs : List Verdict). vs ++ verdictsAt s glyphs (moved shrink zs cs ms) (k + 1)) (sym longer);
-          counted = ap₂ _+_ (i .counted) (v .count k) ∙ sym (length-append (told (take (2 * k) bits)) here) ∙ ap (λ (vs : List Verdict). length vs) (sym longer);
+          counted = ap₂ _+_ (i .counted) (v .firing k) ∙ sym (length-append (told (take (2 * k) bits)) here) ∙ ap (λ (vs : List Verdict). length vs) (sym longer);
         }
       where
         here : List Verdict

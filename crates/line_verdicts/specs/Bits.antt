@@ -95,8 +95,8 @@ firesNumber Substitutes = 2
 -- the bit of an action that was judged, beside those of the actions ahead of it
 abbrev pub noteAction : Fires → ℕ → GlyphBits → GlyphBits
 noteAction No bit b = b
-noteAction Plain bit b = record { fires = b .fires + bit; substitutes = b .substitutes; count = b .count + 1 }
-noteAction Substitutes bit b = record { fires = b .fires + bit; substitutes = b .substitutes + bit; count = b .count + 1 }
+noteAction Plain bit b = record { fires = b .fires + bit; substitutes = b .substitutes; firing = b .firing + 1 }
+noteAction Substitutes bit b = record { fires = b .fires + bit; substitutes = b .substitutes + bit; firing = b .firing + 1 }
 
 -- so many actions, the first of which stands at `first`, that have no fault, for a font of some number of glyphs
 pub record ClearList (t : List ℕ) (count first : ℕ) : Type 0 where
@@ -108,5 +108,5 @@ pub record ClearList (t : List ℕ) (count first : ℕ) : Type 0 where
 -- the bits tell which of these actions fire for a glyph of a class, at its growth and its point size, wherever it stands in its line; and how many fire
 pub record Keeps (class : ℕ) (growth : ℤ) (size : ℕ) (actions : List Action) (b : GlyphBits) : Type 0 where
   pub told : (place : ℕ) → tellFrom place 0 (b .fires) (b .substitutes) ≡ firings place class size growth 0 actions
-  pub count : (place : ℕ) → b .count ≡ length (firings place class size growth 0 actions)
-  pub few : b .count ≤ 64
+  pub firing : (place : ℕ) → b .firing ≡ length (firings place class size growth 0 actions)
+  pub few : b .firing ≤ 64

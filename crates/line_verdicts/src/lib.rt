@@ -32,7 +32,7 @@ use verdict::Fires;
 struct GlyphBits {
     pub fires: u64,
     pub substitutes: u64,
-    pub count: usize,
+    pub firing: usize,
 }
 
 // How far a line's verdicts have been taken: the glyphs before `next` are begun; of the last of them the bits from the
@@ -80,8 +80,8 @@ fn growth_at(shrink: bool, moves: &[u64], place: usize) -> Units
     requires { ⌜ (2 * place + 1 < length (now moves)) × ((side : ℕ) → getD (now moves) side 0 ≤ 1073741823) ⌝ }
     ensures { λ r. ⌜ r .0 ≡ signedOf shrink (getD (now (moves .entry)) (2 * place) 0 + getD (now (moves .entry)) (2 * place + 1) 0) ⌝ }
 {
-    let size = moves[2 * place] + moves[2 * place + 1];
-    Units(share::signed(shrink, size) as i64)
+    let both = moves[2 * place] + moves[2 * place + 1];
+    Units(share::signed(shrink, both) as i64)
 }
 
 // The bit of an action, by its number in its list.
@@ -94,47 +94,47 @@ fn bit_of(number: u16) -> u64
 
 // The bit of an action beside those of the actions ahead of it, by what it does.
 fn note_action(noted: GlyphBits, does: u16, bit: u64) -> GlyphBits
-    requires { ⌜ (noted .fires + bit < 2 ^ 64) × (noted .substitutes + bit < 2 ^ 64) × (noted .count < 64) ⌝ }
+    requires { ⌜ (noted .fires + bit < 2 ^ 64) × (noted .substitutes + bit < 2 ^ 64) × (noted .firing < 64) ⌝ }
     ensures { λ r. ⌜ ((f : Fires) → does ≡ firesNumber f → r ≡ noteAction f bit noted) ⌝ }
 {
     if does == 0 {
         return noted;
     }
     let fires = noted.fires + bit;
-    let count = noted.count + 1;
+    let firing = noted.firing + 1;
     if does == 1 {
         return GlyphBits {
             fires,
             substitutes: noted.substitutes,
-            count,
+            firing,
         };
     }
     GlyphBits {
         fires,
         substitutes: noted.substitutes + bit,
-        count,
+        firing,
     }
 }
 
-// Which of `count` actions from `first` on fire for a glyph of a class, at its growth and its point size.
+// Which of the actions from `first` on, `actions` of them, fire for a glyph of a class, at its growth and its point size.
 fn keep_list(
     table: &[u8],
     class: u8,
     growth: Units,
     size: u32,
-    count: usize,
+    actions: usize,
     first: usize,
 ) -> GlyphBits
-    requires { ⌜ ClearList (now table) count first ⌝ }
-    ensures { λ r. ⌜ Keeps class (growth .0) size (actionsAt (now (table .entry)) count first) r ⌝ }
+    requires { ⌜ ClearList (now table) actions first ⌝ }
+    ensures { λ r. ⌜ Keeps class (growth .0) size (actionsAt (now (table .entry)) actions first) r ⌝ }
 {
     let mut noted = GlyphBits {
         fires: 0,
         substitutes: 0,
-        count: 0,
+        firing: 0,
     };
     let mut number: u16 = 0;
-    let mut left = count;
+    let mut left = actions;
     let mut at = first;
     while 0 < left {
         let does = fires_here(table, at, class, growth, size);
@@ -165,7 +165,7 @@ fn keep_glyph(
         return GlyphBits {
             fires: 0,
             substitutes: 0,
-            count: 0,
+            firing: 0,
         };
     };
     keep_list(
@@ -216,7 +216,7 @@ pub fn keep_verdicts<'a, 'b>(
         );
         bits[2 * place] = kept.fires;
         bits[2 * place + 1] = kept.substitutes;
-        total += kept.count;
+        total += kept.firing;
         place += 1;
     }
     total

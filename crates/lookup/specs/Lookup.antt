@@ -9,7 +9,7 @@ use Rattle.fields.specs.declared.Fault.{Fault}
 use Rattle.fields.specs.declared.Fault.the-variants.{Bad}
 use Rattle.fields.specs.Field.{u16At}
 use Rattle.fields.specs.Faults.{_then_, rule, inside}
-use Rattle.lookup.specs.Units.{unitSize, unitsFault, arrayFault, arraysFault, below}
+use Rattle.lookup.specs.Units.{unitSize, unitsFault, arrayFault, arraysFault, glyphsBelow}
 
 -- formats 2, 4 and 6: unitSize, nUnits, and the units that are counted; the three search fields between them are not read
 unfoldable pub countedFault : List ℕ → ℕ → ℕ → Fault
@@ -28,7 +28,7 @@ unfoldable pub trimmedFault : List ℕ → ℕ → ℕ → Fault
 trimmedFault t glyphs at =
     inside t (at + 2) 2
     then inside t (at + 4) 2
-    then arrayFault t (below glyphs (u16At t (at + 2)) (u16At t (at + 2) + u16At t (at + 4))) (at + 6)
+    then arrayFault t (glyphsBelow glyphs (u16At t (at + 2)) (u16At t (at + 2) + u16At t (at + 4))) (at + 6)
 
 -- what follows the format
 unfoldable pub formatFault : List ℕ → ℕ → ℕ → ℕ → Fault

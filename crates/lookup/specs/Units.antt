@@ -53,13 +53,13 @@ abbrev pub arrayFault : List ℕ → ℕ → ℕ → Fault
 arrayFault t n p = each (λ q. inside t q 2) (λ q. q + 2) n p
 
 -- how many glyphs from `first` on, up to but not with `end`, are below `glyphs`
-abbrev pub below : ℕ → ℕ → ℕ → ℕ
-below glyphs first end = min end glyphs - first
+abbrev pub glyphsBelow : ℕ → ℕ → ℕ → ℕ
+glyphsBelow glyphs first end = min end glyphs - first
 
 -- format 4: the array of the unit at `p`, whose offset counts from the lookup's start `at`
-unfoldable pub valuesFault : List ℕ → ℕ → ℕ → ℕ → Fault
-valuesFault t glyphs at p = arrayFault t (below glyphs (u16At t (p + 2)) (u16At t p + 1)) (at + u16At t (p + 4))
+unfoldable pub unitArrayFault : List ℕ → ℕ → ℕ → ℕ → Fault
+unitArrayFault t glyphs at p = arrayFault t (glyphsBelow glyphs (u16At t (p + 2)) (u16At t p + 1)) (at + u16At t (p + 4))
 
 -- the arrays of `n` units
 abbrev pub arraysFault : List ℕ → ℕ → ℕ → ℕ → ℕ → Fault
-arraysFault t glyphs at n p = each (valuesFault t glyphs at) (λ q. q + 6) n p
+arraysFault t glyphs at n p = each (unitArrayFault t glyphs at) (λ q. q + 6) n p

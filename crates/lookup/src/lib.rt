@@ -5,7 +5,7 @@ ghost use Prim.Native.Nat.{ℕ, _+_, _*_, _≤_, _<_, _^_};
 ghost use lib.ListN.{length};
 ghost use Rattle.fields.specs.declared.Fault.the-variants.{Clear};
 ghost use Rattle.fields.specs.Field.{u16At};
-ghost use Rattle.lookup.specs.Units.{unitSize, firstOf, rangeFault, singleFault, unitFault, unitsFault, arrayFault, valuesFault, arraysFault, below};
+ghost use Rattle.lookup.specs.Units.{unitSize, firstOf, rangeFault, singleFault, unitFault, unitsFault, arrayFault, unitArrayFault, arraysFault, glyphsBelow};
 ghost use Rattle.lookup.specs.Lookup.{countedFault, segmentsFault, trimmedFault, lookupFault};
 ghost use Rattle.lookup.specs.Find.{hasUnits, unitCount};
 ghost use Rattle.lookup.specs.Pass.{Serves};
@@ -25,8 +25,8 @@ pub struct Cursor {
 }
 
 // How many glyphs from `first` on, up to but not with `end`, are below `glyphs`.
-fn below_count(glyphs: usize, first: usize, end: usize) -> usize
-    ensures { λ r. ⌜ r ≡ below glyphs first end ⌝ }
+fn glyphs_below(glyphs: usize, first: usize, end: usize) -> usize
+    ensures { λ r. ⌜ r ≡ glyphsBelow glyphs first end ⌝ }
 {
     if end < glyphs {
         return fields::less(end, first);
@@ -204,14 +204,14 @@ fn array_fault(table: &[u8], count: usize, start: usize) -> Fault
 }
 
 // The array of format 4's unit at `p`, in the lookup at `at`.
-fn values_fault(table: &[u8], glyphs: usize, at: usize, p: usize) -> Fault
+fn unit_array_fault(table: &[u8], glyphs: usize, at: usize, p: usize) -> Fault
     requires { ⌜ (at < 2 ^ 32) × (p < 2 ^ 40) ⌝ }
-    ensures { λ r. ⌜ r ≡ valuesFault (now (table .entry)) glyphs at p ⌝ }
+    ensures { λ r. ⌜ r ≡ unitArrayFault (now (table .entry)) glyphs at p ⌝ }
 {
     let last = fields::u16_at(table, p);
     let first = fields::u16_at(table, p + 2);
     let offset = fields::u16_at(table, p + 4);
-    array_fault(table, below_count(glyphs, first, last + 1), at + offset)
+    array_fault(table, glyphs_below(glyphs, first, last + 1), at + offset)
 }
 
 // The arrays of `count` units of format 4 from `start` on.
@@ -222,7 +222,7 @@ fn arrays_fault(table: &[u8], glyphs: usize, at: usize, count: usize, start: usi
     let mut p = start;
     let mut left = count;
     while 0 < left {
-        let fault = values_fault(table, glyphs, at, p);
+        let fault = unit_array_fault(table, glyphs, at, p);
         if let Fault::Bad { refusal: _, at: _ } = fault {
             return fault;
         }
@@ -253,7 +253,7 @@ fn trimmed_fault(table: &[u8], glyphs: usize, at: usize) -> Fault
     let count_in = fields::in_table(table, at + 4, 2);
     let first = fields::u16_at(table, at + 2);
     let count = fields::u16_at(table, at + 4);
-    let values = array_fault(table, below_count(glyphs, first, first + count), at + 6);
+    let values = array_fault(table, glyphs_below(glyphs, first, first + count), at + 6);
     fields::then(first_in, fields::then(count_in, values))
 }
 

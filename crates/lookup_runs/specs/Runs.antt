@@ -50,8 +50,8 @@ nextRun t at c glyph =
 -- ---- what a run says
 
 -- where the value of a glyph of a run stands
-abbrev pub placeOf : Run → ℕ → ℕ
-placeOf r glyph = cond (r .array) (r .place + 2 * (glyph - r .from)) (r .place)
+abbrev pub fieldInRun : Run → ℕ → ℕ
+fieldInRun r glyph = cond (r .array) (r .place + 2 * (glyph - r .from)) (r .place)
 
 -- the glyphs from `glyph` on and before the run have no value, those of the run have theirs, and its cursor serves those after it
 pub record Follows (t : List ℕ) (at glyph : ℕ) (r : Run) : Type 0 where
@@ -59,5 +59,5 @@ pub record Follows (t : List ℕ) (at glyph : ℕ) (r : Run) : Type 0 where
   pub more : r .from < r .until
   pub near : r .place < 2 ^ 41
   pub none : (g : ℕ) → glyph ≤ g → g < r .from → g < 2 ^ 16 → valueFrom t at g (unitCount t at) (at + 12) ≡ Nothing
-  pub some : (g : ℕ) → r .from ≤ g → g < r .until → g < 2 ^ 16 → valueFrom t at g (unitCount t at) (at + 12) ≡ Value (u16At t (placeOf r g))
+  pub some : (g : ℕ) → r .from ≤ g → g < r .until → g < 2 ^ 16 → valueFrom t at g (unitCount t at) (at + 12) ≡ Value (u16At t (fieldInRun r g))
   pub serves : Serves t at (r .until) (r .cursor)

@@ -7,7 +7,7 @@ use mathlib.Core.Logic.{_⊎_, inl, inr, ⊎-elim}
 use native.Mathlib.Decide.{ℕ-discrete}
 use native.Mathlib.Omega.{arith}
 use lib.Dec.{ltb, leb, eqb}
-use borrow.Author.Tests.{eq-eqb, ne-eqb, eqb-true, eqb-false, le-leb, lt-leb, ltb-true, ltb-false}
+use borrow.Author.Tests.{eq-eqb, ne-eqb, le-leb, lt-leb, ltb-true, ltb-false}
 use lib.ListN.{getD, set, replicate}
 use lib.Seq.{getD-set-other}
 use Rattle.fields.specs.declared.Refusal.{Refusal}
@@ -21,7 +21,7 @@ use Rattle.lookup.specs.declared.Found.{Found}
 use Rattle.lookup.specs.declared.Found.the-variants.{Value, Nothing}
 use Rattle.lookup.proofs.Laws.{value-in}
 use Rattle.lookup_runs.specs.declared.Run.{Run}
-use Rattle.lookup_runs.specs.Runs.{placeOf, Follows}
+use Rattle.lookup_runs.specs.Runs.{fieldInRun, Follows}
 use Rattle.lookup.specs.Find.{valueOf}
 use Rattle.actions.specs.declared.Spot.{Spot}
 use Rattle.actions.specs.declared.Spot.the-variants.{At, Nowhere}
@@ -30,7 +30,7 @@ use Rattle.actions.specs.Notes.{Passing}
 use Rattle.actions.proofs.Notes.{set-here, no-note, each-fewer, blank-passed}
 use Rattle.lookup_targets.specs.declared.Kind.{Kind}
 use Rattle.lookup_targets.specs.declared.Kind.the-variants.{Clusters, Lists}
-use Rattle.lookup_targets.specs.Values.{spotOf, itemFault, spotFault, placeFault, glyphFault, fromGlyph, NoteTells, besides, Judged, Told, Ahead, noteAt, noteEach, noteAlong, Noted}
+use Rattle.lookup_targets.specs.Values.{spotOf, itemFault, spotFault, placeFault, targetFault, fromGlyph, NoteTells, besides, Judged, Told, Ahead, noteAt, noteEach, noteAlong, Noted}
 
 -- what is judged of a value, from what its steps found
 pub place-of : (t : List ℕ) (glyphs : ℕ) (kind : Kind) (base p : ℕ) {fault : Fault} {spot : Spot}
@@ -363,101 +363,101 @@ each-places one two n (suc m) g p h same =
     after i = let e : p + 2 * suc i ≡ p + 2 + 2 * i = omega arith in ap two e
 
 -- a glyph without a value has no fault
-no-value : (t : List ℕ) (glyphs : ℕ) (kind : Kind) (at base glyph : ℕ) → valueOf t glyphs at glyph ≡ Nothing → glyphFault t glyphs kind at base glyph ≡ Clear
-unfolding glyphFault
+no-value : (t : List ℕ) (glyphs : ℕ) (kind : Kind) (at base glyph : ℕ) → valueOf t glyphs at glyph ≡ Nothing → targetFault t glyphs kind at base glyph ≡ Clear
+unfolding targetFault
 no-value t glyphs kind at base glyph e = ap (λ (f : Found). spotFault t glyphs kind (spotOf kind base f)) e
 
 -- the glyphs before a run, and the glyphs of the run
 module _ (t : List ℕ) (glyphs : ℕ) (kind : Kind) (at base glyph : ℕ) (r : Run) (w : Follows t at glyph r) (few : glyphs < 2 ^ 16) where
-  run-before : each (glyphFault t glyphs kind at base) (λ k. k + 1) (glyphs - glyph) glyph
-      ≡ each (glyphFault t glyphs kind at base) (λ k. k + 1) (glyphs - r .from) (r .from)
+  run-before : each (targetFault t glyphs kind at base) (λ k. k + 1) (glyphs - glyph) glyph
+      ≡ each (targetFault t glyphs kind at base) (λ k. k + 1) (glyphs - r .from) (r .from)
   run-before =
       let begins : glyph ≤ r .from = w .begins in
       let end : glyph + (r .from - glyph) ≡ r .from = omega arith in
-      each-skip (glyphFault t glyphs kind at base) glyphs glyph (r .from - glyph)
+      each-skip (targetFault t glyphs kind at base) glyphs glyph (r .from - glyph)
       (λ g a b c. no-value t glyphs kind at base g (value-in t glyphs at g c ∙ w .none g a (omega arith) (omega arith)))
-      ∙ ap (λ (j : ℕ). each (glyphFault t glyphs kind at base) (λ k. k + 1) (glyphs - j) j) end
+      ∙ ap (λ (j : ℕ). each (targetFault t glyphs kind at base) (λ k. k + 1) (glyphs - j) j) end
 
-  pub run-end : glyphs ≤ r .from → each (glyphFault t glyphs kind at base) (λ k. k + 1) (glyphs - glyph) glyph ≡ Clear
-  run-end h = run-before ∙ walk-none (λ p _. glyphFault t glyphs kind at base p) (λ k. k + 1) (λ p. 0) (glyphs - r .from) (r .from) 0 (omega arith)
+  pub run-end : glyphs ≤ r .from → each (targetFault t glyphs kind at base) (λ k. k + 1) (glyphs - glyph) glyph ≡ Clear
+  run-end h = run-before ∙ walk-none (λ p _. targetFault t glyphs kind at base p) (λ k. k + 1) (λ p. 0) (glyphs - r .from) (r .from) 0 (omega arith)
 
   -- a glyph of the run is judged by its value
   by-place : (g : ℕ) → r .from ≤ g → g < r .until → g < glyphs
-      → glyphFault t glyphs kind at base g ≡ placeFault t glyphs kind base (placeOf r g)
-  unfolding glyphFault placeFault
+      → targetFault t glyphs kind at base g ≡ placeFault t glyphs kind base (fieldInRun r g)
+  unfolding targetFault placeFault
   by-place g a b c = ap (λ (f : Found). spotFault t glyphs kind (spotOf kind base f)) (value-in t glyphs at g c ∙ w .some g a b (omega arith))
 
   -- the values of an array: as many as the font has glyphs for
   array-judged : r .array ≡ true → r .from < glyphs
-      → each (glyphFault t glyphs kind at base) (λ k. k + 1) (glyphs - r .from) (r .from)
+      → each (targetFault t glyphs kind at base) (λ k. k + 1) (glyphs - r .from) (r .from)
       ≡ (each (placeFault t glyphs kind base) (λ q. q + 2) (min (r .until) glyphs - r .from) (r .place)
-      then each (glyphFault t glyphs kind at base) (λ k. k + 1) (glyphs - r .until) (r .until))
+      then each (targetFault t glyphs kind at base) (λ k. k + 1) (glyphs - r .until) (r .until))
   array-judged e h =
       let more : r .from < r .until = w .more in
-      each-places (glyphFault t glyphs kind at base) (placeFault t glyphs kind base) glyphs (min (r .until) glyphs - r .from) (r .from) (r .place) (omega arith)
+      each-places (targetFault t glyphs kind at base) (placeFault t glyphs kind base) glyphs (min (r .until) glyphs - r .from) (r .from) (r .place) (omega arith)
       (λ i l. by-place (r .from + i) (omega arith) (omega arith) (omega arith) ∙ ap (placeFault t glyphs kind base) (there i))
       ∙ ap (λ (f : Fault). each (placeFault t glyphs kind base) (λ q. q + 2) (min (r .until) glyphs - r .from) (r .place) then f) (ends (ltb (r .until) glyphs) refl more)
     where
-      there : (i : ℕ) → placeOf r (r .from + i) ≡ r .place + 2 * i
+      there : (i : ℕ) → fieldInRun r (r .from + i) ≡ r .place + 2 * i
       there i =
           let q : r .place + 2 * (r .from + i - r .from) ≡ r .place + 2 * i = omega arith in
           ap (λ (b : Bool). cond b (r .place + 2 * (r .from + i - r .from)) (r .place)) e ∙ q
 
       ends : (b : Bool) → ltb (r .until) glyphs ≡ b → r .from < r .until
-          → each (glyphFault t glyphs kind at base) (λ k. k + 1) (glyphs - (r .from + (min (r .until) glyphs - r .from))) (r .from + (min (r .until) glyphs - r .from))
-          ≡ each (glyphFault t glyphs kind at base) (λ k. k + 1) (glyphs - r .until) (r .until)
+          → each (targetFault t glyphs kind at base) (λ k. k + 1) (glyphs - (r .from + (min (r .until) glyphs - r .from))) (r .from + (min (r .until) glyphs - r .from))
+          ≡ each (targetFault t glyphs kind at base) (λ k. k + 1) (glyphs - r .until) (r .until)
       ends true b more =
           let l : r .until < glyphs = ltb-true (r .until) glyphs b in
           let q : r .from + (min (r .until) glyphs - r .from) ≡ r .until = omega arith in
-          ap (λ (j : ℕ). each (glyphFault t glyphs kind at base) (λ k. k + 1) (glyphs - j) j) q
+          ap (λ (j : ℕ). each (targetFault t glyphs kind at base) (λ k. k + 1) (glyphs - j) j) q
       ends false b more =
           let l : glyphs ≤ r .until = ltb-false (r .until) glyphs b in
-          walk-none (λ p _. glyphFault t glyphs kind at base p) (λ k. k + 1) (λ p. 0) _ _ 0 (omega arith)
-          ∙ sym (walk-none (λ p _. glyphFault t glyphs kind at base p) (λ k. k + 1) (λ p. 0) (glyphs - r .until) (r .until) 0 (omega arith))
+          walk-none (λ p _. targetFault t glyphs kind at base p) (λ k. k + 1) (λ p. 0) _ _ 0 (omega arith)
+          ∙ sym (walk-none (λ p _. targetFault t glyphs kind at base p) (λ k. k + 1) (λ p. 0) (glyphs - r .until) (r .until) 0 (omega arith))
 
   -- one value for all glyphs of the run
   one-judged : r .array ≡ false → r .from < glyphs
-      → each (glyphFault t glyphs kind at base) (λ k. k + 1) (glyphs - r .from) (r .from)
+      → each (targetFault t glyphs kind at base) (λ k. k + 1) (glyphs - r .from) (r .from)
       ≡ (each (placeFault t glyphs kind base) (λ q. q + 2) 1 (r .place)
-      then each (glyphFault t glyphs kind at base) (λ k. k + 1) (glyphs - r .until) (r .until))
+      then each (targetFault t glyphs kind at base) (λ k. k + 1) (glyphs - r .until) (r .until))
   unfolding walk _then_
   one-judged e h = go (placeFault t glyphs kind base (r .place)) refl
     where
-      there : (g : ℕ) → placeOf r g ≡ r .place
+      there : (g : ℕ) → fieldInRun r g ≡ r .place
       there g = ap (λ (b : Bool). cond b (r .place + 2 * (g - r .from)) (r .place)) e
 
-      alike : (g : ℕ) → r .from ≤ g → g < r .until → g < glyphs → glyphFault t glyphs kind at base g ≡ placeFault t glyphs kind base (r .place)
+      alike : (g : ℕ) → r .from ≤ g → g < r .until → g < glyphs → targetFault t glyphs kind at base g ≡ placeFault t glyphs kind base (r .place)
       alike g a b c = by-place g a b c ∙ ap (placeFault t glyphs kind base) (there g)
 
       go : (f : Fault) → placeFault t glyphs kind base (r .place) ≡ f
-          → each (glyphFault t glyphs kind at base) (λ k. k + 1) (glyphs - r .from) (r .from)
+          → each (targetFault t glyphs kind at base) (λ k. k + 1) (glyphs - r .from) (r .from)
           ≡ ((placeFault t glyphs kind base (r .place) then Clear)
-          then each (glyphFault t glyphs kind at base) (λ k. k + 1) (glyphs - r .until) (r .until))
+          then each (targetFault t glyphs kind at base) (λ k. k + 1) (glyphs - r .until) (r .until))
       go Clear x =
           let more : r .from < r .until = w .more in
           let end : r .from + (r .until - r .from) ≡ r .until = omega arith in
-          each-skip (glyphFault t glyphs kind at base) glyphs (r .from) (r .until - r .from) (λ g a b c. alike g a (omega arith) c ∙ x)
-          ∙ ap (λ (j : ℕ). each (glyphFault t glyphs kind at base) (λ k. k + 1) (glyphs - j) j) end
-          ∙ sym (ap (λ (f : Fault). (f then Clear) then each (glyphFault t glyphs kind at base) (λ k. k + 1) (glyphs - r .until) (r .until)) x)
+          each-skip (targetFault t glyphs kind at base) glyphs (r .from) (r .until - r .from) (λ g a b c. alike g a (omega arith) c ∙ x)
+          ∙ ap (λ (j : ℕ). each (targetFault t glyphs kind at base) (λ k. k + 1) (glyphs - j) j) end
+          ∙ sym (ap (λ (f : Fault). (f then Clear) then each (targetFault t glyphs kind at base) (λ k. k + 1) (glyphs - r .until) (r .until)) x)
       go (Bad k p) x =
           let here = alike (r .from) (omega arith) (w .more) h in
-          walk-stop (λ p _. glyphFault t glyphs kind at base p) (λ k. k + 1) (λ p. 0) (glyphs - r .from) (r .from) 0 (omega arith) (here ∙ x)
+          walk-stop (λ p _. targetFault t glyphs kind at base p) (λ k. k + 1) (λ p. 0) (glyphs - r .from) (r .from) 0 (omega arith) (here ∙ x)
           ∙ here ∙ x
-          ∙ sym (ap (λ (f : Fault). (f then Clear) then each (glyphFault t glyphs kind at base) (λ k. k + 1) (glyphs - r .until) (r .until)) x)
+          ∙ sym (ap (λ (f : Fault). (f then Clear) then each (targetFault t glyphs kind at base) (λ k. k + 1) (glyphs - r .until) (r .until)) x)
 
   -- the run's values, `fault` being what was found of them, and then the glyphs after it
   pub run-judged : r .from < glyphs → (fault : Fault)
       → fault ≡ each (placeFault t glyphs kind base) (λ q. q + 2) (cond (r .array) (min (r .until) glyphs - r .from) 1) (r .place)
-      → each (glyphFault t glyphs kind at base) (λ k. k + 1) (glyphs - glyph) glyph
-      ≡ (fault then each (glyphFault t glyphs kind at base) (λ k. k + 1) (glyphs - r .until) (r .until))
+      → each (targetFault t glyphs kind at base) (λ k. k + 1) (glyphs - glyph) glyph
+      ≡ (fault then each (targetFault t glyphs kind at base) (λ k. k + 1) (glyphs - r .until) (r .until))
   run-judged h fault f = run-before ∙ go (r .array) refl f
     where
       go : (b : Bool) → r .array ≡ b
           → fault ≡ each (placeFault t glyphs kind base) (λ q. q + 2) (cond b (min (r .until) glyphs - r .from) 1) (r .place)
-          → each (glyphFault t glyphs kind at base) (λ k. k + 1) (glyphs - r .from) (r .from)
-          ≡ (fault then each (glyphFault t glyphs kind at base) (λ k. k + 1) (glyphs - r .until) (r .until))
-      go true e f = array-judged e h ∙ ap (λ (x : Fault). x then each (glyphFault t glyphs kind at base) (λ k. k + 1) (glyphs - r .until) (r .until)) (sym f)
-      go false e f = one-judged e h ∙ ap (λ (x : Fault). x then each (glyphFault t glyphs kind at base) (λ k. k + 1) (glyphs - r .until) (r .until)) (sym f)
+          → each (targetFault t glyphs kind at base) (λ k. k + 1) (glyphs - r .from) (r .from)
+          ≡ (fault then each (targetFault t glyphs kind at base) (λ k. k + 1) (glyphs - r .until) (r .until))
+      go true e f = array-judged e h ∙ ap (λ (x : Fault). x then each (targetFault t glyphs kind at base) (λ k. k + 1) (glyphs - r .until) (r .until)) (sym f)
+      go false e f = one-judged e h ∙ ap (λ (x : Fault). x then each (targetFault t glyphs kind at base) (λ k. k + 1) (glyphs - r .until) (r .until)) (sym f)
 
   -- a run whose one value leads to what the notes tell of is passed
   pub run-told : r .from < glyphs → r .array ≡ false → (judged : List ℕ) → Judged t glyphs judged → Told t kind base judged (r .place)

@@ -50,16 +50,16 @@ unfoldable pub placeFault : List ℕ → ℕ → Kind → ℕ → ℕ → Fault
 placeFault t glyphs kind base p = spotFault t glyphs kind (spotOf kind base (Value (u16At t p)))
 
 -- the first fault of what a glyph's value leads to; the lookup stands at `at`
-unfoldable pub glyphFault : List ℕ → ℕ → Kind → ℕ → ℕ → ℕ → Fault
-glyphFault t glyphs kind at base glyph = spotFault t glyphs kind (spotOf kind base (valueOf t glyphs at glyph))
+unfoldable pub targetFault : List ℕ → ℕ → Kind → ℕ → ℕ → ℕ → Fault
+targetFault t glyphs kind at base glyph = spotFault t glyphs kind (spotOf kind base (valueOf t glyphs at glyph))
 
 -- what the glyphs from one on lead to
 abbrev pub fromGlyph : List ℕ → ℕ → Kind → ℕ → ℕ → ℕ → Fault
-fromGlyph t glyphs kind at base glyph = each (glyphFault t glyphs kind at base) (λ g. g + 1) (glyphs - glyph) glyph
+fromGlyph t glyphs kind at base glyph = each (targetFault t glyphs kind at base) (λ g. g + 1) (glyphs - glyph) glyph
 
 -- the lookup, then what its values lead to, glyphs upward
 unfoldable pub valuesFault : List ℕ → ℕ → Kind → ℕ → ℕ → Fault
-valuesFault t glyphs kind at base = lookupFault t glyphs at then each (glyphFault t glyphs kind at base) (λ g. g + 1) glyphs 0
+valuesFault t glyphs kind at base = lookupFault t glyphs at then each (targetFault t glyphs kind at base) (λ g. g + 1) glyphs 0
 
 -- the same of a source, which has no fault where there is no lookup
 abbrev pub sourceFault : List ℕ → ℕ → Kind → Source → Fault

@@ -2,7 +2,7 @@
 // lists of actions. The lookup is judged first, then, glyphs upward, what each value leads to (refusals 4 to 6 and 8).
 ghost use mathlib.Core.Path.{_≡_};
 ghost use mathlib.Core.Bool.{true, cond};
-ghost use Prim.Native.Nat.{ℕ, _+_, _-_, _*_, _%_, _≤_, _<_, _^_, min};
+ghost use Prim.Native.Nat.{ℕ, _+_, _-_, _*_, _≤_, _<_, _^_, min};
 ghost use Rattle.fields.specs.declared.Fault.the-variants.{Clear};
 ghost use Rattle.fields.specs.Field.{u16At};
 ghost use Rattle.fields.specs.Walk.{each};
@@ -10,7 +10,7 @@ ghost use Rattle.lookup.specs.declared.Found.the-variants.{Value};
 ghost use Rattle.lookup.specs.Lookup.{lookupFault};
 ghost use Rattle.lookup.specs.Pass.{Serves};
 ghost use Rattle.actions.specs.Actions.{SpotBelow};
-ghost use Rattle.lookup_targets.specs.Values.{spotOf, itemFault, placeFault, glyphFault, fromGlyph, valuesFault, NoteTells, besides, Judged, Told, Ahead, noteAt, noteEach, noteAlong};
+ghost use Rattle.lookup_targets.specs.Values.{spotOf, itemFault, placeFault, targetFault, fromGlyph, valuesFault, NoteTells, besides, Judged, Told, Ahead, noteAt, noteEach, noteAlong};
 use actions::Spot;
 use fields::Fault;
 use lookup::Cursor;
@@ -237,7 +237,7 @@ fn untold(place: usize, count: usize, ahead: &[u8]) -> usize
 
 // Notes at `place` that `count` values from there on have something in common: as many as a byte tells, where that is more than
 // it told. In the check it is that they lead to nothing with a fault, in the writer that they lead to one item.
-fn note(place: usize, count: usize, ahead: &mut [u8])
+fn note_at(place: usize, count: usize, ahead: &mut [u8])
     ensures { λ r. ⌜ now (ahead .exit) ≡ noteAt place count (now (ahead .entry)) ⌝ }
 {
     let told = fields::lower(count, 255);
@@ -255,7 +255,7 @@ fn note_each(place: usize, count: usize, ahead: &mut [u8])
     let mut p = place;
     let mut left = count;
     while 0 < left {
-        note(p, left, ahead);
+        note_at(p, left, ahead);
         p += 2;
         left -= 1;
     }
@@ -271,7 +271,7 @@ pub fn note_values(place: usize, count: usize, ahead: &mut [u8])
     let mut left = count;
     while 0 < left {
         let told = fields::larger(1, fields::u8_at(ahead, p));
-        note(p, left, ahead);
+        note_at(p, left, ahead);
         let part = fields::lower(told, left);
         p += 2 * part;
         left -= part;
@@ -403,7 +403,7 @@ fn pass_told(
 }
 
 // The first fault of what the values of the lookup at `at`, which has none itself, lead to.
-fn glyphs_fault(
+fn targets_fault(
     table: &[u8],
     glyphs: usize,
     kind: Kind,
@@ -414,7 +414,7 @@ fn glyphs_fault(
 ) -> Fault
     requires { ⌜ (at < 2 ^ 32) × ((base < 2 ^ 16) × ((glyphs < 2 ^ 16) × (lookupFault (now table) glyphs at ≡ Clear))) ⌝ }
     requires { ⌜ Judged (now table) glyphs (now judged) × Ahead (now table) glyphs kind base (now ahead) ⌝ }
-    ensures { λ r. ⌜ (r ≡ each (glyphFault (now (table .entry)) glyphs kind at base) (λ g. g + 1) glyphs 0) × Judged (now (table .entry)) glyphs (now (judged .exit)) ⌝ }
+    ensures { λ r. ⌜ (r ≡ each (targetFault (now (table .entry)) glyphs kind at base) (λ g. g + 1) glyphs 0) × Judged (now (table .entry)) glyphs (now (judged .exit)) ⌝ }
 {
     let format = fields::u16_at(table, at);
     let mut cursor = lookup::begin(table, at);
@@ -447,18 +447,18 @@ fn shared_fault(
 ) -> Fault
     requires { ⌜ (at < 2 ^ 32) × ((base < 2 ^ 16) × ((glyphs < 2 ^ 16) × (lookupFault (now table) glyphs at ≡ Clear))) ⌝ }
     requires { ⌜ Judged (now table) glyphs (now judged) ⌝ }
-    ensures { λ r. ⌜ (r ≡ each (glyphFault (now (table .entry)) glyphs kind at base) (λ g. g + 1) glyphs 0) × Judged (now (table .entry)) glyphs (now (judged .exit)) ⌝ }
+    ensures { λ r. ⌜ (r ≡ each (targetFault (now (table .entry)) glyphs kind at base) (λ g. g + 1) glyphs 0) × Judged (now (table .entry)) glyphs (now (judged .exit)) ⌝ }
 {
     if table.len() <= 512 {
         let mut ahead = [0u8; 512];
-        return glyphs_fault(table, glyphs, kind, at, base, judged, &mut ahead);
+        return targets_fault(table, glyphs, kind, at, base, judged, &mut ahead);
     }
     if table.len() <= 4096 {
         let mut ahead = [0u8; 4096];
-        return glyphs_fault(table, glyphs, kind, at, base, judged, &mut ahead);
+        return targets_fault(table, glyphs, kind, at, base, judged, &mut ahead);
     }
     let mut ahead = [0u8; 32768];
-    glyphs_fault(table, glyphs, kind, at, base, judged, &mut ahead)
+    targets_fault(table, glyphs, kind, at, base, judged, &mut ahead)
 }
 
 // The first fault of the lookup at `at`, and of what its values, offsets from `base`, lead to. `judged` is lent, so that
@@ -483,7 +483,7 @@ pub fn values_fault(
     // Only units of format 4 can share values.
     if fields::u16_at(table, at) != 4 {
         let mut none = [0u8; 0];
-        return glyphs_fault(table, glyphs, kind, at, base, judged, &mut none);
+        return targets_fault(table, glyphs, kind, at, base, judged, &mut none);
     }
     shared_fault(table, glyphs, kind, at, base, judged)
 }

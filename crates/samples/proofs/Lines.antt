@@ -16,12 +16,13 @@ use Rattle.lookup.specs.Lookup.{countedFault, formatFault, lookupFault}
 use Rattle.machine.specs.Cells.{classAt, entryAt, cellAt}
 use Rattle.machine.specs.Rows.{entryFault, cellFault, rowFault, raised, raisedBy, faultFrom, countFrom, unless, rowCount}
 use Rattle.machine.specs.Machine.{headFault, classFault, classTableFault, machineFault}
-use Rattle.lookup_targets.specs.Values.{glyphFault, valuesFault}
+use Rattle.lookup_targets.specs.Values.{targetFault, valuesFault}
 use Rattle.table.specs.Table.{present, headerFault, offsetsFault, machinePart, actionPart, directionFault, tableFault, Accepted}
 use Rattle.table.specs.Means.{cellBy, machineAt, machineOf, sideAt, directionOf, meaningOf}
 use Rattle.line_rule.specs.Line.{Line}
 use Rattle.line_call.specs.Justified.{Lent}
-use Rattle.line_call.specs.Settle.{lineBy, lentBy}
+use Rattle.line_rule.specs.Shape.{lineBy}
+use Rattle.line_call.specs.Settle.{lentBy}
 use Rattle.samples.specs.Samples.{Proper, Shaped, empty, stuck, twelve}
 
 -- horizontal, at 10: a machine at 22, no actions, and a width lookup of format 6 without units, whose search fields are not read; the machine has 4 classes, a class
@@ -33,7 +34,7 @@ oneEntry =
     ∷ 0 ∷ 1 ∷ 2 ∷ 0 ∷ 0 ∷ 0 ∷ 0 ∷ 0 ∷ 0 ∷ 0 ∷ 0 ∷ 0 ∷ 17 ∷ 0x40 ∷ 0 ∷ []
 
 accepted : Accepted oneEntry 1
-unfolding oneEntry Accepted tableFault headerFault directionFault present offsetsFault machinePart actionPart u16At u32At inside rule _then_ walk valuesFault lookupFault formatFault countedFault unitSize glyphFault valueOf valueFrom unitCount hasUnits unitsValue machineFault headFault classTableFault classFault entryFault cellFault rowFault raised raisedBy faultFrom cellAt entryAt
+unfolding oneEntry Accepted tableFault headerFault directionFault present offsetsFault machinePart actionPart u16At u32At inside rule _then_ walk valuesFault lookupFault formatFault countedFault unitSize targetFault valueOf valueFrom unitCount hasUnits unitsValue machineFault headFault classTableFault classFault entryFault cellFault rowFault raised raisedBy faultFrom cellAt entryAt
 accepted = refl
 
 -- along the vertical

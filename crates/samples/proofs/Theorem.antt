@@ -29,10 +29,11 @@ use Rattle.share.specs.Line.{lineMoves, lineLeft, lineFits}
 use Rattle.verdict.specs.Verdict.{breaks, typeFires, firesOf}
 use Rattle.table.specs.Table.{Accepted}
 use Rattle.line_rule.specs.Line.{Line, knownEdition, gapOf, walkMachine, columnOf, walkOf, hasStopped, classesOf, entriesOf, partsOf, partsFor, beforeOf, afterOf, remainderOf, verdictsFrom, verdictsOf}
-use Rattle.line_call.specs.Justified.{Lent, justifies, refuses, settled, roomTest, workedFault, lineFault, justified}
-use Rattle.line_call.specs.Settle.{lineBy, lentBy}
-use Rattle.line_call.proofs.Tests.{lengths-hold}
-use Rattle.samples.specs.Samples.{Proper, Empty, Stuck, sideFor, cases, CaseHolds}
+use Rattle.line_call.specs.Justified.{Lent, sideFor, justifies, refuses, settled, roomTest, workedFault, lineFault, justified}
+use Rattle.line_rule.specs.Shape.{lineBy}
+use Rattle.line_call.specs.Settle.{lentBy}
+use Rattle.line_input.proofs.Tests.{lengths-hold}
+use Rattle.samples.specs.Samples.{Proper, Empty, Stuck, cases, CaseHolds}
 use Rattle.samples.proofs.Lines.{empty-line, stuck-line}
 
 -- ---- a line that refusals 1 to 13 do not bar

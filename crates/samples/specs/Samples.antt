@@ -10,16 +10,15 @@ use Rattle.fields.specs.Field.{be32}
 use Rattle.types.specs.declared.Entry.{Entry}
 use Rattle.units.specs.Fixed.{fixedOf, factorOf}
 use Rattle.units.specs.Flags.{stays}
-use Rattle.meaning.specs.Meaning.{Machine, Side}
-use Rattle.meaning.specs.Ask.{sideOf}
+use Rattle.meaning.specs.Meaning.{Machine}
 use Rattle.share.specs.Line.{Glyph, apart, beforeMoves, afterMoves, lineLeft, lineFits}
 use Rattle.verdict.specs.declared.Fires.{Fires}
 use Rattle.verdict.specs.declared.Fires.the-variants.{No, Plain}
 use Rattle.verdict.specs.Verdict.{firesOf}
 use Rattle.table.specs.Table.{Accepted}
-use Rattle.table.specs.Means.{meaningOf}
 use Rattle.line_rule.specs.Line.{Line, walkMachine, columnOf, unitsOf}
-use Rattle.line_call.specs.Justified.{Lent, LineReply, justifies, refuses, lengthsOf, equalLengths, goodSizes, goodAdvances, allKnown, justified}
+use Rattle.line_call.specs.Justified.{Lent, sideFor, LineReply, justifies, refuses, lengthsOf, justified}
+use Rattle.line_input.specs.Input.{equalLengths, goodSizes, goodAdvances, allKnown}
 
 -- ---- a case and what is expected of it
 
@@ -115,10 +114,6 @@ abbrev pub LigatureHolds : LigatureCase → Type 0
 LigatureHolds c =
     (class : ℕ) (rest : List ℕ)
     → firesOf (record { class = class; ty = 0; content = be32 (c .lower) ++ be32 (c .upper) ++ rest }) class (c .growth) (c .size) ≡ c .fires
-
--- the direction of a line in the meaning of its table
-abbrev pub sideFor : List ℕ → ℕ → Line → Side
-sideFor t n l = sideOf (l .direction) (meaningOf t n)
 
 pub record Empty (target : ℤ) (t : List ℕ) (n : ℕ) (l : Line) : Type 0 where
   pub no-glyph : l .glyphs ≡ []

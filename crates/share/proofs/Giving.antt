@@ -9,7 +9,7 @@ use native.Mathlib.Numerals.{add-one}
 use lib.ListN.{length, take, getD, set, length-set, length-map, List·getD-map}
 use lib.Seq.{take-all}
 use borrow.Author.Tests.{ne-eqb}
-use Rattle.share.specs.Share.{total, plus, ofStage, shares, most}
+use Rattle.share.specs.Share.{total, plus, ofStage, shares, mostTotal}
 use Rattle.share.specs.Carry.{widest}
 use Rattle.share.specs.Inner.{Runs, CanCarry, Stepped}
 use Rattle.share.specs.Sides.{stageIn, extraIn, stagesIn, extrasIn, factorsAt, extrasAt, weightsAt, Sides}
@@ -26,7 +26,7 @@ length-extrasAt s sides = length-ofStage s (length sides) (stagesIn sides) (extr
 pub length-factorsAt : (s : ℕ) {sides factors : List ℕ} → Sides sides factors → length (factorsAt s sides factors) ≡ length sides
 length-factorsAt s {sides} {factors} p = length-ofStage s (length sides) (stagesIn sides) factors (length-map sides stageIn) (p .equal)
 
-pub length-weightsAt : (extra : Bool) (s : ℕ) {sides factors : List ℕ} → Sides sides factors → length (weightsAt extra s sides factors) ≡ length sides
+pub length-weightsAt : (extras : Bool) (s : ℕ) {sides factors : List ℕ} → Sides sides factors → length (weightsAt extras s sides factors) ≡ length sides
 length-weightsAt true s {sides} p = length-extrasAt s sides
 length-weightsAt false s p = length-factorsAt s p
 
@@ -44,7 +44,7 @@ module _ (s : ℕ) (sides : List ℕ) (i : ℕ) {m : ℕ} (e : m ≡ stageIn (ge
   pub factor-hit : (factors : List ℕ) → i < length sides → m ≡ s → getD (factorsAt s sides factors) i 0 ≡ getD factors i 0
   factor-hit factors l h = ofStage-hit s i (stagesIn sides) factors (within l) (hit-at h)
 
-  pub weight-hit : (extra : Bool) (factors : List ℕ) → i < length sides → m ≡ s → getD (weightsAt extra s sides factors) i 0 ≡ cond extra (extraIn (getD sides i 0)) (getD factors i 0)
+  pub weight-hit : (extras : Bool) (factors : List ℕ) → i < length sides → m ≡ s → getD (weightsAt extras s sides factors) i 0 ≡ cond extras (extraIn (getD sides i 0)) (getD factors i 0)
   weight-hit true factors l h = extra-hit l h
   weight-hit false factors l h = factor-hit factors l h
 
@@ -57,12 +57,12 @@ module _ (s : ℕ) (sides : List ℕ) (i : ℕ) {m : ℕ} (e : m ≡ stageIn (ge
   pub factor-miss : (factors : List ℕ) → (m ≡ s → ⊥) → getD (factorsAt s sides factors) i 0 ≡ 0
   factor-miss factors h = miss factors h
 
-  pub weight-miss : (extra : Bool) (factors : List ℕ) → (m ≡ s → ⊥) → getD (weightsAt extra s sides factors) i 0 ≡ 0
+  pub weight-miss : (extras : Bool) (factors : List ℕ) → (m ≡ s → ⊥) → getD (weightsAt extras s sides factors) i 0 ≡ 0
   weight-miss true factors h = extra-miss h
   weight-miss false factors h = factor-miss factors h
 
 -- what the code weighs a side by is no wider than sharing may multiply
-pub weight-low : (extra : Bool) {side factor w : ℕ} → w ≡ cond extra (extraIn side) factor → side < 256 → factor ≤ widest → w ≤ widest
+pub weight-low : (extras : Bool) {side factor w : ℕ} → w ≡ cond extras (extraIn side) factor → side < 256 → factor ≤ widest → w ≤ widest
 weight-low true e h k = omega arith
 weight-low false e h k = omega arith
 
@@ -120,7 +120,7 @@ pub record Giving (r : ℕ) (ws out₀ : List ℕ) (run : Running) (out : List �
 module _ {r : ℕ} {ws out₀ : List ℕ} {run : Running} {out : List ℕ} {i : ℕ} (g : Giving r ws out₀ run out i) where
   -- a side of the stage, of weight w
   module _ {w : ℕ} (e : getD ws i 0 ≡ w) where
-    pub giving-ready : r ≤ 1073741823 → total ws ≤ most → 0 < total ws → w ≤ widest → CanCarry run w
+    pub giving-ready : r ≤ 1073741823 → total ws ≤ mostTotal → 0 < total ws → w ≤ widest → CanCarry run w
     giving-ready h k p n = ready w (g .runs) h k p (omega (arith, upto-le i ws)) n
 
     module _ {step : ShareStep} (f : Stepped run w step) where

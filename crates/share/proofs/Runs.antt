@@ -4,7 +4,7 @@ use Prim.Native.Nat.{ℕ, _+_, _-_, _*_, _/_, _%_, _^_, _≤_, _<_}
 use native.Mathlib.Omega.{arith}
 use native.Mathlib.Nat.{mul-le-mul, mul-add, add-mul, mul-zero, zero-div, zero-mod, div-add-mod', div-eq-of-lt, mod-eq-of-lt, add-mul-div-right, add-mul-mod-self-right, mod-lt}
 use lib.Dec.{lit<}
-use Rattle.share.specs.Share.{shareAt, most}
+use Rattle.share.specs.Share.{shareAt, mostTotal}
 use Rattle.share.specs.Carry.{widest, farthest, Carries, Carriable, CarriedOn}
 use Rattle.share.specs.Inner.{Runs, CanCarry, Stepped}
 use Rattle.share.specs.declared.Running.{Running}
@@ -78,7 +78,7 @@ started r t = record {
 }
 
 -- what the loop over the sides knows makes a state ready
-pub ready : {r t c : ℕ} {run : Running} (w : ℕ) → Runs r t c run → r ≤ 1073741823 → t ≤ most → 0 < t → c + w ≤ t → w ≤ widest → CanCarry run w
+pub ready : {r t c : ℕ} {run : Running} (w : ℕ) → Runs r t c run → r ≤ 1073741823 → t ≤ mostTotal → 0 < t → c + w ≤ t → w ≤ widest → CanCarry run w
 ready {r} {t} {c} {run} w s h k p l n =
     rw (s .amount, s .over, s .carries .quotient, s .carries .remainder) (carriable c w (omega arith) n p (omega arith) (omega arith))
 

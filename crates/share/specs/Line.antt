@@ -6,7 +6,7 @@ use mathlib.Core.Bool.{Bool, true, false, _&&_}
 use mathlib.Core.List.{List, [], _∷_}
 use lib.ListN.{length, getD}
 use lib.IntN.{ℤ, pos, negℤ, _+ℤ_}
-use Rattle.share.specs.Share.{stages, noPart, movements, remainder, within, among, empty, full, allTotal}
+use Rattle.share.specs.Share.{stages, noPart, movements, remainder, stagesFit, among, empty, full, allTotal}
 use Rattle.share.specs.Carry.{widest}
 
 -- a glyph's part: its stage priority, 1 where it is unlimited and else 0, and the factors of its two sides
@@ -62,7 +62,7 @@ lineLeft back gs gap = remainder back (sideStages gs) (sideFactors gs) (sideExtr
 
 -- refusal 15 does not bar the line
 unfoldable pub lineFits : List Glyph → Bool
-lineFits gs = within (sideStages gs) (sideFactors gs) stages
+lineFits gs = stagesFit (sideStages gs) (sideFactors gs) stages
 
 -- a size with the gap's sign: minus where the line shrinks
 abbrev pub signedOf : Bool → ℕ → ℤ

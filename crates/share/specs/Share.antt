@@ -99,13 +99,13 @@ remainder = leftBy stages
 -- ---- refusal 15
 
 -- the most that a stage's total may be
-abbrev pub most : ℕ
-most = 8589934592
+abbrev pub mostTotal : ℕ
+mostTotal = 8589934592
 
 -- every one of the stages, reached or not, has at most that
-abbrev pub within : List ℕ → List ℕ → List ℕ → Bool
-within ks fs [] = true
-within ks fs (s ∷ ss) = leb (total (ofStage s ks fs)) most && within ks fs ss
+abbrev pub stagesFit : List ℕ → List ℕ → List ℕ → Bool
+stagesFit ks fs [] = true
+stagesFit ks fs (s ∷ ss) = leb (total (ofStage s ks fs)) mostTotal && stagesFit ks fs ss
 
 -- ---- when there is a remainder
 

@@ -7,7 +7,7 @@ use mathlib.Core.Bool.{Bool, true, cond, _&&_}
 use mathlib.Core.List.{List, [], _∷_, map}
 use lib.Dec.{leb}
 use lib.ListN.{length, getD}
-use Rattle.share.specs.Share.{total, ofStage, stages, most, movements, remainder, within}
+use Rattle.share.specs.Share.{total, ofStage, stages, mostTotal, movements, remainder, stagesFit}
 use Rattle.share.specs.Line.{Narrow}
 use Rattle.share.specs.declared.Totals.{Totals}
 
@@ -35,7 +35,7 @@ abbrev pub extrasAt : ℕ → List ℕ → List ℕ
 extrasAt s sides = ofStage s (stagesIn sides) (extrasIn sides)
 
 abbrev pub weightsAt : Bool → ℕ → List ℕ → List ℕ → List ℕ
-weightsAt extra s sides factors = cond extra (extrasAt s sides) (factorsAt s sides factors)
+weightsAt extras s sides factors = cond extras (extrasAt s sides) (factorsAt s sides factors)
 
 -- the two slices are of one length, of no more sides than 1,024 glyphs have, and no factor is wider than sharing may multiply
 pub record Sides (sides factors : List ℕ) : Type 0 where
@@ -58,9 +58,9 @@ abbrev pub totalAt : Totals → ℕ → ℕ
 totalAt ts s = getD (ts .sums) s 0
 
 -- every one of these stages has a total of at most what it may be
-abbrev pub totalsWithin : Totals → List ℕ → Bool
-totalsWithin ts [] = true
-totalsWithin ts (s ∷ ss) = leb (totalAt ts s) most && totalsWithin ts ss
+abbrev pub totalsFit : Totals → List ℕ → Bool
+totalsFit ts [] = true
+totalsFit ts (s ∷ ss) = leb (totalAt ts s) mostTotal && totalsFit ts ss
 
 pub record TotalsOf (ts : Totals) (sides factors : List ℕ) : Type 0 where
   pub at : (s : ℕ) → s < stageCount → totalAt ts s ≡ total (factorsAt s sides factors)
@@ -68,7 +68,7 @@ pub record TotalsOf (ts : Totals) (sides factors : List ℕ) : Type 0 where
 -- these are the totals, and none is above the most that it may be
 pub record Fit (ts : Totals) (sides factors : List ℕ) : Type 0 where
   pub totals : TotalsOf ts sides factors
-  pub low : (s : ℕ) → s < stageCount → totalAt ts s ≤ most
+  pub low : (s : ℕ) → s < stageCount → totalAt ts s ≤ mostTotal
 
 -- ---- the whole rule on these slices
 
@@ -80,4 +80,4 @@ leftIn back sides factors gap = remainder back (stagesIn sides) factors (extrasI
 
 -- refusal 15 does not bar the line
 abbrev pub fitsIn : List ℕ → List ℕ → Bool
-fitsIn sides factors = within (stagesIn sides) factors stages
+fitsIn sides factors = stagesFit (stagesIn sides) factors stages

@@ -1,19 +1,19 @@
 // A line's gap shared over its sides (document 01, "Sharing the gap" and refusal 15). All of it works on sizes; the sign stands in
 // `signed` alone. A line is two slices with an element for each side, in line order, a glyph's before side ahead of its after side:
-// its stage priority, with 16 added for its extra weight (see `side_of`), and its factor. A priority that is no stage takes no part.
+// its stage priority, with 16 added for its extra weight (see `side_number`), and its factor. A priority that is no stage takes no part.
 ghost use mathlib.Core.Path.{_≡_};
-ghost use Prim.Native.Nat.{ℕ, _+_, _*_, _≤_, _<_, _^_};
+ghost use Prim.Native.Nat.{_*_, _≤_, _<_};
 ghost use lib.ListN.{length, replicate};
 ghost use mathlib.Core.Bool.{true, cond};
 ghost use mathlib.Core.List.{map};
-ghost use Rattle.share.specs.Share.{total, most, plus, shares, stages, stageMoves, stageLeft, stagesMoves, stagesLeft, backMoves, backLeft};
+ghost use Rattle.share.specs.Share.{total, mostTotal, plus, shares, stages, stageMoves, stageLeft, stagesMoves, stagesLeft, backMoves, backLeft};
 ghost use Rattle.share.specs.Carry.{widest, Carriable, CarriedOn};
 ghost use Rattle.share.specs.Line.{evens, odds, signedOf};
 ghost use Rattle.share.specs.Inner.{Runs, CanCarry, Stepped};
-ghost use Rattle.share.specs.Sides.{stageIn, extraIn, stagesIn, extrasIn, factorsAt, extrasAt, weightsAt, Sides, Addable, stageCount, totalAt, totalsWithin, TotalsOf, Fit, movesIn, leftIn, fitsIn};
+ghost use Rattle.share.specs.Sides.{stageIn, extraIn, stagesIn, extrasIn, factorsAt, extrasAt, weightsAt, Sides, Addable, stageCount, totalAt, totalsFit, TotalsOf, Fit, movesIn, leftIn, fitsIn};
 
 // The most that a stage's total may be.
-const MOST: u64 = 8589934592;
+const MOST_TOTAL: u64 = 8589934592;
 
 // The stages are the priorities 0 to STAGES - 1.
 const STAGES: u8 = 4;
@@ -122,11 +122,11 @@ fn total_of(totals: Totals, stage: u8) -> u64
 
 // Refusal 15's test: whether no stage's total is above the most that it may be.
 pub fn totals_fit(totals: Totals) -> bool
-    ensures { λ r. ⌜ r ≡ totalsWithin totals stages ⌝ }
+    ensures { λ r. ⌜ r ≡ totalsFit totals stages ⌝ }
 {
     let mut stage: u8 = 0;
     while stage < STAGES {
-        if MOST < total_of(totals, stage) {
+        if MOST_TOTAL < total_of(totals, stage) {
             return false;
         }
         stage += 1;
@@ -135,7 +135,7 @@ pub fn totals_fit(totals: Totals) -> bool
 }
 
 // A side of this stage priority, with extra weight 1 or 0, as one number.
-pub fn side_of(stage: u8, extra: u8) -> u8
+pub fn side_number(stage: u8, extra: u8) -> u8
     requires { ⌜ (stage < 16) × (extra ≤ 1) ⌝ }
     ensures { λ r. ⌜ (stageIn r ≡ stage) × (extraIn r ≡ extra) ⌝ }
 {
@@ -160,16 +160,16 @@ fn extra_in(side: u8) -> u64
 }
 
 // What a side is weighed by: its extra weight, or its factor.
-fn weight_of(extra: bool, side: u8, factor: u64) -> u64
-    ensures { λ r. ⌜ r ≡ cond extra (extraIn side) factor ⌝ }
+fn weight_of(extras: bool, side: u8, factor: u64) -> u64
+    ensures { λ r. ⌜ r ≡ cond extras (extraIn side) factor ⌝ }
 {
-    if extra { extra_in(side) } else { factor }
+    if extras { extra_in(side) } else { factor }
 }
 
 // Adds to the sides of a stage their factors; answers how much extra weight they have: the number of its unlimited glyphs.
 fn give_all(stage: u8, sides: &[u8], factors: &[u64], moves: &mut [u64]) -> u64
     requires { ⌜ Sides (now sides) (now factors) × Addable (total (factorsAt stage (now sides) (now factors))) (now sides) (now moves) ⌝ }
-    ensures { λ r. ⌜ (r ≡ total (extrasAt stage (now (sides .entry)))) × (r ≤ most) ⌝ }
+    ensures { λ r. ⌜ (r ≡ total (extrasAt stage (now (sides .entry)))) × (r ≤ mostTotal) ⌝ }
     ensures { λ r. ⌜ now (moves .exit) ≡ plus (now (moves .entry)) (factorsAt stage (now (sides .entry)) (now (factors .entry))) ⌝ }
 {
     let mut unlimited: u64 = 0;
@@ -192,21 +192,21 @@ fn give(
     amount: u64,
     over: u64,
     stage: u8,
-    extra: bool,
+    extras: bool,
     sides: &[u8],
     factors: &[u64],
     moves: &mut [u64],
 )
     requires { ⌜ Sides (now sides) (now factors) × Addable amount (now sides) (now moves) ⌝ }
-    requires { ⌜ (over ≡ total (weightsAt extra stage (now sides) (now factors))) × (over ≤ most) × (0 < over) ⌝ }
-    ensures { λ r. ⌜ now (moves .exit) ≡ plus (now (moves .entry)) (shares amount (weightsAt extra stage (now (sides .entry)) (now (factors .entry)))) ⌝ }
+    requires { ⌜ (over ≡ total (weightsAt extras stage (now sides) (now factors))) × (over ≤ mostTotal) × (0 < over) ⌝ }
+    ensures { λ r. ⌜ now (moves .exit) ≡ plus (now (moves .entry)) (shares amount (weightsAt extras stage (now (sides .entry)) (now (factors .entry)))) ⌝ }
 {
     let mut run = start(amount, over);
     let mut i = 0;
     while i < sides.len() {
         let side = sides[i];
         if stage_in(side) == stage {
-            let step = next_share(run, weight_of(extra, side, factors[i]));
+            let step = next_share(run, weight_of(extras, side, factors[i]));
             moves[i] += step.share;
             run = step.next;
             i += 1;
@@ -226,7 +226,7 @@ fn share_stage(
     moves: &mut [u64],
 ) -> u64
     requires { ⌜ Sides (now sides) (now factors) × Addable left (now sides) (now moves) ⌝ }
-    requires { ⌜ (over ≡ total (factorsAt stage (now sides) (now factors))) × (over ≤ most) ⌝ }
+    requires { ⌜ (over ≡ total (factorsAt stage (now sides) (now factors))) × (over ≤ mostTotal) ⌝ }
     ensures { λ r. ⌜ r ≡ stageLeft left (factorsAt stage (now (sides .entry)) (now (factors .entry))) (extrasAt stage (now (sides .entry))) ⌝ }
     ensures { λ r. ⌜ now (moves .exit) ≡ plus (now (moves .entry)) (stageMoves left (factorsAt stage (now (sides .entry)) (now (factors .entry))) (extrasAt stage (now (sides .entry)))) ⌝ }
 {

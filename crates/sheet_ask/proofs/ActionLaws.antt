@@ -22,7 +22,7 @@ use Rattle.actions.specs.Actions.{bytesAt, contentAt, actionAt, clipped}
 use Rattle.answers.proofs.Laws.{held-is}
 use Rattle.answers.specs.declared.ActionAnswer.{ActionAnswer}
 use Rattle.answers.specs.declared.ActionSought.the-variants.{Nothing}
-use Rattle.answers.specs.Says.{given, actionIn, saysAction, noAction, roomAfter}
+use Rattle.answers.specs.Says.{given, actionHeld, saysAction, noAction, roomAfter}
 use Rattle.sheet_list.specs.Action.{listCode}
 use Rattle.sheet_seek.specs.Passes.{Reaches}
 use Rattle.sheet_seek.proofs.PassLaws.{opened}
@@ -134,7 +134,7 @@ module _ (s : List ℕ) (bytes : Bytes s) (at k : ℕ) where
         )
 
     pub action-there : (h : HeldAction) → h ≡ held (clipped (actionAt (take (length s - q) (drop q s)) 0))
-        → (n : ℕ) (l : List Action) (rest : List ℕ) → OkActions n l → drop at s ≡ listCode l ++ rest → given (act (actionIn h)) ≡ given (maybe act (getElem? l k))
+        → (n : ℕ) (l : List Action) (rest : List ℕ) → OkActions n l → drop at s ≡ listCode l ++ rest → given (act (actionHeld h)) ≡ given (maybe act (getElem? l k))
     action-there h eh n l rest o e =
         let b : k < length l = omega (arith, below, list-opened n l rest o e) in
         let a = getD l k zero-action in

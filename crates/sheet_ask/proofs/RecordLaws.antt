@@ -16,7 +16,7 @@ use Rattle.units.proofs.FlagLaws.{kept-is}
 use Rattle.types.specs.declared.Pair.{Pair}
 use Rattle.meaning.specs.Limits.{OkFlags, OkPair, OkCluster}
 use Rattle.meaning.specs.Sheet.{pairCode}
-use Rattle.cluster.specs.Faults.{classAt}
+use Rattle.cluster.specs.Faults.{pairClass}
 use Rattle.cluster.specs.Pairs.{pairAt, pairsAt, clusterAt}
 use Rattle.meaning.specs.Wide.{WidePair}
 use Rattle.sheet_cluster.specs.Clusters.{clusterCode}
@@ -51,7 +51,7 @@ module _ (t : List ℕ) (bytes : Bytes t) where
   kept f h = kept-is f ∙ omega (arith, h .0, h .1)
 
   pair-is : (p : ℕ) (x : Pair) (rest : List ℕ) → OkPair x → drop p t ≡ pairCode x ++ rest → (pairAt t p ≡ x) × (drop (p + 24) t ≡ rest)
-  unfolding pairAt classAt
+  unfolding pairAt pairClass
   pair-is p x rest o e =
       let f1 = read32 p (p + 4) (x .class) _ refl (omega (arith, o .0)) e in
       let f2 = read32 (p + 4) (p + 8) (x .before .grow) _ (omega arith) (omega (arith, o .1 .0)) (f1 .1) in

@@ -8,7 +8,7 @@ use lib.ListN.{length, take, drop, length-append, length-drop, take-append-drop,
 use lib.Seq.{take-all, take-at, drop-at, length-take-le}
 use borrow.Rule.Slice.PartMut.{putMid}
 use Rattle.encoding.specs.Tests.{Says}
-use Rattle.sheet_distinct.specs.Order.{Perm, same, then, NoLater, no-later-dec, merged, left, Sorted, stretch, Apart, Adjacent}
+use Rattle.sheet_distinct.specs.Order.{Perm, same, then, NoLater, no-later-dec, merged, mergedFrom, Sorted, stretch, Apart, Adjacent}
 use Rattle.sheet_distinct.proofs.OrderLaws.{later-total, later-trans, later-anti, later-same}
 use Rattle.sheet_distinct.proofs.SortLaws.{perm-sym, apart-perm, apart-adjacent, adjacent-apart, perm-both, perm-length, merged-perm, merged-ordered}
 
@@ -39,9 +39,9 @@ module _ (A L : List ℕ) (h : ℕ) (hl : h ≤ length A) (pl : length L ≡ h) 
 
 pub sorted-halves : (s offsets A L R : List ℕ) (h : ℕ) → h ≤ length A → Sorted s offsets (take h A) L
     → Sorted s offsets (take (length (L ++ drop h A) - h) (drop h (L ++ drop h A))) R
-    → Sorted s offsets A (left s offsets (putMid h (length (L ++ drop h A) - h) (L ++ drop h A) R) 0 h h)
+    → Sorted s offsets A (mergedFrom s offsets (putMid h (length (L ++ drop h A) - h) (L ++ drop h A) R) 0 h h)
 sorted-halves s offsets A L R h hl p q =
-    subst (λ (l : List ℕ). Sorted s offsets A (left s offsets l 0 h h)) (sym (both-are A L h hl pl R pr))
+    subst (λ (l : List ℕ). Sorted s offsets A (mergedFrom s offsets l 0 h h)) (sym (both-are A L h hl pl R pr))
     (subst (λ (l : List ℕ). Sorted s offsets A l) (sym parts)
     (record {
       perm = then (subst (λ (l : List ℕ). Perm l (L ++ R)) (take-append-drop h A) (perm-both {xs = take h A} {ys = L} (drop h A) R (p .perm) (q′ .perm)))
@@ -58,7 +58,7 @@ sorted-halves s offsets A L R h hl p q =
     pr : length R ≡ length A - h
     pr = sym (perm-length (q′ .perm)) ∙ length-drop h A
 
-    parts : left s offsets (L ++ R) 0 h h ≡ merged {le = NoLater s offsets} (no-later-dec s offsets) L R
+    parts : mergedFrom s offsets (L ++ R) 0 h h ≡ merged {le = NoLater s offsets} (no-later-dec s offsets) L R
     parts = ap₂ (λ (u v : List ℕ). merged {le = NoLater s offsets} (no-later-dec s offsets) u v) (take-at L R h pl) (drop-at L R h pl)
 
 -- ---- the answer on a sorted list is the answer on the list

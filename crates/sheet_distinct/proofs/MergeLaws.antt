@@ -7,7 +7,7 @@ use mathlib.Core.Logic.{if-pos, if-neg}
 use native.Mathlib.Numerals.{add-one}
 use lib.ListN.{length, getD, take, drop, set, drop-of-length-le}
 use lib.Seq.{slice, slice-cons, drop-cons, take-suc-set, take-all}
-use Rattle.sheet_distinct.specs.Order.{NoLater, no-later-dec, merged, left, Next}
+use Rattle.sheet_distinct.specs.Order.{NoLater, no-later-dec, merged, mergedFrom, Next}
 use Rattle.sheet_distinct.proofs.OrderLaws.{slice-done}
 
 module _ (s offsets ord : List ℕ) (i h j : ℕ) where
@@ -54,7 +54,7 @@ module _ (s offsets ord : List ℕ) (i h j : ℕ) where
         ∙ ap (λ (l : List ℕ). getD ord j 0 ∷ m l (drop (j + 1) ord)) (sym (first p q)),
   )
 
-  pub both-done : h ≤ i → length ord ≤ j → left s offsets ord i h j ≡ []
+  pub both-done : h ≤ i → length ord ≤ j → mergedFrom s offsets ord i h j ≡ []
   unfolding m
   both-done p q = ap₂ (λ (u v : List ℕ). m u v) (slice-done i h ord p) (drop-of-length-le ord q)
 

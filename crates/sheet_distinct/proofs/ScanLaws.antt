@@ -17,7 +17,7 @@ use Rattle.encoding.proofs.CodeLaws.{be32-free, be32-at, many-free}
 use Rattle.encoding.proofs.UptoLaws.{length-from, getD-from}
 use Rattle.sheet_sections.proofs.PoolLaws.{all-places}
 use Rattle.sheet_sections.specs.Pool.{Items}
-use Rattle.sheet_distinct.specs.Order.{stretch, Apart, countFrom}
+use Rattle.sheet_distinct.specs.Order.{stretch, Apart, upFrom}
 use Rattle.sheet_distinct.specs.Scan.{Scanned, NoItems}
 
 -- ---- no two alike, by their places
@@ -53,11 +53,11 @@ module _ {A : Type 0} (eq : Discrete A) where
           let c : index eq (getD ds j z) ds ≡ index eq (getD ds k z) ds = ap (λ (x : A). index eq x ds) e in
           omega arith
 
-pub count-length : (n i : ℕ) → length (countFrom i n) ≡ n
-count-length = length-from (λ (x : ℕ). x)
+pub up-length : (n i : ℕ) → length (upFrom i n) ≡ n
+up-length = length-from (λ (x : ℕ). x)
 
-pub count-at : (n i k : ℕ) → k < n → getD (countFrom i n) k 0 ≡ i + k
-count-at n i k h = getD-from (λ (x : ℕ). x) n i k 0 h
+pub up-at : (n i k : ℕ) → k < n → getD (upFrom i n) k 0 ≡ i + k
+up-at n i k h = getD-from (λ (x : ℕ). x) n i k 0 h
 
 -- ---- offsets
 
@@ -154,32 +154,32 @@ module _ {A : Type 0} (code : A → List ℕ) (ok : A → Type 0) (free : Prefix
     -- ---- distinct or not
 
     module _ (eq : Discrete A) where
-      pub scanned-once : Apart (stretch s offsets) (countFrom 0 i) → Once eq (d .ds)
+      pub scanned-once : Apart (stretch s offsets) (upFrom 0 i) → Once eq (d .ds)
       scanned-once a =
           apart-once eq (d .ds) (apart-from (λ (x : A). x) z (d .ds) (λ j k h l e. clash j k h l e))
         where
-          at : (k : ℕ) → k < i → stretch s offsets (getD (countFrom 0 i) k 0) ≡ code (getD (d .ds) k z)
-          at k h = ap (stretch s offsets) (count-at i 0 k h ∙ zero-plus k) ∙ d .stretches k z h
+          at : (k : ℕ) → k < i → stretch s offsets (getD (upFrom 0 i) k 0) ≡ code (getD (d .ds) k z)
+          at k h = ap (stretch s offsets) (up-at i 0 k h ∙ zero-plus k) ∙ d .stretches k z h
             where
               zero-plus : (k : ℕ) → 0 + k ≡ k
               zero-plus k = omega arith
 
           clash : (j k : ℕ) → j < k → k < length (d .ds) → getD (d .ds) j z ≡ getD (d .ds) k z → ⊥
           clash j k h l e =
-              apart-at (stretch s offsets) 0 (countFrom 0 i) a j k h (omega (arith, count-length i 0, d .count))
+              apart-at (stretch s offsets) 0 (upFrom 0 i) a j k h (omega (arith, up-length i 0, d .count))
               (at j (omega (arith, d .count)) ∙ ap code e ∙ sym (at k (omega (arith, d .count))))
 
-      pub once-scanned : Once eq (d .ds) → Apart (stretch s offsets) (countFrom 0 i)
+      pub once-scanned : Once eq (d .ds) → Apart (stretch s offsets) (upFrom 0 i)
       once-scanned o =
-          apart-from (stretch s offsets) 0 (countFrom 0 i) (λ j k h l e. clash j k h (omega (arith, count-length i 0)) e)
+          apart-from (stretch s offsets) 0 (upFrom 0 i) (λ j k h l e. clash j k h (omega (arith, up-length i 0)) e)
         where
-          at : (k : ℕ) → k < i → stretch s offsets (getD (countFrom 0 i) k 0) ≡ code (getD (d .ds) k z)
-          at k h = ap (stretch s offsets) (count-at i 0 k h ∙ zero-plus k) ∙ d .stretches k z h
+          at : (k : ℕ) → k < i → stretch s offsets (getD (upFrom 0 i) k 0) ≡ code (getD (d .ds) k z)
+          at k h = ap (stretch s offsets) (up-at i 0 k h ∙ zero-plus k) ∙ d .stretches k z h
             where
               zero-plus : (k : ℕ) → 0 + k ≡ k
               zero-plus k = omega arith
 
-          clash : (j k : ℕ) → j < k → k < i → stretch s offsets (getD (countFrom 0 i) j 0) ≡ stretch s offsets (getD (countFrom 0 i) k 0) → ⊥
+          clash : (j k : ℕ) → j < k → k < i → stretch s offsets (getD (upFrom 0 i) j 0) ≡ stretch s offsets (getD (upFrom 0 i) k 0) → ⊥
           clash j k h l e =
               let g : code (getD (d .ds) j z) ≡ code (getD (d .ds) k z) = sym (at j (omega arith)) ∙ e ∙ at k l in
               let x = free (getD (d .ds) j z) (getD (d .ds) k z) [] [] (all-at ok (d .ds) z j (d .good) (omega (arith, d .count))) (all-at ok (d .ds) z k (d .good) (omega (arith, d .count)))
@@ -206,13 +206,13 @@ module _ {A : Type 0} (code : A → List ℕ) (ok : A → Type 0) (free : Prefix
       items-none h ys rest o e = let g = opened ys rest o e in h ys rest (o .2) (sym (g .0) ∙ sym em) (g .1)
 
       module _ (q : ℕ) (offsets : List ℕ) (d : Scanned code ok s (at + 4) m q offsets) where
-        pub items-twice : (Apart (stretch s offsets) (countFrom 0 m) → ⊥) → Absent (counted code) (Items eq ok n) s at
+        pub items-twice : (Apart (stretch s offsets) (upFrom 0 m) → ⊥) → Absent (counted code) (Items eq ok n) s at
         items-twice h ys rest o e =
             let g = opened ys rest o e in
             let f = many-free code ok free (d .ds) ys (drop q s) rest (d .count ∙ em ∙ g .0) (d .good) (o .2) (sym (d .bytes) ∙ g .1) in
             h (once-scanned code ok free z s (at + 4) m q offsets d eq (subst (λ (l : List A). Once eq l) (sym (f .0)) (o .1)))
 
-        pub items-found : m ≤ n → Apart (stretch s offsets) (countFrom 0 m) → Found (counted code) (Items eq ok n) s at q
+        pub items-found : m ≤ n → Apart (stretch s offsets) (upFrom 0 m) → Found (counted code) (Items eq ok n) s at q
         items-found h a =
             let l : u32At s at ≡ length (d .ds) = sym em ∙ sym (d .count) in (
               d .ds,

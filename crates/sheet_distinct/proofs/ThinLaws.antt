@@ -12,9 +12,9 @@ use lib.Seq.{getD-set-same, getD-set-other}
 use Rattle.encoding.specs.Codes.{All}
 use Rattle.encoding.specs.Tests.{Says}
 use Rattle.encoding.proofs.ListLaws.{all-append, all-map}
-use Rattle.sheet_distinct.specs.Order.{Apart, countFrom}
+use Rattle.sheet_distinct.specs.Order.{Apart, upFrom}
 use Rattle.sheet_distinct.specs.Slots.{Unused, DistinctRooms, Thinned}
-use Rattle.sheet_distinct.proofs.ScanLaws.{apart-at, apart-from, count-length, count-at}
+use Rattle.sheet_distinct.proofs.ScanLaws.{apart-at, apart-from, up-length, up-at}
 
 -- ---- one more element at the end
 
@@ -38,22 +38,22 @@ module _ (f : ℕ → List ℕ) where
   abbrev Below : ℕ → Type 0
   Below k = (x y : ℕ) → x < y → y < k → f x ≡ f y → ⊥
 
-  at : (n j : ℕ) → j < n → f (getD (countFrom 0 n) j 0) ≡ f j
-  at n j h = ap f (count-at n 0 j h ∙ plain j)
+  at : (n j : ℕ) → j < n → f (getD (upFrom 0 n) j 0) ≡ f j
+  at n j h = ap f (up-at n 0 j h ∙ plain j)
     where
       plain : (j : ℕ) → 0 + j ≡ j
       plain j = omega arith
 
-  below-apart : (n : ℕ) → Below n → Apart f (countFrom 0 n)
+  below-apart : (n : ℕ) → Below n → Apart f (upFrom 0 n)
   below-apart n b =
-      apart-from f 0 (countFrom 0 n)
+      apart-from f 0 (upFrom 0 n)
       (λ j k h l e.
-      let m : k < n = omega (arith, count-length n 0) in
+      let m : k < n = omega (arith, up-length n 0) in
       b j k h m (sym (at n j (omega arith)) ∙ e ∙ at n k m))
 
-  apart-below : (n : ℕ) → Apart f (countFrom 0 n) → Below n
+  apart-below : (n : ℕ) → Apart f (upFrom 0 n) → Below n
   apart-below n a x y h l e =
-      apart-at f 0 (countFrom 0 n) a x y h (omega (arith, count-length n 0)) (at n x (omega arith) ∙ e ∙ sym (at n y l))
+      apart-at f 0 (upFrom 0 n) a x y h (omega (arith, up-length n 0)) (at n x (omega arith) ∙ e ∙ sym (at n y l))
 
   -- what is unlike all of c is unlike x
   abbrev Covered : List ℕ → ℕ → Type 0
@@ -186,7 +186,7 @@ unused (suc n) zero = refl
 unused (suc n) (suc i) = unused n i
 
 -- one is apart, and none
-pub apart-one : (f : ℕ → List ℕ) (n : ℕ) → n < 2 → Apart f (countFrom 0 n)
+pub apart-one : (f : ℕ → List ℕ) (n : ℕ) → n < 2 → Apart f (upFrom 0 n)
 apart-one f n h = below-apart f n (λ x y p q e. omega arith)
 
 -- zeros are rooms
@@ -196,6 +196,6 @@ rooms n k l a b c d =
     let f = length-replicate {A = ℕ} l 0 in
     (omega (arith, e), omega (arith, f), omega (arith, f), omega (arith, f), unused l)
 
-pub says-thinned : (f : ℕ → List ℕ) (n r : ℕ) (numbers : List ℕ) (b : Bool) → Thinned f n r numbers → Says b (Apart f (take r numbers)) → Says b (Apart f (countFrom 0 n))
+pub says-thinned : (f : ℕ → List ℕ) (n r : ℕ) (numbers : List ℕ) (b : Bool) → Thinned f n r numbers → Says b (Apart f (take r numbers)) → Says b (Apart f (upFrom 0 n))
 says-thinned f n r numbers true t h = t .back h
 says-thinned f n r numbers false t h = λ a. h (t .to a)

@@ -60,8 +60,8 @@ Adjacent f (x ∷ []) = Unit {0}
 Adjacent f (x ∷ y ∷ xs) = (f x ≡ f y → ⊥) × Adjacent f (y ∷ xs)
 
 -- the numbers from i on, k of them
-abbrev pub countFrom : ℕ → ℕ → List ℕ
-countFrom i k = from (λ (x : ℕ). x) k i
+abbrev pub upFrom : ℕ → ℕ → List ℕ
+upFrom i k = from (λ (x : ℕ). x) k i
 
 pub no-later-dec : (s offsets : List ℕ) (i j : ℕ) → Dec (NoLater s offsets i j)
 unfolding NoLater
@@ -69,14 +69,14 @@ no-later-dec s offsets i j = le-dec (stretch s offsets i) (stretch s offsets j)
 
 -- ---- merging and sorting numbers
 
--- what is left to merge: of the part of ord from i to h, and of its part from j on
-abbrev pub left : (s offsets ord : List ℕ) → ℕ → ℕ → ℕ → List ℕ
-left s offsets ord i h j = merged {le = NoLater s offsets} (no-later-dec s offsets) (slice i h ord) (drop j ord)
+-- what merging from there on gives: the part of ord from i to h, and its part from j on
+abbrev pub mergedFrom : (s offsets ord : List ℕ) → ℕ → ℕ → ℕ → List ℕ
+mergedFrom s offsets ord i h j = merged {le = NoLater s offsets} (no-later-dec s offsets) (slice i h ord) (drop j ord)
 
 -- the next element is the left part's first (true), or the right part's; what is left after it
 abbrev pub Next : Bool → (s offsets ord : List ℕ) → ℕ → ℕ → ℕ → Type 0
-Next true s offsets ord i h j = (i < h) × (left s offsets ord i h j ≡ getD ord i 0 ∷ left s offsets ord (i + 1) h j)
-Next false s offsets ord i h j = (j < length ord) × (left s offsets ord i h j ≡ getD ord j 0 ∷ left s offsets ord i h (j + 1))
+Next true s offsets ord i h j = (i < h) × (mergedFrom s offsets ord i h j ≡ getD ord i 0 ∷ mergedFrom s offsets ord (i + 1) h j)
+Next false s offsets ord i h j = (j < length ord) × (mergedFrom s offsets ord i h j ≡ getD ord j 0 ∷ mergedFrom s offsets ord i h (j + 1))
 
 -- b has a's elements, in order
 pub record Sorted (s offsets a b : List ℕ) : Type 0 where

@@ -4,7 +4,7 @@ use mathlib.Core.Path.{_≡_}
 use mathlib.Core.List.{List}
 use lib.ListN.{length, getD, take}
 use Rattle.fields.specs.Field.{u32At}
-use Rattle.sheet_distinct.specs.Order.{Apart, countFrom}
+use Rattle.sheet_distinct.specs.Order.{Apart, upFrom}
 
 -- n words from a place on, mixed with what those before gave
 unfoldable pub mixed : List ℕ → ℕ → ℕ → ℕ → ℕ
@@ -34,5 +34,5 @@ DistinctRooms n numbers firsts = (n ≤ length numbers) × (n ≤ length firsts)
 -- the first r of the numbers are among those below n, and no two of them are alike exactly where no two of all are
 pub record Thinned (f : ℕ → List ℕ) (n r : ℕ) (numbers : List ℕ) : Type 0 where
   pub few : r ≤ n
-  pub to : Apart f (countFrom 0 n) → Apart f (take r numbers)
-  pub back : Apart f (take r numbers) → Apart f (countFrom 0 n)
+  pub to : Apart f (upFrom 0 n) → Apart f (take r numbers)
+  pub back : Apart f (take r numbers) → Apart f (upFrom 0 n)

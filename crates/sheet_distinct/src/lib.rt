@@ -9,7 +9,7 @@ ghost use lib.ListN.{length, getD};
 ghost use lib.Seq.{slice};
 ghost use Rattle.encoding.specs.Tests.{Says};
 ghost use Rattle.encoding.specs.Dictionary.{Le};
-ghost use Rattle.sheet_distinct.specs.Order.{BeginAlike, stretch, NoLater, Ordered, Sorted, left, Next, Apart, Adjacent, countFrom};
+ghost use Rattle.sheet_distinct.specs.Order.{BeginAlike, stretch, NoLater, Ordered, Sorted, mergedFrom, Next, Apart, Adjacent, upFrom};
 ghost use Rattle.sheet_distinct.specs.Slots.{mixed, slotOf, DistinctRooms, Thinned};
 
 // How many bytes, word by word, the bytes from `a` to `ae` and those from `b` to `be` share at their beginning.
@@ -119,7 +119,7 @@ fn from_left(
 // Merges the sorted parts of `numbers` before `middle` and from there on.
 fn merge(bytes: &[u8], offsets: &[usize], numbers: &[u16], middle: usize, out: &mut [u16])
     requires { ⌜ (middle ≤ length (now numbers)) × (length (now out) ≡ length (now numbers)) ⌝ }
-    ensures { λ r. ⌜ now (out .exit) ≡ left (now (bytes .entry)) (now (offsets .entry)) (now (numbers .entry)) 0 middle middle ⌝ }
+    ensures { λ r. ⌜ now (out .exit) ≡ mergedFrom (now (bytes .entry)) (now (offsets .entry)) (now (numbers .entry)) 0 middle middle ⌝ }
 {
     let mut i: usize = 0;
     let mut j = middle;
@@ -284,7 +284,7 @@ pub fn distinct(
     firsts: &mut [u16],
 ) -> bool
     requires { ⌜ (count < 2 ^ 16) × DistinctRooms count (now numbers) (now firsts) ⌝ }
-    ensures { λ r. ⌜ Says r (Apart (stretch (now (bytes .entry)) (now (offsets .entry))) (countFrom 0 count)) ⌝ }
+    ensures { λ r. ⌜ Says r (Apart (stretch (now (bytes .entry)) (now (offsets .entry))) (upFrom 0 count)) ⌝ }
 {
     if count < 2 {
         return true;

@@ -95,8 +95,8 @@ fn good_substitute(bytes: &[u8], at: usize, size: usize, glyphs: usize) -> bool
     true
 }
 
-// Type 3 has no data. Type 4: an axis and three Fixed.
-fn good_size(bytes: &[u8], at: usize, size: usize, whole: usize) -> bool
+// Whether the data is `whole` bytes long: none for type 3, for type 4 an axis and three Fixed.
+fn has_length(bytes: &[u8], at: usize, size: usize, whole: usize) -> bool
     requires { ⌜ at + size ≤ length (now bytes) ⌝ }
     ensures { λ r. ⌜ Says r (length (bytesAt (now (bytes .entry)) at size) ≡ whole) ⌝ }
 {
@@ -138,10 +138,10 @@ fn good_content(bytes: &[u8], at: usize, size: usize, ty: usize, glyphs: usize) 
         return good_substitute(bytes, at, size, glyphs);
     }
     if ty == 3 {
-        return good_size(bytes, at, size, 0);
+        return has_length(bytes, at, size, 0);
     }
     if ty == 4 {
-        return good_size(bytes, at, size, 16);
+        return has_length(bytes, at, size, 16);
     }
     if ty == 5 {
         return good_repeat(bytes, at, size, glyphs);

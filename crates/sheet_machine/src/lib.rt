@@ -104,7 +104,7 @@ fn no_machine(bytes: &[u8], at: usize) -> bool
 }
 
 // Whether S and class count are within a machine's limits.
-fn good_sizes(rows: usize, classes: usize) -> bool
+fn good_counts(rows: usize, classes: usize) -> bool
     ensures { λ r. ⌜ Says r (Sizes rows classes) ⌝ }
 {
     if rows < 2 {
@@ -137,7 +137,7 @@ fn one_machine(bytes: &[u8], at: usize) -> bool
     }
     let rows = fields::u32_at(bytes, at + 4);
     let classes = fields::u32_at(bytes, at + 8);
-    good_sizes(rows, classes)
+    good_counts(rows, classes)
 }
 
 // Sections 1 to 4: the machine of `glyphs` glyphs, or none.

@@ -16,8 +16,8 @@ abbrev pub Items : {A : Type 0} → Discrete A → (A → Type 0) → ℕ → Li
 Items eq ok n ds = (length ds ≤ n) × Once eq ds × All ok ds
 
 -- the run that stands at a place
-abbrev pub numberAt : List ℕ → ℕ → Run ℕ
-numberAt bytes at = record { first = u16At bytes at; last = u16At bytes (at + 2); value = u16At bytes (at + 4) + 1 }
+abbrev pub numberRunAt : List ℕ → ℕ → Run ℕ
+numberRunAt bytes at = record { first = u16At bytes at; last = u16At bytes (at + 2); value = u16At bytes (at + 4) + 1 }
 
 -- runs among n glyphs from `from` on, after a run of the number `held`, whose numbers come in order of first use: those below `used` are used before,
 -- and m items in all

@@ -5,13 +5,12 @@
 ghost use mathlib.Core.Path.{_≡_};
 ghost use Prim.Native.Nat.{_+_, _*_, _≤_, _<_, _^_};
 ghost use lib.ListN.{length};
-ghost use Rattle.fields.specs.Field.{u32At};
 ghost use Rattle.encoding.specs.Codes.{itemsAt, counted};
 ghost use Rattle.encoding.specs.Sections.{runSection, runLessCode};
 ghost use Rattle.encoding.specs.Tests.{Says};
 ghost use Rattle.sheet_sections.specs.Section.{Parses, HasItems};
 ghost use Rattle.sheet_sections.specs.RunSection.{runAt, MayFollow, GoodRuns, Below};
-ghost use Rattle.sheet_sections.specs.Pool.{numberAt, NumbersFrom, NumberRuns, usedAfter};
+ghost use Rattle.sheet_sections.specs.Pool.{numberRunAt, NumbersFrom, NumberRuns, usedAfter};
 
 // What a reader finds at a position: the bytes of a valid value, up to the place named, or those of none.
 pub enum Read {
@@ -137,7 +136,7 @@ fn used_after(number: usize, used: usize) -> usize
 // Whether `count` runs from a position on give the numbers of `items` items to `glyphs` glyphs.
 fn good_numbers(bytes: &[u8], at: usize, count: usize, glyphs: usize, items: usize) -> bool
     requires { ⌜ (at + 6 * count ≤ length (now bytes)) × (glyphs < 2 ^ 16) × (items < 2 ^ 16) ⌝ }
-    ensures { λ r. ⌜ Says r (NumbersFrom glyphs items 0 0 1 (itemsAt numberAt 6 (now (bytes .entry)) at count)) ⌝ }
+    ensures { λ r. ⌜ Says r (NumbersFrom glyphs items 0 0 1 (itemsAt numberRunAt 6 (now (bytes .entry)) at count)) ⌝ }
 {
     let mut from: usize = 0;
     let mut held: usize = 0;

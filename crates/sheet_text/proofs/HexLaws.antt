@@ -12,7 +12,7 @@ use Rattle.fields.specs.declared.Refusal.{Refusal}
 use Rattle.fields.specs.declared.Refusal.the-variants.{TableLength, GlyphCount, Version, Outside, BadLookup, BadCluster, BadMachine, BadActions, UnequalLengths, LongLine, PointSize, Advances, UnknownGlyph, EndlessWalk, StageTotal, ShortRoom, NotSheet, UnknownEdition, FontEnds, MissingTable, WrongSum}
 use Rattle.fields.specs.Refusals.{numberOf}
 use Rattle.fields.specs.Stores.{put-two}
-use Rattle.sheet_text.specs.Printed.{newline, digitOf, hexOf, lineOf, perLine, printedSheet, refused, decimalOf, printedRefusal}
+use Rattle.sheet_text.specs.Printed.{newline, digitOf, hexOf, hexLine, perLine, printedSheet, refused, decimalOf, printedRefusal}
 use Rattle.sheet_text.specs.Stored.{Stored, Printed}
 use Rattle.sheet_text.specs.Laws.{printed-none, printed-next, decimal-length}
 
@@ -29,14 +29,14 @@ stored-first text l h =
 
 -- ---- a line
 
-pub line-next : (bytes : List ℕ) (i : ℕ) → i < length bytes → lineOf (drop i bytes) ≡ hexOf (getD bytes i 0) ++ lineOf (drop (i + 1) bytes)
-unfolding lineOf
+pub line-next : (bytes : List ℕ) (i : ℕ) → i < length bytes → hexLine (drop i bytes) ≡ hexOf (getD bytes i 0) ++ hexLine (drop (i + 1) bytes)
+unfolding hexLine
 line-next bytes i h =
-    ap lineOf (drop-cons bytes i 0 h) ∙ ap (λ (k : ℕ). hexOf (getD bytes i 0) ++ lineOf (drop k bytes)) (sym (add-one i))
+    ap hexLine (drop-cons bytes i 0 h) ∙ ap (λ (k : ℕ). hexOf (getD bytes i 0) ++ hexLine (drop k bytes)) (sym (add-one i))
 
-pub line-last : (bytes : List ℕ) (i : ℕ) → length bytes ≤ i → lineOf (drop i bytes) ≡ newline ∷ []
-unfolding lineOf
-line-last bytes i h = ap lineOf (drop-of-length-le bytes h)
+pub line-last : (bytes : List ℕ) (i : ℕ) → length bytes ≤ i → hexLine (drop i bytes) ≡ newline ∷ []
+unfolding hexLine
+line-last bytes i h = ap hexLine (drop-of-length-le bytes h)
 
 -- ---- a sheet
 
@@ -57,7 +57,7 @@ cut l n = go (decLe n (length l))
         (take-all _ l h′ ∙ sym (take-all n l h), drop-of-length-le l h′ ∙ sym (drop-of-length-le l h))
 
 pub sheet-next : (sheet : List ℕ) (from end : ℕ) → from < length sheet → end ≡ from + min perLine (length sheet - from)
-    → printedSheet (drop from sheet) ≡ lineOf (take (end - from) (drop from sheet)) ++ printedSheet (drop end sheet)
+    → printedSheet (drop from sheet) ≡ hexLine (take (end - from) (drop from sheet)) ++ printedSheet (drop end sheet)
 sheet-next sheet from end h e =
     let l = drop from sheet in
     let len : length l ≡ length sheet - from = length-drop from sheet in
@@ -66,7 +66,7 @@ sheet-next sheet from end h e =
     let first : take perLine l ≡ take (end - from) l = sym (cut l perLine .0) ∙ ap (λ (n : ℕ). take n l) k in
     let skip : drop (end - from) l ≡ drop end sheet = drop-drop (end - from) from sheet ∙ ap (λ (n : ℕ). drop n sheet) f in
     let rest : drop perLine l ≡ drop end sheet = sym (cut l perLine .1) ∙ ap (λ (n : ℕ). drop n l) k ∙ skip in
-    printed-next l (omega arith) ∙ ap₂ (λ (a b : List ℕ). lineOf a ++ printedSheet b) first rest
+    printed-next l (omega arith) ∙ ap₂ (λ (a b : List ℕ). hexLine a ++ printedSheet b) first rest
 
 -- ---- a refusal
 

@@ -7,13 +7,13 @@ use native.Mathlib.Omega.{arith}
 use lib.ListN.{length, take, drop, length-append, length-take, length-drop}
 use lib.Seq.{take-append-seam}
 use lib.Dec.{ltb}
-use Rattle.sheet_text.specs.Printed.{newline, digitOf, lineOf, perLine, lineCount, linesOf, printedSheet, decimalOf, printedRefusal}
+use Rattle.sheet_text.specs.Printed.{newline, digitOf, hexLine, perLine, lineCount, linesOf, printedSheet, decimalOf, printedRefusal}
 use Rattle.sheet_text.specs.Stored.{Printed}
 
 -- ---- lines
 
-pub line-length : (bytes : List ℕ) → length (lineOf bytes) ≡ 2 * length bytes + 1
-unfolding lineOf
+pub line-length : (bytes : List ℕ) → length (hexLine bytes) ≡ 2 * length bytes + 1
+unfolding hexLine
 line-length [] = refl
 line-length (b ∷ bytes) = omega (arith, line-length bytes)
 
@@ -24,7 +24,7 @@ lines-length (suc n) bytes h =
     let t : length (take perLine bytes) ≡ min perLine (length bytes) = length-take perLine bytes in
     let d : length (drop perLine bytes) ≡ length bytes - perLine = length-drop perLine bytes in
     let rest = lines-length n (drop perLine bytes) (omega arith) in
-    length-append (lineOf (take perLine bytes)) (linesOf n (drop perLine bytes))
+    length-append (hexLine (take perLine bytes)) (linesOf n (drop perLine bytes))
     ∙ (omega (arith, line-length (take perLine bytes)))
 
 -- a sheet's text is two digits a byte, and a newline a line
@@ -45,7 +45,7 @@ printed-none [] h = refl
 printed-none (b ∷ bytes) h = absurd (omega arith)
 
 -- the first line, and the rest
-pub printed-next : (bytes : List ℕ) → 0 < length bytes → printedSheet bytes ≡ lineOf (take perLine bytes) ++ printedSheet (drop perLine bytes)
+pub printed-next : (bytes : List ℕ) → 0 < length bytes → printedSheet bytes ≡ hexLine (take perLine bytes) ++ printedSheet (drop perLine bytes)
 unfolding printedSheet linesOf
 printed-next bytes h =
     let d : length (drop perLine bytes) ≡ length bytes - perLine = length-drop perLine bytes in

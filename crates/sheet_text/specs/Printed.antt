@@ -22,9 +22,9 @@ abbrev pub hexOf : ℕ → List ℕ
 hexOf byte = digitOf (byte / 16) ∷ digitOf (byte % 16) ∷ []
 
 -- a line of these bytes
-unfoldable pub lineOf : List ℕ → List ℕ
-lineOf [] = newline ∷ []
-lineOf (byte ∷ bytes) = hexOf byte ++ lineOf bytes
+unfoldable pub hexLine : List ℕ → List ℕ
+hexLine [] = newline ∷ []
+hexLine (byte ∷ bytes) = hexOf byte ++ hexLine bytes
 
 -- how many bytes stand on a full line
 abbrev pub perLine : ℕ
@@ -37,7 +37,7 @@ lineCount n = (n + (perLine - 1)) / perLine
 -- these bytes in n lines: the first line has the first bytes, as many as fit on it, and so on
 unfoldable pub linesOf : ℕ → List ℕ → List ℕ
 linesOf zero bytes = []
-linesOf (suc n) bytes = lineOf (take perLine bytes) ++ linesOf n (drop perLine bytes)
+linesOf (suc n) bytes = hexLine (take perLine bytes) ++ linesOf n (drop perLine bytes)
 
 -- the lines of a sheet
 unfoldable pub printedSheet : List ℕ → List ℕ

@@ -1,13 +1,13 @@
 // What the printing program writes for what it reads (document 01, "Sample lines and tables", the passage on the program).
 // The text is put at the start of lent bytes, and the rest of them stays as it was.
 ghost use mathlib.Core.Path.{_≡_};
-ghost use Prim.Native.Nat.{_≤_, ℕ, _+_, _-_, _<_, min};
+ghost use Prim.Native.Nat.{_≤_, _+_, _-_, _<_, min};
 ghost use lib.ListN.{length};
 ghost use Rattle.sheet_text.specs.Stored.{Printed, Stored};
 ghost use Rattle.sheet_text.specs.Text.{sheetRoom, textRoom, tableText, programText};
 ghost use lib.Seq.{sets};
 ghost use Rattle.fields.specs.Refusals.{numberOf};
-ghost use Rattle.sheet_text.specs.Printed.{perLine, digitOf, hexOf, lineOf, decimalOf, printedSheet, printedRefusal};
+ghost use Rattle.sheet_text.specs.Printed.{perLine, digitOf, hexOf, hexLine, decimalOf, printedSheet, printedRefusal};
 use fields::Refusal;
 use sheet_write::WriteAnswer;
 
@@ -68,8 +68,8 @@ fn put_hex(out: &mut [u8], at: usize, byte: u8)
 
 // Stores a line of these bytes, and answers where it ends.
 fn put_line(bytes: &[u8], out: &mut [u8], at: usize) -> usize
-    requires { ⌜ at + length (lineOf (now bytes)) ≤ length (now out) ⌝ }
-    ensures { λ r. ⌜ Stored (lineOf (now (bytes .entry))) at (now (out .entry)) (now (out .exit)) r ⌝ }
+    requires { ⌜ at + length (hexLine (now bytes)) ≤ length (now out) ⌝ }
+    ensures { λ r. ⌜ Stored (hexLine (now (bytes .entry))) at (now (out .entry)) (now (out .exit)) r ⌝ }
 {
     let mut i = 0;
     let mut to = at;

@@ -65,7 +65,7 @@ fn length_accepted(table: &[u8], glyphs: usize) -> usize
 }
 
 // Stores the first `count` bytes of a list from the start of the room on.
-fn copy(bytes: &[u8], count: usize, room: &mut [u8])
+fn copy_front(bytes: &[u8], count: usize, room: &mut [u8])
     requires { ⌜ (count ≤ length (now bytes)) × (count ≤ length (now room)) ⌝ }
     ensures { λ r. ⌜ now (room .exit) ≡ take count (now (bytes .entry)) ++ drop count (now (room .entry)) ⌝ }
 {
@@ -77,13 +77,13 @@ fn copy(bytes: &[u8], count: usize, room: &mut [u8])
 }
 
 // Stores the sheet, which is `size` bytes long, into a room that is long enough: from the draft, if it fits there.
-fn put_again(table: &[u8], glyphs: usize, draft: &[u8], size: usize, room: &mut [u8])
+fn put_sized(table: &[u8], glyphs: usize, draft: &[u8], size: usize, room: &mut [u8])
     requires { ⌜ (tableFault (now table) glyphs ≡ Clear) × ((size ≡ length (sheetOf (now table) glyphs)) × (size ≤ length (now room))) ⌝ }
     requires { ⌜ Draft (sheetOf (now table) glyphs) (now draft) ⌝ }
     ensures { λ r. ⌜ now (room .exit) ≡ sheetOf (now (table .entry)) glyphs ++ drop size (now (room .entry)) ⌝ }
 {
     if size <= draft.len() {
-        copy(draft, size, room);
+        copy_front(draft, size, room);
     } else {
         put_sheet(table, glyphs, room);
     }
@@ -102,7 +102,7 @@ fn write_by(table: &[u8], glyphs: usize, draft: &mut [u8], room: &mut [u8]) -> W
             at: 0,
         };
     }
-    put_again(table, glyphs, draft, size, room);
+    put_sized(table, glyphs, draft, size, room);
     WriteAnswer::Written(size as u32)
 }
 

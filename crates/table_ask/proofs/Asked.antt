@@ -21,7 +21,7 @@ use Rattle.machine.specs.Rows.{rowCount}
 use Rattle.lookup.specs.Find.{valueOf}
 use Rattle.actions.specs.declared.Spot.{Spot}
 use Rattle.actions.specs.declared.Spot.the-variants.{At, Nowhere}
-use Rattle.actions.specs.Actions.{placeOf}
+use Rattle.actions.specs.Actions.{spotInList}
 use Rattle.actions.proofs.Laws.{place-at, place-none}
 use Rattle.lookup_targets.specs.declared.Kind.{Kind}
 use Rattle.lookup_targets.specs.declared.Kind.the-variants.{Clusters, Lists}
@@ -212,10 +212,10 @@ module _ (t : List ℕ) (n : ℕ) (d : Direction) where
         ap (actionHere t) e
         ∙ sym (asked (action g k) ∙ ap (λ (l : List Action). maybe act (getElem? l k)) lists-are ∙ by-spot (spotIn t n d Lists g))
       where
-        by-place : (p : ℕ) (s : Spot) → placeOf t p k ≡ s → maybe act (getElem? (listHere t (At p)) k) ≡ actionHere t s
+        by-place : (p : ℕ) (s : Spot) → spotInList t p k ≡ s → maybe act (getElem? (listHere t (At p)) k) ≡ actionHere t s
         by-place p (At q) e = ap (maybe act) (place-at t p k q e)
         by-place p Nowhere e = ap (maybe act) (place-none t p k e)
 
         by-spot : (s : Spot) → maybe act (getElem? (listHere t s) k) ≡ actionHere t (numbered t k s)
-        by-spot (At p) = by-place p (placeOf t p k) refl
+        by-spot (At p) = by-place p (spotInList t p k) refl
         by-spot Nowhere = refl

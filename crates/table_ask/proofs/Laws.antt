@@ -30,27 +30,27 @@ use Rattle.lookup_targets.specs.declared.Kind.{Kind}
 use Rattle.lookup_targets.specs.declared.Kind.the-variants.{Lists}
 use Rattle.lookup_targets.specs.declared.Source.{Source}
 use Rattle.lookup_targets.specs.declared.Source.the-variants.{Lookup, Absent}
-use Rattle.lookup_targets.specs.Values.{spotOf, spotFault, glyphFault, valuesFault, sourceFault}
+use Rattle.lookup_targets.specs.Values.{spotOf, spotFault, targetFault, valuesFault, sourceFault}
 use Rattle.table.specs.Table.{directionAt, sourceAt, tableFault}
 use Rattle.table.proofs.Laws.{direction-clear, source-clear}
 use Rattle.table.specs.Means.{meaningOf}
 use Rattle.table_ask.specs.Places.{headed, lookupIn, spotBy, spotIn, numbered, actionSpot, cut}
-use Rattle.table_ask.specs.Components.{empty, componentsHere, unlessFault, componentsOf, stretch, listed}
+use Rattle.table_ask.specs.Components.{emptyStretch, componentsHere, unlessFault, componentsOf, stretch, listedComponents}
 use Rattle.table_ask.proofs.Steps.{judged}
 use Rattle.table_ask.proofs.Asked.{value-past, action-here}
 
 -- what a glyph's value leads to is without fault where the lookup's part is
 value-clear : (t : List ℕ) (n : ℕ) (kind : Kind) (at base g q : ℕ) → valuesFault t n kind at base ≡ Clear → spotOf kind base (valueOf t n at g) ≡ At q
     → spotFault t n kind (At q) ≡ Clear
-unfolding valuesFault glyphFault
+unfolding valuesFault targetFault
 value-clear t n kind at base g q e f = go (decLt g n)
   where
     go : Dec (g < n) → spotFault t n kind (At q) ≡ Clear
     go (yes h) =
         let z : 0 + 1 * g ≡ g = omega arith in
         ap (spotFault t n kind) (sym f)
-        ∙ ap (λ (i : ℕ). glyphFault t n kind at base i) (sym z)
-        ∙ walk-each (λ p _. glyphFault t n kind at base p) 1 (λ p. 0) n 0 0 (then-second _ _ e) g h .1
+        ∙ ap (λ (i : ℕ). targetFault t n kind at base i) (sym z)
+        ∙ walk-each (λ p _. targetFault t n kind at base p) 1 (λ p. 0) n 0 0 (then-second _ _ e) g h .1
     go (no h) = let p = value-past t n at g (omega arith) kind base in let z : _≡_ {A = ℕ} 0 1 = cc in absurd (omega arith)
 
 module _ (t : List ℕ) (n : ℕ) (d : Direction) (ok : tableFault t n ≡ Clear) where
@@ -100,7 +100,7 @@ pub record Within (t : List ℕ) (s : Stretch) : Type 0 where
   pub inside : s .to ≤ length t
 
 module _ (t : List ℕ) (n : ℕ) (d : Direction) (g k : ℕ) where
-  none-within : Within t empty
+  none-within : Within t emptyStretch
   none-within = record { ordered = omega arith; inside = omega arith }
 
   pub components-within : Within t (componentsOf t n d g k)
@@ -116,7 +116,7 @@ module _ (t : List ℕ) (n : ℕ) (d : Direction) (g k : ℕ) where
       by-fault (Bad r at) e = none-within
 
   -- the component list is what the meaning has after the count of a type 0 action, and nothing where it has no such action or the table is refused
-  pub components-mean : stretch t (componentsOf t n d g k) ≡ listed (unlessBad (tableFault t n) (ask (meaningOf t n) (along d (action g k))))
+  pub components-mean : stretch t (componentsOf t n d g k) ≡ listedComponents (unlessBad (tableFault t n) (ask (meaningOf t n) (along d (action g k))))
   unfolding componentsOf stretch actionAt
   components-mean = by-fault (tableFault t n) refl
     where
@@ -126,13 +126,13 @@ module _ (t : List ℕ) (n : ℕ) (d : Direction) (g k : ℕ) where
       by-kind p f false e = ap (stretch t) (components-none t p (u16At t (p + 2)) refl (eqb-false _ _ e))
 
       by-spot : tableFault t n ≡ Clear → (s : Spot) → actionSpot t n d g k ≡ s
-          → stretch t (componentsHere t s) ≡ listed (unlessBad Clear (ask (meaningOf t n) (along d (action g k))))
+          → stretch t (componentsHere t s) ≡ listedComponents (unlessBad Clear (ask (meaningOf t n) (along d (action g k))))
       by-spot ok (At p) e =
           by-kind p (action-clear t n d ok g k p e) (eqb (u16At t (p + 2)) 0) refl
-          ∙ ap (λ (a : Answer). listed (unlessBad Clear a)) (action-here t n d g k (At p) (sym e))
-      by-spot ok Nowhere e = ap (λ (a : Answer). listed (unlessBad Clear a)) (action-here t n d g k Nowhere (sym e))
+          ∙ ap (λ (a : Answer). listedComponents (unlessBad Clear a)) (action-here t n d g k (At p) (sym e))
+      by-spot ok Nowhere e = ap (λ (a : Answer). listedComponents (unlessBad Clear a)) (action-here t n d g k Nowhere (sym e))
 
       by-fault : (f : Fault) → tableFault t n ≡ f
-          → stretch t (unlessFault f (componentsHere t (actionSpot t n d g k))) ≡ listed (unlessBad f (ask (meaningOf t n) (along d (action g k))))
+          → stretch t (unlessFault f (componentsHere t (actionSpot t n d g k))) ≡ listedComponents (unlessBad f (ask (meaningOf t n) (along d (action g k))))
       by-fault Clear e = by-spot e (actionSpot t n d g k) refl
       by-fault (Bad r at) e = refl

@@ -16,18 +16,18 @@ use Rattle.actions.specs.Actions.{componentsAt}
 use Rattle.table.specs.Table.{tableFault}
 use Rattle.table_ask.specs.Places.{actionSpot}
 
-abbrev pub empty : Stretch
-empty = record { from = 0; to = 0 }
+abbrev pub emptyStretch : Stretch
+emptyStretch = record { from = 0; to = 0 }
 
 -- the glyphs of the action at a spot, an empty stretch where it is not of type 0
 abbrev pub componentsHere : List ℕ → Spot → Stretch
 componentsHere t (At p) = componentsAt t p
-componentsHere t Nowhere = empty
+componentsHere t Nowhere = emptyStretch
 
 -- a table with a fault has no component list
 abbrev pub unlessFault : Fault → Stretch → Stretch
 unlessFault Clear s = s
-unlessFault (Bad r at) s = empty
+unlessFault (Bad r at) s = emptyStretch
 
 -- the stretch of the type 0 action that direction, glyph and number name in an accepted table, else the empty one
 unfoldable pub componentsOf : List ℕ → ℕ → Direction → ℕ → ℕ → Stretch
@@ -43,14 +43,14 @@ placeIn p s = (p .0, s .from + p .1)
 
 -- the component list by what the meaning has: a type 0 action's data after lower, upper, order and count; that `componentsOf` is this stretch is `components-mean` of
 -- proofs/Laws.antt
-abbrev pub listedIn : Answer → List ℕ
-listedIn (act a) = cond (eqb (a .ty) 0) (drop 12 (a .content)) []
-listedIn nothing = []
-listedIn (number k) = []
-listedIn (both s c) = []
-listedIn (entry e) = []
-listedIn (pair p) = []
+abbrev pub componentsIn : Answer → List ℕ
+componentsIn (act a) = cond (eqb (a .ty) 0) (drop 12 (a .content)) []
+componentsIn nothing = []
+componentsIn (number k) = []
+componentsIn (both s c) = []
+componentsIn (entry e) = []
+componentsIn (pair p) = []
 
-abbrev pub listed : Reply → List ℕ
-listed (given a) = listedIn a
-listed (refused r at) = []
+abbrev pub listedComponents : Reply → List ℕ
+listedComponents (given a) = componentsIn a
+listedComponents (refused r at) = []

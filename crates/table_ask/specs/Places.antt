@@ -13,7 +13,7 @@ use Rattle.lookup.specs.Find.{valueOf}
 use Rattle.lookup_find.specs.Halves.{headAt}
 use Rattle.actions.specs.declared.Spot.{Spot}
 use Rattle.actions.specs.declared.Spot.the-variants.{At, Nowhere}
-use Rattle.actions.specs.Actions.{actionAt, placeOf, clipped}
+use Rattle.actions.specs.Actions.{actionAt, spotInList, clipped}
 use Rattle.lookup_targets.specs.declared.Kind.{Kind}
 use Rattle.lookup_targets.specs.declared.Kind.the-variants.{Lists}
 use Rattle.lookup_targets.specs.declared.Source.{Source}
@@ -65,7 +65,7 @@ spotIn t n d kind glyph = spotBy t n kind (lookupIn t d kind) glyph
 
 -- where the action with a number stands, of the list at a spot
 abbrev pub numbered : List ℕ → ℕ → Spot → Spot
-numbered t k (At p) = placeOf t p k
+numbered t k (At p) = spotInList t p k
 numbered t k Nowhere = Nowhere
 
 -- where an action stands, by glyph and number

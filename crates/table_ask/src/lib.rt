@@ -122,7 +122,7 @@ fn spot_from(place: usize) -> Spot
 }
 
 // A spot as a plain number.
-fn plain(spot: Spot) -> usize
+fn plain_spot(spot: Spot) -> usize
     requires { ⌜ SpotBelow (2 ^ 17) spot ⌝ }
     ensures { λ r. ⌜ spotFrom r ≡ spot ⌝ }
 {
@@ -149,7 +149,7 @@ fn place_by(
 {
     let looked = lookup_find::find_by(table, count as usize, at, Head { format, units }, glyph);
     let found = looked.found;
-    plain(lookup_targets::spot_of(kind, base, found))
+    plain_spot(lookup_targets::spot_of(kind, base, found))
 }
 
 // Where a glyph's cluster or list stands, by a direction's lookup of that kind. A line asks this of each glyph, mostly by
@@ -226,7 +226,7 @@ fn action_spot(table: &[u8], count: u32, direction: Direction, glyph: u16, numbe
     ensures { λ r. ⌜ (r ≡ actionSpot (now (table .entry)) count direction glyph number) × SpotBelow (2 ^ 50) r ⌝ }
 {
     match spot_in(table, count, direction, Kind::Lists, glyph) {
-        Spot::At(at) => actions::place_of(table, at, number),
+        Spot::At(at) => actions::spot_in_list(table, at, number),
         Spot::Nowhere => Spot::Nowhere,
     }
 }
@@ -326,7 +326,7 @@ pub fn ask_action(
 
 // Where the component list stands that direction, glyph and number name; an empty stretch where that is no type 0
 // action of an accepted table.
-pub fn components_at(
+pub fn component_stretch(
     table: &[u8],
     count: u32,
     direction: Direction,
@@ -349,7 +349,7 @@ pub fn components_at(
 pub fn components(table: &[u8], count: u32, direction: Direction, glyph: u16, number: u16) -> &[u8]
     ensures { λ r. ⌜ (now r ≡ stretch (now (table .entry)) (componentsOf (now (table .entry)) count direction glyph number)) × (r .ptr ≡ placeIn (table .entry .ptr) (componentsOf (now (table .entry)) count direction glyph number)) ⌝ }
 {
-    let list = components_at(table, count, direction, glyph, number);
+    let list = component_stretch(table, count, direction, glyph, number);
     let from = list.from;
     let to = list.to;
     &table[from..to]

@@ -20,7 +20,7 @@ use Rattle.fields.specs.Laws.{then-assoc, then-clear, then-first, then-second, 
 use Rattle.fields.specs.Walk.{walk, each}
 use Rattle.lookup.specs.Lookup.{lookupFault}
 use Rattle.lookup_targets.specs.declared.Kind.{Kind}
-use Rattle.lookup_targets.specs.Values.{glyphFault, valuesFault}
+use Rattle.lookup_targets.specs.Values.{targetFault, valuesFault}
 use Rattle.fields.specs.Refusals.{numberOf, one-number}
 use Rattle.answers.specs.Says.{accepted, barred, judgedBy}
 use Rattle.table.specs.Table.{present, headerFault, offsetsFault, directionFault, tableFault, Accepted}
@@ -139,12 +139,12 @@ first-each one (suc n) at r p h = go (ℕ-discrete (h .0) at) (first-each one n 
 -- a lookup comes before what its values lead to, and that is judged glyphs upward
 pub values-first : (t : List ℕ) (n : ℕ) (kind : Kind) (at base : ℕ) (r : Refusal) (p : ℕ)
     → (valuesFault t n kind at base ≡ Bad r p)
-    ↔ ((lookupFault t n at ≡ Bad r p) ⊎ ((lookupFault t n at ≡ Clear) × FirstGlyph (glyphFault t n kind at base) n r p))
+    ↔ ((lookupFault t n at ≡ Bad r p) ⊎ ((lookupFault t n at ≡ Clear) × FirstGlyph (targetFault t n kind at base) n r p))
 unfolding valuesFault FirstFrom
 values-first t n kind at base r p = (there, back)
   where
     one : ℕ → Fault
-    one = glyphFault t n kind at base
+    one = targetFault t n kind at base
 
     there : (lookupFault t n at then each one (λ g. g + 1) n 0) ≡ Bad r p
         → (lookupFault t n at ≡ Bad r p) ⊎ ((lookupFault t n at ≡ Clear) × FirstGlyph one n r p)

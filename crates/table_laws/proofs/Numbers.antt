@@ -19,7 +19,7 @@ use Rattle.actions.specs.declared.Spot.the-variants.{At, Nowhere}
 use Rattle.lookup.specs.Find.{valueOf}
 use Rattle.lookup_targets.specs.declared.Kind.{Kind}
 use Rattle.lookup_targets.specs.declared.Kind.the-variants.{Clusters, Lists}
-use Rattle.lookup_targets.specs.Values.{spotOf, spotFault, glyphFault, valuesFault}
+use Rattle.lookup_targets.specs.Values.{spotOf, spotFault, targetFault, valuesFault}
 use Rattle.table.specs.Table.{present, headerFault, offsetsFault, machinePart, actionPart, directionFault, tableFault, machineOffset, widthOffset, actionOffset, widthLookup}
 use Rattle.table_laws.specs.Order.{Only, clear, outside, own, OfTable, of-none, of-header, of-part}
 use Rattle.table_laws.proofs.Faults.{clear-not-bad}
@@ -73,10 +73,10 @@ module _ (t : List ℕ) (n : ℕ) where
   spotted Lists Nowhere = of-none
 
   valued : (kind : Kind) (at base : ℕ) → OfTable (valuesFault t n kind at base)
-  unfolding valuesFault glyphFault
+  unfolding valuesFault targetFault
   valued kind at base =
       of-only (omega arith, omega arith) (lookup-only t n at)
-      and walked (λ g _. glyphFault t n kind at base g) (λ g. g + 1) (λ g. 0) (λ g least. spotted kind (spotOf kind base (valueOf t n at g))) n 0 0
+      and walked (λ g _. targetFault t n kind at base g) (λ g. g + 1) (λ g. 0) (λ g least. spotted kind (spotOf kind base (valueOf t n at g))) n 0 0
 
   machined : (offset : ℕ) → OfTable (machinePart t n offset)
   unfolding machinePart present

@@ -8,11 +8,11 @@ use Rattle.lookup.specs.Units.{unitSize, rangeFault, unitFault}
 use Rattle.lookup.specs.Lookup.{countedFault, trimmedFault, formatFault, lookupFault}
 use Rattle.lookup.specs.Find.{hasUnits, trimmedValue, valueFrom, valueOf}
 use Rattle.units.specs.Fixed.{fixedSize}
-use Rattle.cluster.specs.Faults.{classAt, classFault, growFault, shrinkFault, pairFault, clusterFault}
+use Rattle.cluster.specs.Faults.{pairClass, pairClassFault, growFault, shrinkFault, pairFault, clusterFault}
 use Rattle.actions.specs.Faults.{lengthFault, countFault, type0Fault, dataFault, actionFault, listFault}
 use Rattle.machine.specs.Rows.{entryFault, cellFault, rowFault, faultFrom}
 use Rattle.machine.specs.Machine.{headFault, classTableFault, machineFault}
-use Rattle.lookup_targets.specs.Values.{glyphFault, valuesFault}
+use Rattle.lookup_targets.specs.Values.{targetFault, valuesFault}
 use Rattle.table_laws.specs.Samples.{cutTable, oddFormat, emptyCluster, fewClasses, longList, lowUnit, farShrink, rowBetween, tightLigature, farAction, halfField}
 use Rattle.table.specs.Table.{present, headerFault, offsetsFault, machinePart, actionPart, directionFault, tableFault}
 
@@ -25,7 +25,7 @@ unfolding oddFormat tableFault headerFault directionFault present offsetsFault m
 format-at-16 = refl
 
 pub count-at-24 : judgedBy (tableFault emptyCluster 1) ≡ barred 6 24
-unfolding emptyCluster tableFault headerFault directionFault present offsetsFault machinePart valuesFault glyphFault lookupFault formatFault trimmedFault clusterFault walk valueOf valueFrom trimmedValue hasUnits inside rule _then_ u16At u32At
+unfolding emptyCluster tableFault headerFault directionFault present offsetsFault machinePart valuesFault targetFault lookupFault formatFault trimmedFault clusterFault walk valueOf valueFrom trimmedValue hasUnits inside rule _then_ u16At u32At
 count-at-24 = refl
 
 pub classes-at-24 : judgedBy (tableFault fewClasses 1) ≡ barred 7 24
@@ -33,17 +33,17 @@ unfolding fewClasses tableFault headerFault directionFault present offsetsFault 
 classes-at-24 = refl
 
 pub count-at-30 : judgedBy (tableFault longList 1) ≡ barred 8 30
-unfolding longList tableFault headerFault directionFault present offsetsFault machinePart actionPart valuesFault glyphFault lookupFault formatFault trimmedFault listFault walk valueOf valueFrom trimmedValue hasUnits inside rule _then_ u16At u32At
+unfolding longList tableFault headerFault directionFault present offsetsFault machinePart actionPart valuesFault targetFault lookupFault formatFault trimmedFault listFault walk valueOf valueFrom trimmedValue hasUnits inside rule _then_ u16At u32At
 count-at-30 = refl
 
 -- fields that are not the first of their part
 
 pub first-at-36 : judgedBy (tableFault lowUnit 1) ≡ barred 5 36
-unfolding lowUnit tableFault headerFault directionFault present offsetsFault machinePart valuesFault glyphFault lookupFault formatFault countedFault unitFault rangeFault unitSize walk inside rule _then_ u16At u32At
+unfolding lowUnit tableFault headerFault directionFault present offsetsFault machinePart valuesFault targetFault lookupFault formatFault countedFault unitFault rangeFault unitSize walk inside rule _then_ u16At u32At
 first-at-36 = refl
 
 pub shrink-at-44 : judgedBy (tableFault farShrink 1) ≡ barred 6 44
-unfolding farShrink tableFault headerFault directionFault present offsetsFault machinePart valuesFault glyphFault lookupFault formatFault trimmedFault clusterFault pairFault classFault classAt growFault shrinkFault fixedSize walk valueOf valueFrom trimmedValue hasUnits inside rule _then_ u16At u32At
+unfolding farShrink tableFault headerFault directionFault present offsetsFault machinePart valuesFault targetFault lookupFault formatFault trimmedFault clusterFault pairFault pairClassFault pairClass growFault shrinkFault fixedSize walk valueOf valueFrom trimmedValue hasUnits inside rule _then_ u16At u32At
 shrink-at-44 = refl
 
 pub row-at-42 : judgedBy (tableFault rowBetween 1) ≡ barred 7 42
@@ -51,12 +51,12 @@ unfolding rowBetween tableFault headerFault directionFault present offsetsFault 
 row-at-42 = refl
 
 pub size-at-52 : judgedBy (tableFault tightLigature 1) ≡ barred 8 52
-unfolding tightLigature tableFault headerFault directionFault present offsetsFault machinePart actionPart valuesFault glyphFault lookupFault formatFault trimmedFault listFault actionFault lengthFault dataFault type0Fault countFault walk valueOf valueFrom trimmedValue hasUnits inside rule _then_ u16At u32At
+unfolding tightLigature tableFault headerFault directionFault present offsetsFault machinePart actionPart valuesFault targetFault lookupFault formatFault trimmedFault listFault actionFault lengthFault dataFault type0Fault countFault walk valueOf valueFrom trimmedValue hasUnits inside rule _then_ u16At u32At
 size-at-52 = refl
 
 -- a field past 32 bits, and one that begins inside
 pub next-past-32-bits : judgedBy (tableFault farAction 1) ≡ barred 4 4294967326
-unfolding farAction tableFault headerFault directionFault present offsetsFault machinePart actionPart valuesFault glyphFault lookupFault formatFault trimmedFault listFault actionFault lengthFault dataFault walk valueOf valueFrom trimmedValue hasUnits inside rule _then_ u16At u32At
+unfolding farAction tableFault headerFault directionFault present offsetsFault machinePart actionPart valuesFault targetFault lookupFault formatFault trimmedFault listFault actionFault lengthFault dataFault walk valueOf valueFrom trimmedValue hasUnits inside rule _then_ u16At u32At
 next-past-32-bits = refl
 
 pub half-at-12 : judgedBy (tableFault halfField 1) ≡ barred 4 12

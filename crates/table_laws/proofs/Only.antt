@@ -14,9 +14,9 @@ use Rattle.fields.specs.declared.Fault.the-variants.{Bad}
 use Rattle.fields.specs.Field.{u16At}
 use Rattle.fields.specs.Faults.{_then_, rule, inside}
 use Rattle.fields.specs.Walk.{walk, each}
-use Rattle.lookup.specs.Units.{rangeFault, singleFault, unitFault, valuesFault}
+use Rattle.lookup.specs.Units.{rangeFault, singleFault, unitFault, unitArrayFault}
 use Rattle.lookup.specs.Lookup.{countedFault, segmentsFault, trimmedFault, formatFault, lookupFault}
-use Rattle.cluster.specs.Faults.{classFault, growFault, shrinkFault, flagsFault, pairFault, clusterFault}
+use Rattle.cluster.specs.Faults.{pairClassFault, growFault, shrinkFault, flagsFault, pairFault, clusterFault}
 use Rattle.machine.specs.Rows.{entryFault, cellFault, rowFault, raisedBy, faultFrom}
 use Rattle.machine.specs.Machine as machine
 use Rattle.machine.specs.Machine.{headFault, classTableFault, machineFault}
@@ -85,8 +85,8 @@ module _ (t : List ℕ) where
   counted-only format at = found t _ _ and kept _ _ and found t _ _ and walked (unitFault t format) (unit-only format) _ _ _ _ _
 
   segments-only : (n at : ℕ) → Only BadLookup (segmentsFault t n at)
-  unfolding segmentsFault valuesFault
-  segments-only n at = counted-only 4 at and all (valuesFault t n at) (λ p. array-only _ _) _ _ _
+  unfolding segmentsFault unitArrayFault
+  segments-only n at = counted-only 4 at and all (unitArrayFault t n at) (λ p. array-only _ _) _ _ _
 
   trimmed-only : (n at : ℕ) → Only BadLookup (trimmedFault t n at)
   unfolding trimmedFault
@@ -106,7 +106,7 @@ module _ (t : List ℕ) where
   -- ---- a cluster
 
   pair-only : (p least : ℕ) → Only BadCluster (pairFault t p least)
-  unfolding pairFault classFault growFault shrinkFault flagsFault
+  unfolding pairFault pairClassFault growFault shrinkFault flagsFault
   pair-only p least =
       (found t _ _ and kept _ _)
       and (found t _ _ and kept _ _)

@@ -23,7 +23,7 @@ use Rattle.lookup.specs.Units.{unitSize}
 use Rattle.lookup.specs.Find.{unitsValue, hasUnits, unitCount, valueFrom, valueOf}
 use Rattle.lookup.specs.Lookup.{countedFault, formatFault, lookupFault}
 use Rattle.lookup_targets.specs.declared.Kind.the-variants.{Clusters}
-use Rattle.lookup_targets.specs.Values.{spotOf, spotFault, glyphFault, valuesFault}
+use Rattle.lookup_targets.specs.Values.{spotOf, spotFault, targetFault, valuesFault}
 use Rattle.table.specs.Table.{present, offsetsFault, machinePart, actionPart, directionFault, tableFault, Accepted}
 use Rattle.meaning.specs.Meaning.{emptySide}
 use Rattle.table.specs.Means.{directionOf, meaningOf}
@@ -80,8 +80,8 @@ hollow-value n g = go (ltb g n)
     go true = refl
     go false = refl
 
-hollow-glyph : (n g : ℕ) → glyphFault hollowTable n Clusters 16 0 g ≡ Clear
-unfolding glyphFault
+hollow-glyph : (n g : ℕ) → targetFault hollowTable n Clusters 16 0 g ≡ Clear
+unfolding targetFault
 hollow-glyph n g = ap (λ (f : Found). spotFault hollowTable n Clusters (spotOf Clusters 0 f)) (hollow-value n g)
 
 hollow-lookup : (n : ℕ) → lookupFault hollowTable n 16 ≡ Clear
@@ -90,7 +90,7 @@ hollow-lookup n = refl
 
 hollow-widths : (n : ℕ) → valuesFault hollowTable n Clusters 16 0 ≡ Clear
 unfolding valuesFault
-hollow-widths n = then-go _ (hollow-lookup n) ∙ all-clear (glyphFault hollowTable n Clusters 16 0) (hollow-glyph n) n 0
+hollow-widths n = then-go _ (hollow-lookup n) ∙ all-clear (targetFault hollowTable n Clusters 16 0) (hollow-glyph n) n 0
 
 hollow-empty : (n : ℕ) → EmptyDirection hollowTable n 10
 unfolding hollowTable u16At

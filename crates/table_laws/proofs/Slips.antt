@@ -20,7 +20,7 @@ use Rattle.actions.specs.Faults.{listFault}
 use Rattle.machine.specs.Cells.{classAt, entryAt, cellAt}
 use Rattle.machine.specs.Rows.{entryFault, cellFault, rowFault, raised, raisedBy, faultFrom, countFrom, unless, rowCount}
 use Rattle.machine.specs.Machine.{headFault, classFault, classTableFault, machineFault}
-use Rattle.lookup_targets.specs.Values.{glyphFault, valuesFault, clusterOf, listOf}
+use Rattle.lookup_targets.specs.Values.{targetFault, valuesFault, clusterOf, listOf}
 use Rattle.table.specs.Table.{present, headerFault, offsetsFault, machinePart, actionPart, directionFault, tableFault, Accepted}
 use Rattle.table.specs.Means.{cellBy, machineAt, machineOf, listsOf, sideAt, directionOf, meaningOf}
 use Rattle.table_laws.specs.Samples.{zeroTable, machineTable}
@@ -29,7 +29,7 @@ use Rattle.table_laws.specs.Samples.{zeroTable, machineTable}
 
 -- the table is accepted with one glyph
 pub zero-accepted : Accepted zeroTable 1
-unfolding zeroTable Accepted tableFault headerFault directionFault present offsetsFault machinePart actionPart u16At u32At inside rule _then_ walk valuesFault lookupFault formatFault countedFault unitSize unitFault singleFault glyphFault valueOf valueFrom unitCount hasUnits unitsValue covers firstOf unitValue cluster.clusterFault cluster.pairFault cluster.classFault cluster.growFault cluster.shrinkFault cluster.flagsFault cluster.classAt fixedSize
+unfolding zeroTable Accepted tableFault headerFault directionFault present offsetsFault machinePart actionPart u16At u32At inside rule _then_ walk valuesFault lookupFault formatFault countedFault unitSize unitFault singleFault targetFault valueOf valueFrom unitCount hasUnits unitsValue covers firstOf unitValue cluster.clusterFault cluster.pairFault cluster.pairClassFault cluster.growFault cluster.shrinkFault cluster.flagsFault cluster.pairClass fixedSize
 zero-accepted = refl
 
 -- the value 0 gives glyph 0 a cluster: its one record, of class 5
@@ -40,7 +40,7 @@ pub zero-width : ask (meaningOf zeroTable 1) (along Horizontal (width 0 5))
       after = record { grow = 0; shrink = 0 };
       flags = record { grow = 0x1001; shrink = 2 };
     })
-unfolding zeroTable u16At u32At ask askSide meaningOf directionOf sideAt clusterOf from valueOf valueFrom unitCount hasUnits clusterAt pairsAt pairAt cluster.classAt fixedSize widthFlags
+unfolding zeroTable u16At u32At ask askSide meaningOf directionOf sideAt clusterOf from valueOf valueFrom unitCount hasUnits clusterAt pairsAt pairAt cluster.pairClass fixedSize widthFlags
 zero-width = refl
 
 -- the value 0 gives it no action; what stands at pcTableOffset is no list, so whoever took the value for an offset would refuse the table
@@ -56,7 +56,7 @@ zero-action = refl
 
 -- the table is accepted with two glyphs
 pub class-accepted : Accepted machineTable 2
-unfolding machineTable Accepted tableFault headerFault directionFault present offsetsFault machinePart actionPart u16At u32At inside rule _then_ walk valuesFault lookupFault formatFault countedFault unitSize glyphFault valueOf valueFrom unitCount hasUnits unitsValue machineFault headFault classTableFault classFault entryFault cellFault rowFault raised raisedBy faultFrom cellAt entryAt
+unfolding machineTable Accepted tableFault headerFault directionFault present offsetsFault machinePart actionPart u16At u32At inside rule _then_ walk valuesFault lookupFault formatFault countedFault unitSize targetFault valueOf valueFrom unitCount hasUnits unitsValue machineFault headFault classTableFault classFault entryFault cellFault rowFault raised raisedBy faultFrom cellAt entryAt
 class-accepted = refl
 
 -- glyph 0 is not covered: class 1; glyph 1 has the class of its byte; the font has no glyph 2

@@ -27,7 +27,7 @@ use Rattle.actions.specs.declared.Spot.the-variants.{At, Nowhere}
 use Rattle.actions.proofs.Laws.{list-ok}
 use Rattle.lookup_targets.specs.declared.Kind.{Kind}
 use Rattle.lookup_targets.specs.declared.Kind.the-variants.{Clusters, Lists}
-use Rattle.lookup_targets.specs.Values.{spotOf, spotFault, glyphFault, valuesFault, clusterHere, listHere, clusterOf, listOf}
+use Rattle.lookup_targets.specs.Values.{spotOf, spotFault, targetFault, valuesFault, clusterHere, listHere, clusterOf, listOf}
 use Rattle.table.specs.Table.{machineOffset, widthOffset, actionOffset, widthLookup, present, offsetsFault, machinePart, actionPart, directionFault, tableFault, Accepted}
 use Rattle.meaning.specs.Meaning.{emptySide}
 use Rattle.table.specs.Means.{machineAt, machineOf, listsOf, sideAt, directionOf, meaningOf}
@@ -43,11 +43,11 @@ no-actions n = (omega arith, tt)
 
 module _ (t : List ℕ) (n : ℕ) where
   -- where neither a lookup nor what its values lead to has a fault, nothing that a glyph's value leads to has one
-  pub glyph-clear : (kind : Kind) (at base : ℕ) → valuesFault t n kind at base ≡ Clear → (g : ℕ) → g < n → glyphFault t n kind at base g ≡ Clear
+  pub glyph-clear : (kind : Kind) (at base : ℕ) → valuesFault t n kind at base ≡ Clear → (g : ℕ) → g < n → targetFault t n kind at base g ≡ Clear
   unfolding valuesFault
   glyph-clear kind at base e g h =
       let p : 0 + 1 * g ≡ g = omega arith in
-      rw p at (walk-each (λ p _. glyphFault t n kind at base p) 1 (λ p. 0) n 0 0 (then-second _ _ e) g h .1)
+      rw p at (walk-each (λ p _. targetFault t n kind at base p) 1 (λ p. 0) n 0 0 (then-second _ _ e) g h .1)
 
   module _ (w : Bytes t) where
     cluster-here : (s : Spot) → spotFault t n Clusters s ≡ Clear → OkCluster (clusterHere t s)
@@ -59,13 +59,13 @@ module _ (t : List ℕ) (n : ℕ) where
     list-here Nowhere e = no-actions n
 
     clusters-ok : (at base : ℕ) → valuesFault t n Clusters at base ≡ Clear → All OkCluster (upto (clusterOf t n at base) n)
-    unfolding clusterOf glyphFault
+    unfolding clusterOf targetFault
     clusters-ok at base e =
         all-upto (clusterOf t n at base) OkCluster n
         (λ g h. cluster-here (spotOf Clusters base (valueOf t n at g)) (glyph-clear Clusters at base e g h))
 
     lists-ok : (at base : ℕ) → valuesFault t n Lists at base ≡ Clear → All (OkActions n) (upto (listOf t n at base) n)
-    unfolding listOf glyphFault
+    unfolding listOf targetFault
     lists-ok at base e =
         all-upto (listOf t n at base) (OkActions n) n (λ g h. list-here (spotOf Lists base (valueOf t n at g)) (glyph-clear Lists at base e g h))
 

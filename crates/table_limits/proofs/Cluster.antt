@@ -17,7 +17,7 @@ use Rattle.fields.specs.Laws.{rule-clear}
 use Rattle.units.specs.Fixed.{fixedSize}
 use Rattle.units.specs.Flags.{priorityOf}
 use Rattle.meaning.specs.Limits.{emLimit}
-use Rattle.cluster.specs.Faults.{classAt, classFault, growFault, shrinkFault, flagsFault, pairFault, pairsFault, clusterFault}
+use Rattle.cluster.specs.Faults.{pairClass, pairClassFault, growFault, shrinkFault, flagsFault, pairFault, pairsFault, clusterFault}
 use Rattle.table_limits.specs.Full.{pairOf, pairs, fullCluster}
 use Rattle.table_limits.proofs.Stands.{Stands, front, back, found, u16-is, u32-is, _so_}
 
@@ -65,14 +65,14 @@ module _ {t : List ℕ} {at : ℕ} (c : ℕ) (s : Stands t at (pairOf c)) (low :
   n : length (pairOf c) ≡ 24
   n = pair-length c
 
-  class-is : classAt t at ≡ c
-  unfolding classAt
+  class-is : pairClass t at ≡ c
+  unfolding pairClass
   class-is = ap (λ (x : ℕ). x % 128) (u32-is s at 0 (omega arith) (omega (arith, n)) ∙ pair-class c) ∙ mod-eq-of-lt low
 
   pair-clear : pairFault t at c ≡ Clear
-  unfolding pairFault classFault
+  unfolding pairFault pairClassFault
   pair-clear =
-      (found s at 0 (omega arith) 4 (omega (arith, n)) so rule-clear BadCluster at (le-leb c (classAt t at) (omega (arith, class-is))))
+      (found s at 0 (omega arith) 4 (omega (arith, n)) so rule-clear BadCluster at (le-leb c (pairClass t at) (omega (arith, class-is))))
       so grow-clear t (at + 4) (found s (at + 4) 4 refl 4 (omega (arith, n))) (u32-is s (at + 4) 4 refl (omega (arith, n)) ∙ pair-limits c .0)
       so shrink-clear t (at + 8) (found s (at + 8) 8 refl 4 (omega (arith, n))) (u32-is s (at + 8) 8 refl (omega (arith, n)) ∙ pair-limits c .1)
       so grow-clear t (at + 12) (found s (at + 12) 12 refl 4 (omega (arith, n))) (u32-is s (at + 12) 12 refl (omega (arith, n)) ∙ pair-limits c .2)
@@ -86,9 +86,9 @@ pairs-clear zero c at s h = refl
 pairs-clear {t} (suc n) c at s h =
     let here : Stands t at (pairOf c) = front (pairOf c) (pairs n (c + 1)) s in
     let low : c < 128 = omega arith in
-    let next : classAt t at + 1 ≡ c + 1 = ap (λ (x : ℕ). x + 1) (class-is c here low) in
+    let next : pairClass t at + 1 ≡ c + 1 = ap (λ (x : ℕ). x + 1) (class-is c here low) in
     pair-clear c here low
-    so (ap (walk (pairFault t) (λ p. p + 24) (λ p. classAt t p + 1) n (at + 24)) next
+    so (ap (walk (pairFault t) (λ p. p + 24) (λ p. pairClass t p + 1) n (at + 24)) next
     ∙ pairs-clear n (c + 1) (at + 24) (back (pairOf c) (pairs n (c + 1)) s 24 (at + 24) (pair-length c) refl) (omega arith))
 
 pub pairs-length : (n c : ℕ) → length (pairs n c) ≡ 24 * n

@@ -19,7 +19,7 @@ use Rattle.lookup.specs.Find.{unitsValue, hasUnits, unitCount, valueOf}
 use Rattle.lookup.proofs.Laws.{single-clear, value-in, from-units, count-some, covers-high, units-here, units-next, units-none, value-6, size-single}
 use Rattle.lookup.proofs.Unique.{ends-below, begins-above}
 use Rattle.lookup_targets.specs.declared.Kind.{Kind}
-use Rattle.lookup_targets.specs.Values.{spotOf, spotFault, glyphFault, valuesFault}
+use Rattle.lookup_targets.specs.Values.{spotOf, spotFault, targetFault, valuesFault}
 use Rattle.table_limits.specs.Full.{lookupOf}
 use Rattle.table_limits.proofs.Stands.{Stands, found, u16-is, _so_, each-clear}
 
@@ -109,11 +109,11 @@ module _ (t : List ℕ) (n at v : ℕ) (s : Stands t at (lookupOf v)) where
   -- ---- what the values lead to
 
   module _ (kind : Kind) (base : ℕ) (few : n ≤ 65535) (small : v < 65536) (item : spotFault t n kind (spotOf kind base (Value v)) ≡ Clear) where
-    glyph-clear : (g : ℕ) → g < n → glyphFault t n kind at base g ≡ Clear
-    unfolding glyphFault
+    glyph-clear : (g : ℕ) → g < n → targetFault t n kind at base g ≡ Clear
+    unfolding targetFault
     glyph-clear zero h = ap (λ (f : Found). spotFault t n kind (spotOf kind base f)) (value-first 0 h small refl) ∙ item
     glyph-clear (suc g) h = ap (λ (f : Found). spotFault t n kind (spotOf kind base f)) (value-other (suc g) h few (omega arith))
 
     pub values-clear : valuesFault t n kind at base ≡ Clear
     unfolding valuesFault
-    values-clear = lookup-clear so each-clear (glyphFault t n kind at base) 1 n 0 (λ i l. glyph-clear (0 + 1 * i) (omega arith))
+    values-clear = lookup-clear so each-clear (targetFault t n kind at base) 1 n 0 (λ i l. glyph-clear (0 + 1 * i) (omega arith))

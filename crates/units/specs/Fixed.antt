@@ -5,6 +5,7 @@ use mathlib.Core.Bool.{Bool, cond, _||_}
 use lib.Dec.{ltb}
 use lib.IntN.{ℤ, pos, negℤ, natAbs, _*ℤ_}
 use lib.Signed.{ltZ, shrZ}
+use Rattle.units.specs.declared.Units.{Units}
 
 -- the signed number that 32 bits say
 abbrev pub fixedOf : ℕ → ℤ
@@ -25,3 +26,7 @@ farOut limit = ltZ limit (negℤ (pos (2 ^ 31))) || ltZ (pos (2 ^ 31)) limit
 -- limit × size / 65,536, rounded down; 0 for a limit that is neither a Fixed nor a Fixed's negative
 unfoldable pub factorOf : ℤ → ℕ → ℤ
 factorOf limit size = cond (farOut limit) (pos 0) (roundedDown (limit *ℤ pos size) 65536)
+
+-- a distance as the code has it
+abbrev pub inUnits : ℤ → Units
+inUnits z = record { 0 = z }

@@ -13,13 +13,13 @@ use Rattle.types.specs.declared.Pair.{Pair}
 use Rattle.meaning.specs.Sheet.{pairCode}
 use Rattle.cluster.specs.Pairs.{pairAt, pairsAt, clusterAt}
 use Rattle.cluster.proofs.Laws.{pairs-length, cluster-length}
-use Rattle.cluster.specs.Faults.{classAt}
+use Rattle.cluster.specs.Faults.{pairClass}
 use Rattle.write_cluster.specs.Hash.{limitsAt, flagsAt, pairHash, pairsHash, clusterHash}
 
 module _ (t : List ℕ) where
   -- a pair by its parts
   abbrev pub partsAt : ℕ → Pair
-  partsAt at = record { class = classAt t at; before = limitsAt t (at + 4); after = limitsAt t (at + 12); flags = flagsAt t (at + 20) }
+  partsAt at = record { class = pairClass t at; before = limitsAt t (at + 4); after = limitsAt t (at + 12); flags = flagsAt t (at + 20) }
 
   pub pair-parts : (at : ℕ) → pairAt t at ≡ partsAt at
   unfolding pairAt
@@ -28,7 +28,7 @@ module _ (t : List ℕ) where
       let a : at + 16 ≡ at + 12 + 4 = omega arith in
       let f : at + 22 ≡ at + 20 + 2 = omega arith in
       λ i. record {
-        class = classAt t at;
+        class = pairClass t at;
         before = record { grow = u32At t (at + 4); shrink = fixedSize (u32At t (b i)) };
         after = record { grow = u32At t (at + 12); shrink = fixedSize (u32At t (a i)) };
         flags = record { grow = keptFlags (u16At t (at + 20)); shrink = keptFlags (u16At t (f i)) };
@@ -68,7 +68,7 @@ module _ (t u : List ℕ) where
   -- what is read of a pair is the same at two positions
   abbrev pub FieldsSame : ℕ → ℕ → Type 0
   FieldsSame a b =
-      (classAt t a ≡ classAt u b)
+      (pairClass t a ≡ pairClass u b)
       × (u32At t (a + 4) ≡ u32At u (b + 4))
       × (fixedSize (u32At t (a + 8)) ≡ fixedSize (u32At u (b + 8)))
       × (u32At t (a + 12) ≡ u32At u (b + 12))

@@ -58,7 +58,7 @@ pub fn same_pair<'a>(one: &'a [u8], other: &'a [u8], a: usize, b: usize) -> bool
     requires { ⌜ (a < 2 ^ 61) × (b < 2 ^ 61) ⌝ }
     ensures { λ r. ⌜ Says r (pairAt (now (one .entry)) a ≡ pairAt (now (other .entry)) b) ⌝ }
 {
-    if cluster::class_at(one, a) != cluster::class_at(other, b) {
+    if cluster::pair_class(one, a) != cluster::pair_class(other, b) {
         return false;
     }
     if cluster::fixed_at(one, a + 4) != cluster::fixed_at(other, b + 4) {
@@ -151,8 +151,8 @@ fn earlier_pair(table: &[u8], a: usize, b: usize) -> bool
     requires { ⌜ (a < 2 ^ 61) × (b < 2 ^ 61) ⌝ }
     ensures { λ r. ⌜ Says r (Before (pairWords (pairAt (now (table .entry)) a)) (pairWords (pairAt (now (table .entry)) b))) ⌝ }
 {
-    let class = cluster::class_at(table, a);
-    let other = cluster::class_at(table, b);
+    let class = cluster::pair_class(table, a);
+    let other = cluster::pair_class(table, b);
     if class != other {
         return class < other;
     }
@@ -206,7 +206,7 @@ fn pair_hash(table: &[u8], at: usize) -> usize
     let flags = flags_at(table, at + 20);
     let sides = before + 5 * after;
     let bits = 11 * (flags.grow as usize) + 13 * (flags.shrink as usize);
-    17 * (cluster::class_at(table, at) as usize) + sides + bits
+    17 * (cluster::pair_class(table, at) as usize) + sides + bits
 }
 
 // A number for the cluster at a position, the same for the same clusters: by its count and its first four pairs,
@@ -254,7 +254,7 @@ fn put_pair(table: &[u8], at: usize, out: &mut [u8], to: usize)
     requires { ⌜ (at < 2 ^ 61) × (to < 2 ^ 61) ⌝ }
     ensures { λ r. ⌜ now (out .exit) ≡ sets (now (out .entry)) to (pairCode (pairAt (now (table .entry)) at)) ⌝ }
 {
-    fields::put_u32(out, to, cluster::class_at(table, at));
+    fields::put_u32(out, to, cluster::pair_class(table, at));
     put_limits(out, to + 4, limits_at(table, at + 4));
     put_limits(out, to + 12, limits_at(table, at + 12));
     put_flags(out, to + 20, flags_at(table, at + 20));

@@ -23,7 +23,7 @@ use Rattle.actions.specs.declared.Spot.the-variants.{At, Nowhere}
 use Rattle.actions.proofs.Laws.{list-ok}
 use Rattle.lookup_targets.specs.declared.Kind.{Kind}
 use Rattle.lookup_targets.specs.declared.Kind.the-variants.{Clusters, Lists}
-use Rattle.lookup_targets.specs.Values.{spotOf, spotFault, glyphFault, valuesFault}
+use Rattle.lookup_targets.specs.Values.{spotOf, spotFault, targetFault, valuesFault}
 use Rattle.encoding.proofs.SectionLaws.{many-byte}
 use Rattle.write_item.specs.Items.{noItem, itemAt, itemCode}
 use Rattle.lookup_targets.specs.declared.Source.the-variants.{Lookup, Absent}
@@ -52,11 +52,11 @@ spot-short t n w Lists (At p) e = list-short n _ (list-ok t n p w e)
 
 module _ (t : List ℕ) (n : ℕ) (kind : Kind) where
   glyph-clear : (at base g : ℕ) → valuesFault t n kind at base ≡ Clear → g < n → spotFault t n kind (spotOf kind base (valueOf t n at g)) ≡ Clear
-  unfolding valuesFault glyphFault
+  unfolding valuesFault targetFault
   glyph-clear at base g e h =
-      let r = walk-each (λ p _. glyphFault t n kind at base p) 1 (λ p. 0) n 0 0 (then-second _ _ e) g h in
+      let r = walk-each (λ p _. targetFault t n kind at base p) 1 (λ p. 0) n 0 0 (then-second _ _ e) g h in
       let z : 0 + 1 * g ≡ g = omega arith in
-      ap (glyphFault t n kind at base) (sym z) ∙ r .1
+      ap (targetFault t n kind at base) (sym z) ∙ r .1
 
   pub looked-short : (at base : ℕ) → Bytes t → valuesFault t n kind at base ≡ Clear → All (Short kind) (itemsFrom kind t n (Lookup at base))
   unfolding itemsFrom

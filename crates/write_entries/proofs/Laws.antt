@@ -18,7 +18,7 @@ use Rattle.types.specs.declared.Entry.{Entry}
 use Rattle.meaning.specs.Discrete.{Entry-discrete}
 use Rattle.meaning.specs.Sheet.{entryCode}
 use Rattle.machine.specs.Cells.{stateArray, entryAt}
-use Rattle.write_entries.specs.Entries.{storedAt, entriesOf, distinctOf, entryBytes, NumberedEntries, cellBytes, Covers}
+use Rattle.write_entries.specs.Entries.{storedAt, storedEntries, distinctOf, entryBytes, NumberedEntries, cellBytes, Covers}
 
 -- how many elements are not 0
 abbrev one : ℕ → ℕ
@@ -184,15 +184,15 @@ module _ (t : List ℕ) (here n : ℕ) where
 
 module _ (t : List ℕ) (here : ℕ) where
   pub entries-next : (fs : List ℕ) (i : ℕ) (e : Entry) → i < length fs → e ≡ entryAt t here (getD fs i 0)
-      → many entryCode (entriesOf t here (drop i fs)) ≡ entryCode e ++ many entryCode (entriesOf t here (drop (i + 1) fs))
+      → many entryCode (storedEntries t here (drop i fs)) ≡ entryCode e ++ many entryCode (storedEntries t here (drop (i + 1) fs))
   entries-next fs i e h ee =
       ap (many entryCode) (map-drop (entryAt t here) fs i h)
-      ∙ ap (λ (x : Entry). entryCode x ++ many entryCode (entriesOf t here (drop (i + 1) fs))) (sym ee)
+      ∙ ap (λ (x : Entry). entryCode x ++ many entryCode (storedEntries t here (drop (i + 1) fs))) (sym ee)
 
-  pub entries-none : (fs : List ℕ) (i : ℕ) → length fs ≤ i → many entryCode (entriesOf t here (drop i fs)) ≡ []
-  entries-none fs i h = ap (λ (l : List ℕ). many entryCode (entriesOf t here l)) (drop-of-length-le fs h)
+  pub entries-none : (fs : List ℕ) (i : ℕ) → length fs ≤ i → many entryCode (storedEntries t here (drop i fs)) ≡ []
+  entries-none fs i h = ap (λ (l : List ℕ). many entryCode (storedEntries t here l)) (drop-of-length-le fs h)
 
-  pub entries-bytes : (fs : List ℕ) → length (many entryCode (entriesOf t here fs)) ≡ 4 * length fs
+  pub entries-bytes : (fs : List ℕ) → length (many entryCode (storedEntries t here fs)) ≡ 4 * length fs
   entries-bytes [] = refl
   entries-bytes (e ∷ es) = omega (arith, entries-bytes es)
 
@@ -228,7 +228,7 @@ module _ (t : List ℕ) (here n : ℕ) (firsts sheet : List ℕ) (k : ℕ) (w : 
 
   -- count, entries, count, numbers
   pub numbered-parts : k ≡ length firsts
-      → be32 k ++ (many entryCode (entriesOf t here firsts) ++ (be32 n ++ cellBytes sheet (storedAt t here n))) ≡ entryBytes t here n
+      → be32 k ++ (many entryCode (storedEntries t here firsts) ++ (be32 n ++ cellBytes sheet (storedAt t here n))) ≡ entryBytes t here n
   unfolding entryBytes cellBytes distinctOf
   numbered-parts l =
       let f = entryAt t here in
@@ -248,7 +248,7 @@ module _ (t : List ℕ) (here n : ℕ) (firsts sheet : List ℕ) (k : ℕ) (w : 
       omega (
         arith,
         ap length (numbered-parts l),
-        length-append (many entryCode (entriesOf t here firsts)) (be32 n ++ cellBytes sheet (storedAt t here n)),
+        length-append (many entryCode (storedEntries t here firsts)) (be32 n ++ cellBytes sheet (storedAt t here n)),
         entries-bytes t here firsts,
         cells-length sheet (storedAt t here n),
         stored-length t here n,
@@ -261,7 +261,7 @@ numbered-cut t here n firsts sheet k h w =
     let l : length (take k firsts) ≡ k = length-take-le k firsts h in
     record {
       few = omega (arith, l, w .few);
-      found = w .found ∙ ap (entriesOf t here) (sym (take-length (take k firsts)));
+      found = w .found ∙ ap (storedEntries t here) (sym (take-length (take k firsts)));
       each = w .each;
       within = λ j hj. omega (arith, l, w .within j hj);
     }

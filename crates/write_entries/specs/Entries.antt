@@ -17,22 +17,22 @@ unfoldable pub storedAt : List ℕ → ℕ → ℕ → List ℕ
 storedAt t here n = upto (λ k. getD t (stateArray t here + k) 0) n
 
 -- the entries of these stored numbers
-abbrev pub entriesOf : List ℕ → ℕ → List ℕ → List Entry
-entriesOf t here numbers = map (entryAt t here) numbers
+abbrev pub storedEntries : List ℕ → ℕ → List ℕ → List Entry
+storedEntries t here numbers = map (entryAt t here) numbers
 
 -- the distinct ones among the entries of n cells
 unfoldable pub distinctOf : List ℕ → ℕ → ℕ → List Entry
-distinctOf t here n = distinct Entry-discrete [] (entriesOf t here (storedAt t here n))
+distinctOf t here n = distinct Entry-discrete [] (storedEntries t here (storedAt t here n))
 
 -- the two sections
 unfoldable pub entryBytes : List ℕ → ℕ → ℕ → List ℕ
-entryBytes t here n = numbered Entry-discrete entryCode (entriesOf t here (storedAt t here n))
+entryBytes t here n = numbered Entry-discrete entryCode (storedEntries t here (storedAt t here n))
 
 -- The first k of `firsts` are stored numbers whose entries are the distinct ones; the array `sheet` maps the stored number of each cell to one more than
 -- the number of its entry in the sheet.
 pub record NumberedEntries (t : List ℕ) (here n : ℕ) (firsts sheet : List ℕ) (k : ℕ) : Type 0 where
   pub few : k ≤ 256
-  pub found : distinctOf t here n ≡ entriesOf t here (take k firsts)
+  pub found : distinctOf t here n ≡ storedEntries t here (take k firsts)
   pub each : (j : ℕ) → j < n
       → index Entry-discrete (entryAt t here (getD (storedAt t here n) j 0)) (distinctOf t here n) + 1 ≡ getD sheet (getD (storedAt t here n) j 0) 0
   pub within : (j : ℕ) → j < n → getD sheet (getD (storedAt t here n) j 0) 0 ≤ k

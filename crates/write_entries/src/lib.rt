@@ -2,8 +2,8 @@
 // first, maps stored entry numbers to sheet numbers while rows are walked. Entries are distinct by row number and
 // flags, not by stored number.
 ghost use mathlib.Core.Path.{_≡_};
-ghost use Prim.Native.Nat.{ℕ, _+_, _*_, _≤_, _<_, _^_};
-ghost use lib.ListN.{length, take};
+ghost use Prim.Native.Nat.{_+_, _*_, _≤_, _<_, _^_};
+ghost use lib.ListN.{length};
 ghost use lib.Seq.{sets};
 ghost use Rattle.encoding.specs.Codes.{many};
 ghost use Rattle.encoding.specs.Distinct.{index};
@@ -11,7 +11,7 @@ ghost use Rattle.meaning.specs.Discrete.{Entry-discrete};
 ghost use Rattle.meaning.specs.Sheet.{entryCode};
 ghost use Rattle.encoding.specs.Tests.{Says};
 ghost use Rattle.machine.specs.Cells.{classCount, entryAt};
-ghost use Rattle.write_entries.specs.Entries.{storedAt, entriesOf, entryBytes, NumberedEntries, cellBytes, Covers};
+ghost use Rattle.write_entries.specs.Entries.{storedAt, storedEntries, entryBytes, NumberedEntries, cellBytes, Covers};
 use types::Entry;
 
 fn same_entry(a: Entry, b: Entry) -> bool
@@ -29,7 +29,7 @@ fn same_entry(a: Entry, b: Entry) -> bool
 // The index of the first of these stored numbers that names the entry of `stored`, or how many there are.
 fn index_of(table: &[u8], here: usize, firsts: &[u8], stored: usize) -> usize
     requires { ⌜ (here < 2 ^ 32) × ((stored < 2 ^ 8) × (0 < classCount (now table) here)) ⌝ }
-    ensures { λ r. ⌜ r ≡ index Entry-discrete (entryAt (now (table .entry)) here stored) (entriesOf (now (table .entry)) here (now (firsts .entry))) ⌝ }
+    ensures { λ r. ⌜ r ≡ index Entry-discrete (entryAt (now (table .entry)) here stored) (storedEntries (now (table .entry)) here (now (firsts .entry))) ⌝ }
 {
     let entry = machine::entry_at(table, here, stored);
     let mut i: usize = 0;
@@ -45,10 +45,10 @@ fn index_of(table: &[u8], here: usize, firsts: &[u8], stored: usize) -> usize
 }
 
 // The number of the entry of `stored`. `known` is one more than that, if it is known, else 0.
-fn number_of(table: &[u8], here: usize, firsts: &[u8], stored: usize, known: u16) -> usize
+fn entry_number(table: &[u8], here: usize, firsts: &[u8], stored: usize, known: u16) -> usize
     requires { ⌜ (here < 2 ^ 32) × ((stored < 2 ^ 8) × (0 < classCount (now table) here)) ⌝ }
-    requires { ⌜ ((known ≡ 0 → ⊥) → index Entry-discrete (entryAt (now table) here stored) (entriesOf (now table) here (now firsts)) + 1 ≡ known) ⌝ }
-    ensures { λ r. ⌜ r ≡ index Entry-discrete (entryAt (now (table .entry)) here stored) (entriesOf (now (table .entry)) here (now (firsts .entry))) ⌝ }
+    requires { ⌜ ((known ≡ 0 → ⊥) → index Entry-discrete (entryAt (now table) here stored) (storedEntries (now table) here (now firsts)) + 1 ≡ known) ⌝ }
+    ensures { λ r. ⌜ r ≡ index Entry-discrete (entryAt (now (table .entry)) here stored) (storedEntries (now (table .entry)) here (now (firsts .entry))) ⌝ }
 {
     if known != 0 {
         return (known - 1) as usize;
@@ -68,13 +68,13 @@ fn number_entries(
     requires { ⌜ (length (now firsts) ≡ 256) × (length (now sheet) ≡ 256) ⌝ }
     ensures { λ r. ⌜ NumberedEntries (now (table .entry)) here count (now (firsts .exit)) (now (sheet .exit)) r ⌝ }
 {
-    write_numbers::fill(sheet, 0);
+    write_numbers::set_each(sheet, 0);
     let array = machine::state_array(table, here);
     let mut k: usize = 0;
     let mut i: usize = 0;
     while i < count {
         let stored = fields::u8_at(table, array + i);
-        let n = number_of(table, here, &firsts[..k], stored, sheet[stored]);
+        let n = entry_number(table, here, &firsts[..k], stored, sheet[stored]);
         sheet[stored] = (n + 1) as u16;
         if n < k {
             i += 1;
@@ -112,7 +112,7 @@ fn put_entry(out: &mut [u8], to: usize, entry: Entry)
 fn put_entries(table: &[u8], here: usize, firsts: &[u8], out: &mut [u8], to: usize)
     requires { ⌜ (here < 2 ^ 32) × (0 < classCount (now table) here) ⌝ }
     requires { ⌜ to + 4 * length (now firsts) < 2 ^ 60 ⌝ }
-    ensures { λ r. ⌜ now (out .exit) ≡ sets (now (out .entry)) to (many entryCode (entriesOf (now (table .entry)) here (now (firsts .entry)))) ⌝ }
+    ensures { λ r. ⌜ now (out .exit) ≡ sets (now (out .entry)) to (many entryCode (storedEntries (now (table .entry)) here (now (firsts .entry)))) ⌝ }
 {
     let mut i: usize = 0;
     let mut at = to;

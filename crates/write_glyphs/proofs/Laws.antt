@@ -2,8 +2,8 @@
 use Prim.Native.Nat.{ℕ, zero, suc, _+_, _-_, _*_, _≤_, _<_, _^_, min, max}
 use mathlib.Core.Path.{_≡_, refl, sym, ap, ap₂, _∙_, subst}
 use mathlib.Core.Bool.{Bool, true, false, cond}
-use mathlib.Core.Logic.{_⊎_, ⊎-elim}
-use mathlib.Core.List.{List, [], _∷_, map}
+use mathlib.Core.Logic.{⊎-elim}
+use mathlib.Core.List.{List, _∷_, map}
 use native.Mathlib.Omega.{arith}
 use native.Mathlib.Decide.{ℕ-discrete, decLt}
 use lib.Dec.{ltb}
@@ -18,7 +18,7 @@ use Rattle.lookup.proofs.Laws.{value-in}
 use Rattle.actions.specs.declared.Spot.{Spot}
 use Rattle.actions.specs.declared.Spot.the-variants.{At, Nowhere}
 use Rattle.lookup_runs.specs.declared.Run.{Run}
-use Rattle.lookup_runs.specs.Runs.{placeOf, Follows}
+use Rattle.lookup_runs.specs.Runs.{fieldInRun, Follows}
 use Rattle.lookup_targets.specs.declared.Kind.{Kind}
 use Rattle.lookup_targets.specs.Values.{spotOf, Noted}
 use Rattle.write_item.specs.Items.{itemAt}
@@ -82,7 +82,7 @@ run-item kind t n at base glyph x r short few w h u l = go (ltb x (r .from)) ref
         ∙ sym (ap (λ (f : Found). itemHere kind t (spotOf kind base f)) (value-in t n at x l ∙ w .none x h before (omega arith)))
     go false e =
         let among : r .from ≤ x = ltb-false x (r .from) e in
-        ap (itemAt kind t) (place-in kind t base (r .from) (r .place) (r .array) x among) ∙ value-there kind t base short (placeOf r x)
+        ap (itemAt kind t) (place-in kind t base (r .from) (r .place) (r .array) x among) ∙ value-there kind t base short (fieldInRun r x)
         ∙ sym (ap (λ (f : Found). itemHere kind t (spotOf kind base f)) (value-in t n at x l ∙ w .some x among u (omega arith)))
 
 -- ---- values

@@ -210,7 +210,7 @@ fn number_run(
             };
         }
         let place = run_place(table, kind, base, run.from, run.place, run.array, glyph);
-        let number = write_numbers::number_of(
+        let number = write_numbers::item_number(
             table,
             kind,
             firsts,

@@ -25,7 +25,7 @@ use Rattle.table.proofs.Laws.{present-some}
 use Rattle.write_glyphs.proofs.Laws.{map-from}
 use Rattle.write_runs.proofs.Laws.{runs-pass, runs-first}
 use Rattle.write_runs.proofs.Stretch.{from-stretch}
-use Rattle.write_entries.specs.Entries.{storedAt, entriesOf, entryBytes}
+use Rattle.write_entries.specs.Entries.{storedAt, storedEntries, entryBytes}
 use Rattle.write_machine.specs.Parts.{machineParts, machineBytes, OneClass}
 
 pub few-cells : (rows classes : ℕ) → rows ≤ 256 → classes ≤ 255 → rows * classes < 2 ^ 16
@@ -39,7 +39,7 @@ none-parts = refl
 
 -- ---- a machine
 
-cells-are : (t : List ℕ) (here n : ℕ) → entriesOf t here (storedAt t here n) ≡ upto (cellBy t here) n
+cells-are : (t : List ℕ) (here n : ℕ) → storedEntries t here (storedAt t here n) ≡ upto (cellBy t here) n
 unfolding storedAt cellBy
 cells-are t here n =
     map-from (λ (k : ℕ). getD t (stateArray t here + k) 0) (entryAt t here) (λ (k : ℕ). entryAt t here (getD t (stateArray t here + k) 0)) (λ k. refl) n 0

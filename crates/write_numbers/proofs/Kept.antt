@@ -14,7 +14,7 @@ use Rattle.encoding.proofs.DistinctLaws.{index-le, getD-index, once-more}
 use Rattle.lookup_targets.specs.declared.Kind.{Kind}
 use Rattle.write_item.specs.Items.{Item, itemAt, item-discrete, itemHash, Earlier}
 use Rattle.write_item.proofs.Earlier.{earlier-not, earlier-total}
-use Rattle.write_numbers.specs.Numbered.{placed, numberOf, itemOf, otherOf, SortedOthers, Ranked, Inserted, AmongOthers, slotOf, SlotHolds, Kept, Entered, Blank}
+use Rattle.write_numbers.specs.Numbered.{placed, itemNumber, itemOf, otherOf, SortedOthers, Ranked, Inserted, AmongOthers, slotOf, SlotHolds, Kept, Entered, Blank}
 use Rattle.write_numbers.proofs.Laws.{map-length, map-more}
 use Rattle.write_numbers.proofs.NoneLaws.{number-some}
 
@@ -66,7 +66,7 @@ module _ (kind : Kind) (t firsts : List ℕ) (k : ℕ) (x : Item kind) (l : k �
 
 -- ---- what a place's item is numbered
 
-pub entered-old : (kind : Kind) (t firsts others slots : List ℕ) (k place n : ℕ) → n ≡ numberOf kind t (take k firsts) place → n ≤ k
+pub entered-old : (kind : Kind) (t firsts others slots : List ℕ) (k place n : ℕ) → n ≡ itemNumber kind t (take k firsts) place → n ≤ k
     → Kept kind t firsts others slots k → Entered kind t firsts firsts others slots k place n
 entered-old kind t firsts others slots k place n e h c = record { number = e; old = λ l. (refl, c); new = λ l. absurd (omega arith) }
 

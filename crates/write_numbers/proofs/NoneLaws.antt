@@ -13,13 +13,13 @@ use Rattle.encoding.specs.Tests.{Says}
 use Rattle.lookup_targets.specs.declared.Kind.{Kind}
 use Rattle.write_item.specs.Items.{noItem, itemAt, item-discrete}
 use Rattle.write_item.proofs.Laws.{item-none, item-some}
-use Rattle.write_numbers.specs.Numbered.{placed, numberOf, KnownAs}
+use Rattle.write_numbers.specs.Numbered.{placed, itemNumber, KnownAs}
 
 module _ (kind : Kind) (t firsts : List ℕ) (place : ℕ) where
-  pub number-none : u32At t place ≡ 0 → numberOf kind t firsts place ≡ 0
+  pub number-none : u32At t place ≡ 0 → itemNumber kind t firsts place ≡ 0
   number-none h = if-pos (item-discrete kind (noItem kind) (itemAt kind t place)) (item-none kind t place h) _ _
 
-  pub number-some : (u32At t place ≡ 0 → ⊥) → numberOf kind t firsts place ≡ suc (index (item-discrete kind) (itemAt kind t place) (placed kind t firsts))
+  pub number-some : (u32At t place ≡ 0 → ⊥) → itemNumber kind t firsts place ≡ suc (index (item-discrete kind) (itemAt kind t place) (placed kind t firsts))
   number-some h = if-neg (item-discrete kind (noItem kind) (itemAt kind t place)) (item-some kind t place h) _ _
 
 -- nothing is noted: then it is known to be none exactly where there is none

@@ -8,7 +8,7 @@ use lib.ListN.{length, take, set}
 use Rattle.encoding.proofs.DistinctLaws.{index-le}
 use Rattle.lookup_targets.specs.declared.Kind.{Kind}
 use Rattle.write_item.specs.Items.{Item, noItem, itemAt, item-discrete}
-use Rattle.write_numbers.specs.Numbered.{placed, numberOf, Entered, KnownNumbers, Seen, KnownAs, Blank}
+use Rattle.write_numbers.specs.Numbered.{placed, itemNumber, Entered, KnownNumbers, Seen, KnownAs, Blank}
 use Rattle.write_numbers.proofs.Laws.{known-old, known-new, seen-length}
 use Rattle.write_numbers.proofs.NoneLaws.{number-none}
 
@@ -19,15 +19,15 @@ module _ (kind : Kind) (t firsts : List ℕ) (k : ℕ) (hk : k ≤ length firsts
   all : length (noItem kind ∷ placed kind t (take k firsts)) ≡ k + 1
   all = seen-length (itemAt kind t) (noItem kind) firsts k hk
 
-  pub number-most : (place : ℕ) → numberOf kind t (take k firsts) place ≤ k + 1
+  pub number-most : (place : ℕ) → itemNumber kind t (take k firsts) place ≤ k + 1
   number-most place = omega (arith, all, index-le (item-discrete kind) (itemAt kind t place) (noItem kind ∷ placed kind t (take k firsts)))
 
   -- what a note tells
   pub number-noted : (seen : List ℕ) (place number : ℕ) → Seen kind t firsts seen k → KnownAs t seen place number
-      → (number ≡ numberOf kind t (take k firsts) place) × (number ≤ k)
+      → (number ≡ itemNumber kind t (take k firsts) place) × (number ≤ k)
   number-noted seen place number s m = go (ℕ-discrete number 0)
     where
-      go : Dec (number ≡ 0) → (number ≡ numberOf kind t (take k firsts) place) × (number ≤ k)
+      go : Dec (number ≡ 0) → (number ≡ itemNumber kind t (take k firsts) place) × (number ≤ k)
       go (yes e) = (e ∙ sym (number-none kind t (take k firsts) place (m .1 e)), omega arith)
       go (no e) =
           let w = s .known place (λ z. e (sym (m .0) ∙ z)) in

@@ -15,8 +15,8 @@ abbrev pub placed : (kind : Kind) → List ℕ → List ℕ → List (Item kind)
 placed kind t places = map (itemAt kind t) places
 
 -- the number of the item at a place among those at the places `firsts`, none counted first
-abbrev pub numberOf : (kind : Kind) → List ℕ → List ℕ → ℕ → ℕ
-numberOf kind t firsts place = index (item-discrete kind) (itemAt kind t place) (noItem kind ∷ placed kind t firsts)
+abbrev pub itemNumber : (kind : Kind) → List ℕ → List ℕ → ℕ → ℕ
+itemNumber kind t firsts place = index (item-discrete kind) (itemAt kind t place) (noItem kind ∷ placed kind t firsts)
 
 -- the distinct items of a list, after none, which has the number 0
 unfoldable pub distinctOf : (kind : Kind) → List (Item kind) → List (Item kind)
@@ -78,7 +78,7 @@ pub record Kept (kind : Kind) (t firsts others slots : List ℕ) (k : ℕ) : Typ
 
 -- a place's item has the number n, none having 0; where it is not yet among those at the first k places it joins them
 pub record Entered (kind : Kind) (t firsts₀ firsts others slots : List ℕ) (k place n : ℕ) : Type 0 where
-  pub number : n ≡ numberOf kind t (take k firsts₀) place
+  pub number : n ≡ itemNumber kind t (take k firsts₀) place
   pub old : n ≤ k → (take k firsts ≡ take k firsts₀) × Kept kind t firsts others slots k
   pub new : k < n → (take (k + 1) firsts ≡ take k firsts₀ ++ (place ∷ [])) × Kept kind t firsts others slots (k + 1)
 

@@ -13,7 +13,7 @@ ghost use Rattle.write_numbers.specs.Numbered.{otherOf, SortedOthers, Ra
 use lookup_targets::Kind;
 
 // Sets every element.
-pub fn fill(list: &mut [u16], value: u16)
+pub fn set_each(list: &mut [u16], value: u16)
     ensures { λ r. ⌜ now (list .exit) ≡ replicate (length (now (list .entry))) value ⌝ }
 {
     let mut i: usize = 0;
@@ -130,8 +130,8 @@ fn known_at(seen: &[u16], place: u16) -> u16
     if at < seen.len() { seen[at] } else { 0 }
 }
 
-// Notes a place; nothing past the end.
-fn note(seen: &mut [u16], place: u16, number: u16)
+// Notes a place's number; nothing past the end.
+fn note_number(seen: &mut [u16], place: u16, number: u16)
     ensures { λ r. ⌜ now (seen .exit) ≡ set (now (seen .entry)) place number ⌝ }
 {
     let at = place as usize;
@@ -155,7 +155,7 @@ pub fn is_known(table: &[u8], seen: &[u16], place: u16, number: u16) -> bool
 
 // The number of the item at `place` among those at the first `k` of `firsts`, none having 0; an item that is not there
 // joins them. A place is looked at once: its number is noted.
-pub fn number_of(
+pub fn item_number(
     table: &[u8],
     kind: Kind,
     firsts: &mut [u16],
@@ -178,6 +178,6 @@ pub fn number_of(
         return 0;
     }
     let number = enter(table, kind, firsts, others, slots, k, place);
-    note(seen, place, number as u16);
+    note_number(seen, place, number as u16);
     number
 }

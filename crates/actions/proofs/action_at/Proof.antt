@@ -17,8 +17,8 @@ add-u16-at c = search needs
 u16-at-requires-2 : tie.Need-u16-at-requires-2
 u16-at-requires-2 c κs = search needs
 
-content-size-requires : tie.Need-content-size-requires
-content-size-requires c κs = search needs
+held-size-requires : tie.Need-held-size-requires
+held-size-requires c κs = search needs
 
 content-at-requires : tie.Need-content-at-requires
 content-at-requires c κs = search needs
@@ -41,7 +41,7 @@ returns c =
     record {
       class = c .before .before .before .u16-at .ensures .0 i;
       ty = ty i;
-      size = (c .before .content-size .ensures .0 ∙ ap (λ (k : ℕ). length (take 76 (contentAt (now (a .table)) (a .at) k))) ty) i;
+      size = (c .before .held-size .ensures .0 ∙ ap (λ (k : ℕ). length (take 76 (contentAt (now (a .table)) (a .at) k))) ty) i;
       bytes = (c .content-at .ensures ∙ ap (λ (k : ℕ). padded (take 76 (contentAt (now (a .table)) (a .at) k))) ty) i;
     }
 
@@ -52,7 +52,7 @@ action-at-spec =
     u16-at-requires
     add-u16-at
     u16-at-requires-2
-    content-size-requires
+    held-size-requires
     content-at-requires
     cast-t8
     cast-t9

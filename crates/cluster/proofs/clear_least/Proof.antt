@@ -14,8 +14,8 @@ sub-if1 c = search needs
 returns : tie.Need-returns
 returns c = λ h. absurd (omega arith)
 
-class-at-requires : tie.Need-class-at-requires
-class-at-requires c κs = search needs
+pair-class-requires : tie.Need-pair-class-requires
+pair-class-requires c κs = search needs
 
 returns-2 : tie.Need-returns-2
 returns-2 c = λ h. absurd (omega arith)
@@ -51,7 +51,7 @@ add-result : tie.Need-add-result
 add-result c = search needs
 
 returns-6 : tie.Need-returns-6
-returns-6 c = λ h. let class = c .before .before .before .before .before .before .before .class-at .ensures .0 in (pair-clear _ _ _ _ (omega arith) class (c .before .before .before .before .before .before .if2 .left) (c .before .before .before .before .before .limits-are-clear .ensures (not-false _ (c .before .before .before .before .if3 .left))) (c .before .before .before .limits-are-clear2 .ensures (not-false _ (c .before .before .if4 .left))) (c .before .flags-are-clear .ensures (not-false _ (c .if5 .left))), ap (λ (k : ℕ). k + 1) class)
+returns-6 c = λ h. let class = c .before .before .before .before .before .before .before .pair-class .ensures .0 in (pair-clear _ _ _ _ (omega arith) class (c .before .before .before .before .before .before .if2 .left) (c .before .before .before .before .before .limits-are-clear .ensures (not-false _ (c .before .before .before .before .if3 .left))) (c .before .before .before .limits-are-clear2 .ensures (not-false _ (c .before .before .if4 .left))) (c .before .flags-are-clear .ensures (not-false _ (c .if5 .left))), ap (λ (k : ℕ). k + 1) class)
 
 pub clear-least-spec : {M : Type 1} → statement M
 clear-least-spec =
@@ -59,7 +59,7 @@ clear-least-spec =
     (tie.spec
     sub-if1
     returns
-    class-at-requires
+    pair-class-requires
     returns-2
     add-limits-are-clear
     limits-are-clear-requires

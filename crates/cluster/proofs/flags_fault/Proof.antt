@@ -7,8 +7,8 @@ use Rattle.cluster.proofs.flags_fault.Tie as tie
 in-table-requires : tie.Need-in-table-requires
 in-table-requires c κs = search needs
 
-flags-at-requires : tie.Need-flags-at-requires
-flags-at-requires c κs = search needs
+flags-field-requires : tie.Need-flags-field-requires
+flags-field-requires c κs = search needs
 
 priority-requires : tie.Need-priority-requires
 priority-requires c κs = search needs
@@ -28,7 +28,7 @@ flags-fault-spec =
     tie.close
     (tie.spec
     in-table-requires
-    flags-at-requires
+    flags-field-requires
     priority-requires
     ruled-requires
     then-requires

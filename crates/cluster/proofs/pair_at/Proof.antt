@@ -4,8 +4,8 @@ use borrow.Author.Needs.{needs}
 use Rattle.cluster.proofs.pair_at.Statement.{statement}
 use Rattle.cluster.proofs.pair_at.Tie as tie
 
-class-at-requires : tie.Need-class-at-requires
-class-at-requires c κs = search needs
+pair-class-requires : tie.Need-pair-class-requires
+pair-class-requires c κs = search needs
 
 add-fixed-at : tie.Need-add-fixed-at
 add-fixed-at c = search needs
@@ -47,7 +47,7 @@ returns : tie.Need-returns
 unfolding pairAt
 returns c = λ i.
     record {
-      class = c .before .before .before .before .before .before .class-at .ensures .0 i;
+      class = c .before .before .before .before .before .before .pair-class .ensures .0 i;
       before = record { grow = c .before .before .before .before .before .fixed-at .ensures i; shrink = c .before .before .before .before .size-at .ensures i };
       after = record { grow = c .before .before .before .fixed-at2 .ensures i; shrink = c .before .before .size-at2 .ensures i };
       flags = record { grow = c .before .kept-at .ensures i; shrink = c .kept-at2 .ensures i };
@@ -57,7 +57,7 @@ pub pair-at-spec : {M : Type 1} → statement M
 pair-at-spec =
     tie.close
     (tie.spec
-    class-at-requires
+    pair-class-requires
     add-fixed-at
     fixed-at-requires
     add-size-at

@@ -11,8 +11,8 @@ use Rattle.cluster.proofs.pair_fault.Tie as tie
 returns : tie.Need-returns
 returns c = let a = c .before .before .args in sym (pair-past (now (a .table)) (a .at) (a .least) (c .if1 .taken))
 
-class-fault-requires : tie.Need-class-fault-requires
-class-fault-requires c κs = search needs
+pair-class-fault-requires : tie.Need-pair-class-fault-requires
+pair-class-fault-requires c κs = search needs
 
 add-grow-fault : tie.Need-add-grow-fault
 add-grow-fault c = search needs
@@ -71,7 +71,7 @@ then-requires-6 c κs = search needs
 returns-2 : tie.Need-returns-2
 unfolding pairFault
 returns-2 c =
-    then-of (c .then6 .ensures) (c .before .before .before .before .before .before .before .before .before .before .before .before .class-fault .ensures)
+    then-of (c .then6 .ensures) (c .before .before .before .before .before .before .before .before .before .before .before .before .pair-class-fault .ensures)
     (then-of (c .before .then5 .ensures) (c .before .before .before .before .before .before .before .before .before .before .before .grow-fault .ensures)
     (then-of (c .before .before .then4 .ensures) (c .before .before .before .before .before .before .before .before .before .before .shrink-fault .ensures)
     (then-of (c .before .before .before .then3 .ensures) (c .before .before .before .before .before .before .before .before .before .grow-fault2 .ensures)
@@ -83,7 +83,7 @@ pair-fault-spec =
     tie.close
     (tie.spec
     returns
-    class-fault-requires
+    pair-class-fault-requires
     add-grow-fault
     grow-fault-requires
     add-shrink-fault

@@ -32,8 +32,8 @@ returns c =
 enum-told-2 : tie.Need-enum-told-2 Inv-loop μ-loop
 enum-told-2 c = search needs
 
-class-at-requires : tie.Need-class-at-requires Inv-loop μ-loop
-class-at-requires c κs = search needs
+pair-class-requires : tie.Need-pair-class-requires Inv-loop μ-loop
+pair-class-requires c κs = search needs
 
 add-least : tie.Need-add-least Inv-loop μ-loop
 add-least c = search needs
@@ -51,7 +51,7 @@ loop-again : tie.Need-loop-again Inv-loop μ-loop
 loop-again c =
     c .before .before .before .before .before .loop .inv
     ∙ walk-next _ _ _ _ _ _ _ _ (c .before .before .before .before .loop-test .taken) (sym (c .before .before .before .pair-fault .ensures) ∙ c .before .enum-told2 .given .1) refl
-    (ap (λ (k : ℕ). k + 1) (c .class-at .ensures .0))
+    (ap (λ (k : ℕ). k + 1) (c .pair-class .ensures .0))
 
 returns-2 : tie.Need-returns-2 Inv-loop μ-loop
 returns-2 c = sym (c .before .loop .inv ∙ walk-none _ _ _ _ _ _ (c .loop-test .left))
@@ -67,7 +67,7 @@ pairs-fault-spec =
     enum-told
     returns
     enum-told-2
-    class-at-requires
+    pair-class-requires
     add-least
     add-at
     sub-left

@@ -20,14 +20,14 @@ abbrev μ-loop : tie.MeasureT-loop
 loop-holds : tie.Need-loop-holds Inv-loop μ-loop
 loop-holds c = (refl, omega arith)
 
-class-at-requires : tie.Need-class-at-requires Inv-loop μ-loop
-class-at-requires c κs = search needs
+pair-class-requires : tie.Need-pair-class-requires Inv-loop μ-loop
+pair-class-requires c κs = search needs
 
 pair-at-requires : tie.Need-pair-at-requires Inv-loop μ-loop
 pair-at-requires c κs = search needs
 
 returns : tie.Need-returns Inv-loop μ-loop
-returns c = ap some (c .pair-at .ensures) ∙ sym (c .before .before .before .before .loop .inv .0 ∙ record-here _ _ _ _ (c .before .before .before .loop-test .taken) (sym (c .before .before .class-at .ensures .0) ∙ c .before .if1 .taken))
+returns c = ap some (c .pair-at .ensures) ∙ sym (c .before .before .before .before .loop .inv .0 ∙ record-here _ _ _ _ (c .before .before .before .loop-test .taken) (sym (c .before .before .pair-class .ensures .0) ∙ c .before .if1 .taken))
 
 add-at : tie.Need-add-at Inv-loop μ-loop
 add-at c = search needs
@@ -39,7 +39,7 @@ loop-less : tie.Need-loop-less Inv-loop μ-loop
 loop-less c = search needs
 
 loop-again : tie.Need-loop-again Inv-loop μ-loop
-loop-again c = (c .before .before .before .loop .inv .0 ∙ record-next _ _ _ _ (c .before .before .loop-test .taken) (λ e. c .if1 .left (c .before .class-at .ensures .0 ∙ e)), omega arith)
+loop-again c = (c .before .before .before .loop .inv .0 ∙ record-next _ _ _ _ (c .before .before .loop-test .taken) (λ e. c .if1 .left (c .before .pair-class .ensures .0 ∙ e)), omega arith)
 
 returns-2 : tie.Need-returns-2 Inv-loop μ-loop
 returns-2 c = sym (c .before .loop .inv .0 ∙ record-none _ _ _ _ (c .loop-test .left))
@@ -51,7 +51,7 @@ record-from-spec =
     Inv-loop
     μ-loop
     loop-holds
-    class-at-requires
+    pair-class-requires
     pair-at-requires
     returns
     add-at

@@ -1,4 +1,4 @@
--- `diff_call::tables_fault` meets its contract.
+-- `diff_call::either_fault` meets its contract.
 use Rattle.diff_call.proofs.Laws.{first-bad, first-clear}
 use mathlib.Core.Path.{sym, _∙_}
 use borrow.Author.Needs.{needs}

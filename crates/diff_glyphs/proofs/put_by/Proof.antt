@@ -22,8 +22,8 @@ Inv-loop one other sources direction block₀ same₀ list₀ to runs₀ last₀
 abbrev μ-loop : tie.MeasureT-loop
 μ-loop one other sources direction block₀ same₀ list₀ to runs₀ last₀ glyph₀ at₀ block same list runs last glyph at = sources .glyphs - glyph
 
-begin-requires : tie.Need-begin-requires Inv-loop μ-loop
-begin-requires c κs = c .before .before .before .before .before .pre .0 .sound
+begin-both-requires : tie.Need-begin-both-requires Inv-loop μ-loop
+begin-both-requires c κs = c .before .before .before .before .before .pre .0 .sound
 
 nowhere-requires : tie.Need-nowhere-requires Inv-loop μ-loop
 nowhere-requires c κs = search needs
@@ -35,7 +35,7 @@ loop-holds c =
     let w = p .0 .sound in
     let k = a .sources .kind in (
       omega arith,
-      c .before .begin .ensures,
+      c .before .begin-both .ensures,
       holds-none k (a .direction) (a .one .now) (a .other .now) (c .nowhere .result) (a .block .now) (p .1) (w .short) (w .beside) (c .nowhere .ensures),
       kept-blank k (a .direction) (a .one .now) (a .other .now) (a .same .now) (p .2) (w .short) (w .beside),
       omega arith,
@@ -120,7 +120,7 @@ put-by-spec =
     (tie.spec
     Inv-loop
     μ-loop
-    begin-requires
+    begin-both-requires
     nowhere-requires
     loop-holds
     next-stretch-requires

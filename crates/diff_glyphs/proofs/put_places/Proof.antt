@@ -19,8 +19,8 @@ put-records-requires c κs =
 enum-told-2 : tie.Need-enum-told-2
 enum-told-2 c = search needs
 
-put-list-requires : tie.Need-put-list-requires
-put-list-requires c κs = (c .before .before .before .before .before .before .pre .0, c .before .before .before .before .before .before .pre .1)
+put-changed-list-requires : tie.Need-put-changed-list-requires
+put-changed-list-requires c κs = (c .before .before .before .before .before .before .pre .0, c .before .before .before .before .before .before .pre .1)
 
 same-length : tie.Need-same-length
 same-length c = search needs
@@ -38,7 +38,7 @@ same-length-2 c = search needs
 returns-2 : tie.Need-returns-2
 returns-2 c =
     let a = c .before .before .before .before .before .before .before .before .before .args in
-    let p = c .before .before .put-list in
+    let p = c .before .before .put-changed-list in
     let e = its-lists (a .direction) (a .one .now) (a .other .now) (a .places) (a .kind) (c .before .before .before .before .enum-told2 .given .1) in
     stores-other (a .block .now) (p .last .1 .1 .1 .1 .0) 0 (p .result) _ _ e (p .ensures)
 
@@ -49,7 +49,7 @@ put-places-spec =
     enum-told
     put-records-requires
     enum-told-2
-    put-list-requires
+    put-changed-list-requires
     same-length
     returns
     same-length-2

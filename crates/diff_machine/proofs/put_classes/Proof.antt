@@ -16,11 +16,11 @@ use Rattle.diff_machine.proofs.put_classes.Statement.{statement}
 use Rattle.diff_machine.proofs.put_classes.Tie as tie
 
 abbrev Inv-loop : tie.InvT-loop
-Inv-loop one other machines list₀ to classes beside span glyph₀ at₀ list glyph at =
+Inv-loop one other machines list₀ to ones others span glyph₀ at₀ list glyph at =
     (span .from ≤ glyph) × (glyph ≤ span .until) × (at ≤ to + 6 * glyph) × Filled (classDiffers one other machines) list₀ list to at (span .from) glyph
 
 abbrev μ-loop : tie.MeasureT-loop
-μ-loop one other machines list₀ to classes beside span glyph₀ at₀ list glyph at = span .until - glyph
+μ-loop one other machines list₀ to ones others span glyph₀ at₀ list glyph at = span .until - glyph
 
 class-table-requires : tie.Need-class-table-requires Inv-loop μ-loop
 class-table-requires c κs = c .before .before .before .pre .0 .first

@@ -26,14 +26,14 @@ lower-requires c κs = search needs
 lower-requires-2 : tie.Need-lower-requires-2
 lower-requires-2 c κs = search needs
 
-place-of-requires : tie.Need-place-of-requires
-place-of-requires c κs =
+place-by-run-requires : tie.Need-place-by-run-requires
+place-by-run-requires c κs =
     let a = c .before .before .before .before .before .before .before .before .args in
     let p = c .before .before .before .before .before .before .before .before .pre in
     (base-near (a .one .now) (a .sources .glyphs) (a .sources .first) (p .0 .first), omega (arith, p .0 .few, p .2), c .before .before .before .before .before .onward .ensures .0 .near)
 
-place-of-requires-2 : tie.Need-place-of-requires-2
-place-of-requires-2 c κs =
+place-by-run-requires-2 : tie.Need-place-by-run-requires-2
+place-by-run-requires-2 c κs =
     let a = c .before .before .before .before .before .before .before .before .before .args in
     let p = c .before .before .before .before .before .before .before .before .before .pre in
     (base-near (a .other .now) (a .sources .glyphs) (a .sources .second) (p .0 .second), omega (arith, p .0 .few, p .2), c .before .before .before .before .before .onward2 .ensures .0 .near)
@@ -46,9 +46,9 @@ returns c =
     let y = c .before .before .before .before .before .before .onward2 in
     let ea = c .before .before .before .before .before .even-end in
     let eb = c .before .before .before .before .even-end2 in
-    let s : GlyphStretch = record { end = c .before .before .lower2 .result; places = record { first = c .before .place-of .result; second = c .place-of2 .result }; runs = record { first = x .result; second = y .result } } in
+    let s : GlyphStretch = record { end = c .before .before .lower2 .result; places = record { first = c .before .place-by-run .result; second = c .place-by-run2 .result }; runs = record { first = x .result; second = y .result } } in
     splits (a .one .now) (a .other .now) (a .sources) (a .glyph) s (record { first = x .ensures .0; second = y .ensures .0 }) (ea .result) (eb .result) (p .2) (ea .ensures) (eb .ensures)
-    (c .before .before .lower2 .ensures ∙ ap (λ (k : ℕ). min k (a .sources .glyphs)) (c .before .before .before .lower .ensures)) (c .before .place-of .ensures) (c .place-of2 .ensures)
+    (c .before .before .lower2 .ensures ∙ ap (λ (k : ℕ). min k (a .sources .glyphs)) (c .before .before .before .lower .ensures)) (c .before .place-by-run .ensures) (c .place-by-run2 .ensures)
 
 pub next-stretch-spec : {M : Type 1} → statement M
 next-stretch-spec =
@@ -60,6 +60,6 @@ next-stretch-spec =
     even-end-requires-2
     lower-requires
     lower-requires-2
-    place-of-requires
-    place-of-requires-2
+    place-by-run-requires
+    place-by-run-requires-2
     returns)

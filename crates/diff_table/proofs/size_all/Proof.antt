@@ -5,11 +5,11 @@ use borrow.Author.Needs.{needs}
 use Rattle.diff_table.proofs.size_all.Statement.{statement}
 use Rattle.diff_table.proofs.size_all.Tie as tie
 
-same-bytes-requires : tie.Need-same-bytes-requires
-same-bytes-requires c κs = search needs
+same-table-requires : tie.Need-same-table-requires
+same-table-requires c κs = search needs
 
 returns : tie.Need-returns
-returns c = let a = c .before .before .before .before .args in (same-size (a .one .now) (a .other .now) (a .glyphs) (c .before .same-bytes .ensures (c .if1 .taken)), omega arith)
+returns c = let a = c .before .before .before .before .args in (same-size (a .one .now) (a .other .now) (a .glyphs) (c .before .same-table .ensures (c .if1 .taken)), omega arith)
 
 slice-aggregate-put-all : tie.Need-slice-aggregate-put-all
 slice-aggregate-put-all c = search needs
@@ -26,4 +26,4 @@ returns-2 c =
 pub size-all-spec : {M : Type 1} → statement M
 size-all-spec =
     tie.close
-    (tie.spec same-bytes-requires returns slice-aggregate-put-all put-all-requires returns-2)
+    (tie.spec same-table-requires returns slice-aggregate-put-all put-all-requires returns-2)

@@ -23,11 +23,11 @@ loop-holds c = (listed-all _ _ _ (c .u16-at .ensures .0), omega (arith, c .u16-a
 u32-at-requires : tie.Need-u32-at-requires Inv-loop μ-loop
 u32-at-requires c κs = search needs
 
-record-at-requires : tie.Need-record-at-requires Inv-loop μ-loop
-record-at-requires c κs = omega (arith, c .before .before .before .loop .inv .1)
+table-record-at-requires : tie.Need-table-record-at-requires Inv-loop μ-loop
+table-record-at-requires c κs = omega (arith, c .before .before .before .loop .inv .1)
 
 returns : tie.Need-returns Inv-loop μ-loop
-returns c = sym (c .before .before .before .before .loop .inv .0 ∙ listed-here _ _ _ _ _ (c .before .before .before .loop-test .taken) (c .before .before .u32-at .ensures .0) (c .before .if1 .taken) (c .record-at .ensures))
+returns c = sym (c .before .before .before .before .loop .inv .0 ∙ listed-here _ _ _ _ _ (c .before .before .before .loop-test .taken) (c .before .before .u32-at .ensures .0) (c .before .if1 .taken) (c .table-record-at .ensures))
 
 add-p : tie.Need-add-p Inv-loop μ-loop
 add-p c = search needs
@@ -53,7 +53,7 @@ find-record-spec =
     u16-at-requires
     loop-holds
     u32-at-requires
-    record-at-requires
+    table-record-at-requires
     returns
     add-p
     sub-left

@@ -11,8 +11,8 @@ tables-fault-requires c κs = search needs
 enum-told : tie.Need-enum-told
 enum-told c = search needs
 
-count-of-requires : tie.Need-count-of-requires
-count-of-requires c κs =
+glyph-count-of-requires : tie.Need-glyph-count-of-requires
+glyph-count-of-requires c κs =
     let a = c .before .before .before .before .args in
     tables-clear (a .font .now) (a .just) (a .maxp) (sym (c .before .before .tables-fault .ensures) ∙ c .enum-told .given .1) .1
 
@@ -20,7 +20,7 @@ enum-known-refusal : tie.Need-enum-known-refusal
 enum-known-refusal c = search needs
 
 returns : tie.Need-returns
-returns c = both-opened _ _ _ (c .before .before .before .tables-fault .ensures) (c .before .enum-told .given .1) (c .count-of .ensures)
+returns c = both-opened _ _ _ (c .before .before .before .tables-fault .ensures) (c .before .enum-told .given .1) (c .glyph-count-of .ensures)
 
 returns-2 : tie.Need-returns-2
 returns-2 c = both-refused _ _ _ (c .before .before .before .tables-fault .ensures) (c .before .refusal .given .1)
@@ -31,7 +31,7 @@ open-tables-spec =
     (tie.spec
     tables-fault-requires
     enum-told
-    count-of-requires
+    glyph-count-of-requires
     enum-known-refusal
     returns
     returns-2)

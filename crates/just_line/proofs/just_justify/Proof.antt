@@ -1,4 +1,4 @@
--- `just_justify` meets its contract: a walk of its MIR, with no branch and no loop. `shape_in` and `line_out` are covered; `line_justify::justify` has every lent
+-- `just_line::just_justify` meets its contract: a walk of its MIR, with no branch and no loop. `shape_in` and `line_out` are covered; `line_justify::justify` has every lent
 -- slice for good.
 use mathlib.Core.Path.{_≡_, refl}
 use Prim.Native.Nat.{ℕ, _+_, _-_, _*_, _<_, _^_}
@@ -48,7 +48,8 @@ use Rattle.line_rule.proofs.LineShape as L
 use Rattle.line_rule.proofs.LineShape.Laws as L′
 use Rattle.line_call.specs.declared.LineAnswer.{LineAnswer}
 use Rattle.line_call.specs.Justified.{saysLine, justified}
-use Rattle.line_call.specs.Settle.{lineBy, lentBy}
+use Rattle.line_rule.specs.Shape.{lineBy}
+use Rattle.line_call.specs.Settle.{lentBy}
 use Rattle.line_call.proofs.LineAnswer as N
 use Rattle.line_call.proofs.LineAnswer.Laws as N′
 use Rattle.line_justify.specs.Outcome.{outcomeIs}

@@ -4,7 +4,7 @@ use lib.ListN.{length, drop, take, length-set}
 use Prim.Native.Nat.{_-_, _≤_}
 use mathlib.Core.List.{_++_}
 use mathlib.Core.Path.{_≡_, refl}
-use Rattle.line_call.proofs.Tests.{copy-again, copy-end}
+use Rattle.line_call.proofs.Copies.{copy-again, copy-end}
 use Rattle.line_call.proofs.copy_classes.Statement.{statement}
 use Rattle.line_call.proofs.copy_classes.Tie as tie
 

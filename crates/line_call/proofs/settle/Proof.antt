@@ -5,7 +5,7 @@ use lib.ListN.{length, drop}
 use Rattle.table.specs.Means.{meaningOf}
 use Rattle.meaning.specs.Ask.{sideOf}
 use Rattle.line_rule.specs.Line.{verdictsOf}
-use Rattle.line_call.specs.Settle.{lineBy}
+use Rattle.line_rule.specs.Shape.{lineBy}
 use Rattle.line_call.proofs.Outcomes.{tells-refused, tells-longer, input-clear, whole-bad, whole-clear, room-enough, part-length}
 use borrow.Author.Needs.{needs}
 use Rattle.line_call.proofs.settle.Statement.{statement}

@@ -3,8 +3,8 @@ use mathlib.Core.Path.{sym, ap, _∙_}
 use lib.ListN.{length}
 use Rattle.line_moves.proofs.Walks.{walk-ended, walk-endless}
 use Rattle.line_call.specs.Steps.{sideIn, calledLine}
-use Rattle.line_call.proofs.Gaps.{as-read}
-use Rattle.line_call.proofs.Tests.{known-each}
+use Rattle.line_input.proofs.Gaps.{as-read}
+use Rattle.line_input.proofs.Tests.{known-each}
 use Rattle.line_call.proofs.Work.{gap-found, gap-none, bad-advances, bad-glyph, bad-walk, work-over, narrow-fits, narrowed, work-done}
 use borrow.Author.Needs.{needs}
 use Rattle.line_call.proofs.share_out.Statement.{statement}

@@ -4,7 +4,7 @@ use Prim.Native.Nat.{_*_}
 use mathlib.Core.Path.{refl, ap, _∙_}
 use lib.ListN.{length, length-replicate}
 use Rattle.line_call.specs.Steps.{sideIn, calledLine}
-use Rattle.line_call.proofs.Gaps.{as-read}
+use Rattle.line_input.proofs.Gaps.{as-read}
 use Rattle.line_call.proofs.Outcomes.{has-moves, counted-bad, counted-short, counted-done}
 use borrow.Author.Needs.{needs}
 use Rattle.line_call.proofs.work_out.Statement.{statement}

@@ -51,7 +51,8 @@ use Rattle.line_rule.proofs.LineShape as L
 use Rattle.line_rule.proofs.LineShape.Laws as L′
 use Rattle.line_call.specs.declared.LineAnswer.{LineAnswer}
 use Rattle.line_call.specs.Justified.{justified}
-use Rattle.line_call.specs.Settle.{lineBy, lentBy, BitRoom}
+use Rattle.line_rule.specs.Shape.{lineBy}
+use Rattle.line_call.specs.Settle.{lentBy, BitRoom}
 use Rattle.line_call.proofs.LineAnswer as N
 use Rattle.line_call.proofs.LineAnswer.Laws as N′
 use Rattle.line_justify.specs.Outcome.{outcomeIs}

@@ -57,7 +57,8 @@ use Rattle.line_verdicts.specs.Bits.{told}
 use Rattle.line_call.specs.declared.Settled.{Settled}
 use Rattle.line_call.specs.declared.LineAnswer.{LineAnswer}
 use Rattle.line_call.specs.Justified.{justified}
-use Rattle.line_call.specs.Settle.{lineBy, lentBy, settlementIs, settlementIn, BitRoom, Tells}
+use Rattle.line_rule.specs.Shape.{lineBy}
+use Rattle.line_call.specs.Settle.{lentBy, settlementIs, settlementIn, BitRoom, Tells}
 use Rattle.line_call.proofs.Settled as S
 use Rattle.line_call.proofs.Settled.Laws as S′
 use Rattle.line_call.proofs.LineAnswer as N

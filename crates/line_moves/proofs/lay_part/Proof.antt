@@ -6,14 +6,14 @@ use borrow.Author.Needs.{needs}
 use Rattle.line_moves.proofs.lay_part.Statement.{statement}
 use Rattle.line_moves.proofs.lay_part.Tie as tie
 
-plain-requires : tie.Need-plain-requires
-plain-requires c κs = search needs
+plain-factor-requires : tie.Need-plain-factor-requires
+plain-factor-requires c κs = search needs
 
-plain-requires-2 : tie.Need-plain-requires-2
-plain-requires-2 c κs = search needs
+plain-factor-requires-2 : tie.Need-plain-factor-requires-2
+plain-factor-requires-2 c κs = search needs
 
-side-of-requires : tie.Need-side-of-requires
-side-of-requires c κs = search needs
+side-number-requires : tie.Need-side-number-requires
+side-number-requires c κs = search needs
 
 mul-sides : tie.Need-mul-sides
 mul-sides c = search needs
@@ -21,8 +21,8 @@ mul-sides c = search needs
 slice-write-sides : tie.Need-slice-write-sides
 slice-write-sides c = search needs
 
-side-of-requires-2 : tie.Need-side-of-requires-2
-side-of-requires-2 c κs = search needs
+side-number-requires-2 : tie.Need-side-number-requires-2
+side-number-requires-2 c κs = search needs
 
 mul-sides-2 : tie.Need-mul-sides-2
 mul-sides-2 c = search needs
@@ -66,18 +66,18 @@ same-length-2 c = search needs
 returns : tie.Need-returns
 returns c =
     let a = c .before .before .before .before .before .before .args in
-    laying (glyphOf (a .part)) (a .place) (a .sides .now) (a .factors .now) _ _ (c .before .side-of .ensures) (c .side-of2 .ensures) (c .before .before .before .plain .ensures) (c .before .before .plain2 .ensures) refl
+    laying (glyphOf (a .part)) (a .place) (a .sides .now) (a .factors .now) _ _ (c .before .side-number .ensures) (c .side-number2 .ensures) (c .before .before .before .plain-factor .ensures) (c .before .before .plain-factor2 .ensures) refl
 
 pub lay-part-spec : {M : Type 1} → statement M
 lay-part-spec =
     tie.close
     (tie.spec
-    plain-requires
-    plain-requires-2
-    side-of-requires
+    plain-factor-requires
+    plain-factor-requires-2
+    side-number-requires
     mul-sides
     slice-write-sides
-    side-of-requires-2
+    side-number-requires-2
     mul-sides-2
     add-sides
     slice-write-sides-2

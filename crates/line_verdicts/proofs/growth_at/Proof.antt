@@ -7,29 +7,29 @@ use borrow.Author.Needs.{needs}
 use Rattle.line_verdicts.proofs.growth_at.Statement.{statement}
 use Rattle.line_verdicts.proofs.growth_at.Tie as tie
 
-mul-size : tie.Need-mul-size
-mul-size c = search needs
+mul-both : tie.Need-mul-both
+mul-both c = search needs
 
-mul-size-2 : tie.Need-mul-size-2
-mul-size-2 c = search needs
+mul-both-2 : tie.Need-mul-both-2
+mul-both-2 c = search needs
 
-shared-slice-read-size : tie.Need-shared-slice-read-size
-shared-slice-read-size c = search needs
+shared-slice-read-both : tie.Need-shared-slice-read-both
+shared-slice-read-both c = search needs
 
-mul-size-3 : tie.Need-mul-size-3
-mul-size-3 c = search needs
+mul-both-3 : tie.Need-mul-both-3
+mul-both-3 c = search needs
 
-add-size : tie.Need-add-size
-add-size c = search needs
+add-both : tie.Need-add-both
+add-both c = search needs
 
-mul-size-4 : tie.Need-mul-size-4
-mul-size-4 c = search needs
+mul-both-4 : tie.Need-mul-both-4
+mul-both-4 c = search needs
 
-shared-slice-read-size-2 : tie.Need-shared-slice-read-size-2
-shared-slice-read-size-2 c = search needs
+shared-slice-read-both-2 : tie.Need-shared-slice-read-both-2
+shared-slice-read-both-2 c = search needs
 
-add-size-2 : tie.Need-add-size-2
-add-size-2 c =
+add-both-2 : tie.Need-add-both-2
+add-both-2 c =
     let m = c .before .before .before .args in
     let small = c .before .before .before .pre .1 in
     record { fits = omega (arith, small (2 * m .place), small (2 * m .place + 1)) }
@@ -50,14 +50,14 @@ pub growth-at-spec : {M : Type 1} → statement M
 growth-at-spec =
     tie.close
     (tie.spec
-    mul-size
-    mul-size-2
-    shared-slice-read-size
-    mul-size-3
-    add-size
-    mul-size-4
-    shared-slice-read-size-2
-    add-size-2
+    mul-both
+    mul-both-2
+    shared-slice-read-both
+    mul-both-3
+    add-both
+    mul-both-4
+    shared-slice-read-both-2
+    add-both-2
     signed-requires
     cast-t15
     returns)

@@ -11,15 +11,15 @@ use Rattle.line_verdicts.proofs.keep_list.Statement.{statement}
 use Rattle.line_verdicts.proofs.keep_list.Tie as tie
 
 abbrev Inv-loop : tie.InvT-loop
-Inv-loop table class growth size count first noted₀ number₀ left₀ at₀ noted number left at = Noting table class (growth .0) size count first noted number left at
+Inv-loop table class growth size actions first noted₀ number₀ left₀ at₀ noted number left at = Noting table class (growth .0) size actions first noted number left at
 
 abbrev μ-loop : tie.MeasureT-loop
-μ-loop table class growth size count first noted₀ number₀ left₀ at₀ noted number left at = left
+μ-loop table class growth size actions first noted₀ number₀ left₀ at₀ noted number left at = left
 
 loop-holds : tie.Need-loop-holds Inv-loop μ-loop
 loop-holds c =
     let a = c .before .args in
-    noting-start (a .table .now) (a .class) (a .growth .0) (a .size) (a .count) (a .first) (c .before .pre)
+    noting-start (a .table .now) (a .class) (a .growth .0) (a .size) (a .actions) (a .first) (c .before .pre)
 
 fires-here-requires : tie.Need-fires-here-requires Inv-loop μ-loop
 fires-here-requires c κs =
@@ -36,7 +36,7 @@ note-action-requires : tie.Need-note-action-requires Inv-loop μ-loop
 note-action-requires c κs =
     let a = c .before .before .before .before .before .args in
     let l = c .before .before .before .loop in
-    subst (λ (b : ℕ). (l .noted .fires + b < 2 ^ 64) × (l .noted .substitutes + b < 2 ^ 64) × (l .noted .count < 64)) (sym (c .bit-of .ensures)) (note-room (a .table .now) (a .class) (a .growth .0) (a .size) (a .count) (a .first) (l .noted) (l .number) (l .left) (l .at) (l .inv) (c .before .before .loop-test .taken))
+    subst (λ (b : ℕ). (l .noted .fires + b < 2 ^ 64) × (l .noted .substitutes + b < 2 ^ 64) × (l .noted .firing < 64)) (sym (c .bit-of .ensures)) (note-room (a .table .now) (a .class) (a .growth .0) (a .size) (a .actions) (a .first) (l .noted) (l .number) (l .left) (l .at) (l .inv) (c .before .before .loop-test .taken))
 
 add-u32-in : tie.Need-add-u32-in Inv-loop μ-loop
 add-u32-in c =
@@ -72,13 +72,13 @@ loop-again c =
     let a = c .before .before .before .before .before .before .before .args in
     let l = c .before .before .before .before .before .loop in
     let f = firesOf (actionAt (a .table .now) (l .at)) (a .class) (a .growth .0) (a .size) in
-    noting-next (a .table .now) (a .class) (a .growth .0) (a .size) (a .count) (a .first) (l .noted) (l .number) (l .left) (l .at) (l .inv) (c .before .before .before .before .loop-test .taken) (c .before .note-action .result) (c .before .note-action .ensures f (c .before .before .before .fires-here .ensures) ∙ ap (λ (b : ℕ). noteAction f b (l .noted)) (c .before .before .bit-of .ensures)) (c .u32-in .result) (c .u32-in .ensures .0)
+    noting-next (a .table .now) (a .class) (a .growth .0) (a .size) (a .actions) (a .first) (l .noted) (l .number) (l .left) (l .at) (l .inv) (c .before .before .before .before .loop-test .taken) (c .before .note-action .result) (c .before .note-action .ensures f (c .before .before .before .fires-here .ensures) ∙ ap (λ (b : ℕ). noteAction f b (l .noted)) (c .before .before .bit-of .ensures)) (c .u32-in .result) (c .u32-in .ensures .0)
 
 returns : tie.Need-returns Inv-loop μ-loop
 returns c =
     let a = c .before .before .before .args in
     let l = c .before .loop in
-    noting-end (a .table .now) (a .class) (a .growth .0) (a .size) (a .count) (a .first) (l .noted) (l .number) (l .left) (l .at) (l .inv) (omega arith)
+    noting-end (a .table .now) (a .class) (a .growth .0) (a .size) (a .actions) (a .first) (l .noted) (l .number) (l .left) (l .at) (l .inv) (omega arith)
 
 pub keep-list-spec : {M : Type 1} → statement M
 keep-list-spec =

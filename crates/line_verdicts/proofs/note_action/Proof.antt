@@ -12,8 +12,8 @@ returns c =
 add-fires : tie.Need-add-fires
 add-fires c = search needs
 
-add-count : tie.Need-add-count
-add-count c = search needs
+add-firing : tie.Need-add-firing
+add-firing c = search needs
 
 returns-2 : tie.Need-returns-2
 returns-2 c =
@@ -34,7 +34,7 @@ note-action-spec =
     (tie.spec
     returns
     add-fires
-    add-count
+    add-firing
     returns-2
     add-t7
     returns-3)

@@ -16,14 +16,14 @@ abbrev μ-loop : tie.MeasureT-loop
 loop-holds : tie.Need-loop-holds Inv-loop μ-loop
 loop-holds c = (refl, search needs)
 
-values-fault-requires : tie.Need-values-fault-requires Inv-loop μ-loop
-values-fault-requires c κs = search needs
+unit-array-fault-requires : tie.Need-unit-array-fault-requires Inv-loop μ-loop
+unit-array-fault-requires c κs = search needs
 
 enum-told : tie.Need-enum-told Inv-loop μ-loop
 enum-told c = search needs
 
 returns : tie.Need-returns Inv-loop μ-loop
-returns c = c .before .before .values-fault .ensures ∙ sym (c .before .before .before .before .loop .inv .0 ∙ walk-stop _ _ _ _ _ _ (c .before .before .before .loop-test .taken) (sym (c .before .before .values-fault .ensures) ∙ c .enum-told .given .1))
+returns c = c .before .before .unit-array-fault .ensures ∙ sym (c .before .before .before .before .loop .inv .0 ∙ walk-stop _ _ _ _ _ _ (c .before .before .before .loop-test .taken) (sym (c .before .before .unit-array-fault .ensures) ∙ c .enum-told .given .1))
 
 enum-told-2 : tie.Need-enum-told-2 Inv-loop μ-loop
 enum-told-2 c = search needs
@@ -40,7 +40,7 @@ loop-less c = search needs
 loop-again : tie.Need-loop-again Inv-loop μ-loop
 loop-again c = (
   c .before .before .before .before .loop .inv .0
-      ∙ walk-next _ _ _ _ _ _ _ _ (c .before .before .before .loop-test .taken) (sym (c .before .before .values-fault .ensures) ∙ c .enum-told2 .given .1) refl refl,
+      ∙ walk-next _ _ _ _ _ _ _ _ (c .before .before .before .loop-test .taken) (sym (c .before .before .unit-array-fault .ensures) ∙ c .enum-told2 .given .1) refl refl,
   search needs,
 )
 
@@ -54,7 +54,7 @@ arrays-fault-spec =
     Inv-loop
     μ-loop
     loop-holds
-    values-fault-requires
+    unit-array-fault-requires
     enum-told
     returns
     enum-told-2

@@ -28,11 +28,11 @@ add-u16-at-2 c = search needs
 u16-at-requires-2 : tie.Need-u16-at-requires-2
 u16-at-requires-2 c κs = search needs
 
-add-below-count : tie.Need-add-below-count
-add-below-count c = search needs
+add-glyphs-below : tie.Need-add-glyphs-below
+add-glyphs-below c = search needs
 
-below-count-requires : tie.Need-below-count-requires
-below-count-requires c κs = search needs
+glyphs-below-requires : tie.Need-glyphs-below-requires
+glyphs-below-requires c κs = search needs
 
 add-array-fault : tie.Need-add-array-fault
 add-array-fault c = search needs
@@ -62,8 +62,8 @@ trimmed-fault-spec =
     u16-at-requires
     add-u16-at-2
     u16-at-requires-2
-    add-below-count
-    below-count-requires
+    add-glyphs-below
+    glyphs-below-requires
     add-array-fault
     array-fault-requires
     then-requires

@@ -19,8 +19,8 @@ abbrev μ-loop : tie.MeasureT-loop
 loop-holds : tie.Need-loop-holds Inv-loop μ-loop
 loop-holds c = (refl, refl, omega arith, refl)
 
-note-requires : tie.Need-note-requires Inv-loop μ-loop
-note-requires c κs = search needs
+note-at-requires : tie.Need-note-at-requires Inv-loop μ-loop
+note-at-requires c κs = search needs
 
 add-p : tie.Need-add-p Inv-loop μ-loop
 add-p c = search needs
@@ -33,7 +33,7 @@ loop-less c = search needs
 
 loop-again : tie.Need-loop-again Inv-loop μ-loop
 loop-again c = (
-  c .before .before .before .before .before .loop .inv .0 ∙ each-turn (c .before .before .before .before .before .loop .p) (c .before .before .before .before .before .loop .left) _ _ (c .before .before .before .before .loop-test .taken) (c .before .before .note .ensures),
+  c .before .before .before .before .before .loop .inv .0 ∙ each-turn (c .before .before .before .before .before .loop .p) (c .before .before .before .before .before .loop .left) _ _ (c .before .before .before .before .loop-test .taken) (c .before .before .note-at .ensures),
   omega arith,
   omega arith,
   search needs,
@@ -52,7 +52,7 @@ note-each-spec =
     Inv-loop
     μ-loop
     loop-holds
-    note-requires
+    note-at-requires
     add-p
     sub-left
     loop-less

@@ -25,8 +25,8 @@ u8-at-requires c κs = search needs
 larger-requires : tie.Need-larger-requires Inv-loop μ-loop
 larger-requires c κs = search needs
 
-note-requires : tie.Need-note-requires Inv-loop μ-loop
-note-requires c κs = search needs
+note-at-requires : tie.Need-note-at-requires Inv-loop μ-loop
+note-at-requires c κs = search needs
 
 lower-requires : tie.Need-lower-requires Inv-loop μ-loop
 lower-requires c κs = search needs
@@ -52,7 +52,7 @@ loop-again c =
       (
         l .inv .0 .0 - 1,
         omega (arith, e, l .inv .0 .1, larger, some),
-        l .inv .0 .2 ∙ along-turn (l .inv .0 .0) (l .p) (l .left) _ _ _ _ some (l .inv .0 .1) (larger ∙ ap (max 1) (c .before .before .before .before .before .before .u8-at .ensures .0)) e (c .before .before .before .note .ensures),
+        l .inv .0 .2 ∙ along-turn (l .inv .0 .0) (l .p) (l .left) _ _ _ _ some (l .inv .0 .1) (larger ∙ ap (max 1) (c .before .before .before .before .before .before .u8-at .ensures .0)) e (c .before .before .before .note-at .ensures),
       ),
       omega (arith, e, l .inv .1),
       omega (arith, e, l .inv .2),
@@ -74,7 +74,7 @@ note-values-spec =
     loop-holds
     u8-at-requires
     larger-requires
-    note-requires
+    note-at-requires
     lower-requires
     mul-p
     add-p

@@ -26,18 +26,18 @@ enum-told c = search needs
 u16-at-requires : tie.Need-u16-at-requires
 u16-at-requires c κs = search needs
 
-slice-aggregate-glyphs-fault : tie.Need-slice-aggregate-glyphs-fault
-slice-aggregate-glyphs-fault c = search needs
+slice-aggregate-targets-fault : tie.Need-slice-aggregate-targets-fault
+slice-aggregate-targets-fault c = search needs
 
-glyphs-fault-requires : tie.Need-glyphs-fault-requires
-glyphs-fault-requires c κs = ((c .before .before .before .before .before .before .before .before .before .pre .0 .0, (c .before .before .before .before .before .before .before .before .before .pre .0 .1 .0, (c .before .before .before .before .before .before .before .before .before .pre .0 .1 .1, sym (c .before .before .before .before .before .before .lookup-fault .ensures) ∙ c .before .before .before .before .enum-told .given .1))), (c .before .before .before .before .before .before .before .before .before .pre .1, none-ahead _ _ _ _ 0))
+targets-fault-requires : tie.Need-targets-fault-requires
+targets-fault-requires c κs = ((c .before .before .before .before .before .before .before .before .before .pre .0 .0, (c .before .before .before .before .before .before .before .before .before .pre .0 .1 .0, (c .before .before .before .before .before .before .before .before .before .pre .0 .1 .1, sym (c .before .before .before .before .before .before .lookup-fault .ensures) ∙ c .before .before .before .before .enum-told .given .1))), (c .before .before .before .before .before .before .before .before .before .pre .1, none-ahead _ _ _ _ 0))
 
 same-length : tie.Need-same-length
 same-length c = search needs
 
 returns-2 : tie.Need-returns-2
 unfolding valuesFault
-returns-2 c = (c .before .before .before .glyphs-fault .ensures .0 ∙ sym (then-go _ (sym (c .before .before .before .before .before .before .before .before .before .before .lookup-fault .ensures) ∙ c .before .before .before .before .before .before .before .before .enum-told .given .1)), c .before .before .before .glyphs-fault .ensures .1)
+returns-2 c = (c .before .before .before .targets-fault .ensures .0 ∙ sym (then-go _ (sym (c .before .before .before .before .before .before .before .before .before .before .lookup-fault .ensures) ∙ c .before .before .before .before .before .before .before .before .enum-told .given .1)), c .before .before .before .targets-fault .ensures .1)
 
 shared-fault-requires : tie.Need-shared-fault-requires
 shared-fault-requires c κs = ((c .before .before .before .before .before .before .before .before .pre .0 .0, (c .before .before .before .before .before .before .before .before .pre .0 .1 .0, (c .before .before .before .before .before .before .before .before .pre .0 .1 .1, sym (c .before .before .before .before .before .lookup-fault .ensures) ∙ c .before .before .before .enum-told .given .1))), c .before .before .before .before .before .before .before .before .pre .1)
@@ -58,8 +58,8 @@ values-fault-spec =
     returns
     enum-told
     u16-at-requires
-    slice-aggregate-glyphs-fault
-    glyphs-fault-requires
+    slice-aggregate-targets-fault
+    targets-fault-requires
     same-length
     returns-2
     shared-fault-requires

@@ -4,13 +4,13 @@ use mathlib.Core.Path.{_≡_, refl}
 use native.Mathlib.Omega.{arith}
 use lib.ListN.{drop}
 use Rattle.share.specs.Share.{stages}
-use Rattle.share.specs.Sides.{stageCount, totalsWithin}
+use Rattle.share.specs.Sides.{stageCount, totalsFit}
 use Rattle.share.proofs.Sums.{totals-on, totals-over, totals-end}
 use Rattle.share.proofs.totals_fit.Statement.{statement}
 use Rattle.share.proofs.totals_fit.Tie as tie
 
 abbrev Inv-loop : tie.InvT-loop
-Inv-loop totals stage₀ stage = (stage ≤ stageCount) × (totalsWithin totals stages ≡ totalsWithin totals (drop stage stages))
+Inv-loop totals stage₀ stage = (stage ≤ stageCount) × (totalsFit totals stages ≡ totalsFit totals (drop stage stages))
 
 abbrev μ-loop : tie.MeasureT-loop
 μ-loop totals stage₀ stage = stageCount - stage

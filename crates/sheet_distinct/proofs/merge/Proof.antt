@@ -6,7 +6,7 @@ use mathlib.Core.Bool.{true, false}
 use native.Mathlib.Omega.{arith}
 use lib.ListN.{length, take, length-set}
 use borrow.Author.Needs.{needs}
-use Rattle.sheet_distinct.specs.Order.{left}
+use Rattle.sheet_distinct.specs.Order.{mergedFrom}
 use Rattle.sheet_distinct.proofs.MergeLaws.{next-is, both-done, fill-again, fill-end}
 use Rattle.sheet_distinct.proofs.merge.Statement.{statement}
 use Rattle.sheet_distinct.proofs.merge.Tie as tie
@@ -14,7 +14,7 @@ use Rattle.sheet_distinct.proofs.merge.Tie as tie
 abbrev Inv-loop : tie.InvT-loop
 Inv-loop s offsets ord h out₀ i₀ j₀ k₀ out i j k =
     (k + h ≡ i + j) × (i ≤ h) × (h ≤ j) × (j ≤ length ord) × (length out ≡ length ord)
-    × (take k out ++ left s offsets ord i h j ≡ left s offsets ord 0 h h)
+    × (take k out ++ mergedFrom s offsets ord i h j ≡ mergedFrom s offsets ord 0 h h)
 
 abbrev μ-loop : tie.MeasureT-loop
 μ-loop s offsets ord h out₀ i₀ j₀ k₀ out i j k = length ord - k

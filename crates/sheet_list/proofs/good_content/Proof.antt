@@ -33,23 +33,23 @@ returns-3 c =
     let d = bytesAt (a .bytes .now) (a .at) (a .size) in
     ty-says (c .good-substitute .result) (a .glyphs) 2 (a .ty) d (c .before .if3 .taken) (omega arith) (c .good-substitute .ensures)
 
-good-size-requires : tie.Need-good-size-requires
-good-size-requires c κs = search needs
+has-length-requires : tie.Need-has-length-requires
+has-length-requires c κs = search needs
 
 returns-4 : tie.Need-returns-4
 returns-4 c =
     let a = c .before .before .before .before .before .before .args in
     let d = bytesAt (a .bytes .now) (a .at) (a .size) in
-    ty-says (c .good-size .result) (a .glyphs) 3 (a .ty) d (c .before .if4 .taken) (omega arith) (c .good-size .ensures)
+    ty-says (c .has-length .result) (a .glyphs) 3 (a .ty) d (c .before .if4 .taken) (omega arith) (c .has-length .ensures)
 
-good-size-requires-2 : tie.Need-good-size-requires-2
-good-size-requires-2 c κs = search needs
+has-length-requires-2 : tie.Need-has-length-requires-2
+has-length-requires-2 c κs = search needs
 
 returns-5 : tie.Need-returns-5
 returns-5 c =
     let a = c .before .before .before .before .before .before .before .args in
     let d = bytesAt (a .bytes .now) (a .at) (a .size) in
-    ty-says (c .good-size2 .result) (a .glyphs) 4 (a .ty) d (c .before .if5 .taken) (omega arith) (c .good-size2 .ensures)
+    ty-says (c .has-length2 .result) (a .glyphs) 4 (a .ty) d (c .before .if5 .taken) (omega arith) (c .has-length2 .ensures)
 
 good-repeat-requires : tie.Need-good-repeat-requires
 good-repeat-requires c κs = search needs
@@ -73,9 +73,9 @@ good-content-spec =
     returns-2
     good-substitute-requires
     returns-3
-    good-size-requires
+    has-length-requires
     returns-4
-    good-size-requires-2
+    has-length-requires-2
     returns-5
     good-repeat-requires
     returns-6

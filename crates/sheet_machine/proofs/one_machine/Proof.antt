@@ -32,14 +32,14 @@ add-u32-at-2 c = search needs
 u32-at-requires-3 : tie.Need-u32-at-requires-3
 u32-at-requires-3 c κs = search needs
 
-good-sizes-requires : tie.Need-good-sizes-requires
-good-sizes-requires c κs = search needs
+good-counts-requires : tie.Need-good-counts-requires
+good-counts-requires c κs = search needs
 
 returns-4 : tie.Need-returns-4
 returns-4 c =
     let a = c .before .before .before .before .before .before .before .before .args in
     one-says (a .bytes .now) (a .at) (omega arith) (omega (arith, c .before .before .before .before .u32-at .ensures .0)) (c .before .before .u32-at2 .result) (c .before .u32-at3 .result) (c .before .before .u32-at2 .ensures .0) (c .before .u32-at3 .ensures .0)
-    (c .good-sizes .result) (c .good-sizes .ensures)
+    (c .good-counts .result) (c .good-counts .ensures)
 
 pub one-machine-spec : {M : Type 1} → statement M
 one-machine-spec =
@@ -54,5 +54,5 @@ one-machine-spec =
     u32-at-requires-2
     add-u32-at-2
     u32-at-requires-3
-    good-sizes-requires
+    good-counts-requires
     returns-4)

@@ -6,7 +6,7 @@ use Rattle.fields.specs.Field.{Bytes}
 use Rattle.sheet_sections.specs.Section.{HasItems}
 use Rattle.sheet_sections.specs.declared.Read.{Read}
 use Rattle.sheet_sections.proofs.SectionLaws.{says-yes, says-no, failed, passed}
-use Rattle.sheet_distinct.specs.Order.{stretch, Apart, countFrom}
+use Rattle.sheet_distinct.specs.Order.{stretch, Apart, upFrom}
 use Rattle.sheet_distinct.specs.Scan.{Scanned, Scans}
 use Rattle.sheet_distinct.proofs.ScanLaws.{items-short, items-many, items-none, items-twice, items-found}
 use Rattle.sheet_items.specs.Items.{noItem, item-discrete, itemCode, SomeItem}
@@ -81,7 +81,7 @@ returns-3 c =
     let d : Scanned (itemCode (a .sort)) (SomeItem (a .sort) (a .glyphs)) s (a .at + 4) m q offsets =
     subst (λ (r : Read). Scans (itemCode (a .sort)) (SomeItem (a .sort) (a .glyphs)) s (a .at + 4) m r offsets) (c .before .before .before .before .before .before .before .before .before .before .found .given .1) (c .before .before .before .before .before .before .before .before .before .before .before .before .before .before .scan-items .ensures) in
     items-found (itemCode (a .sort)) (SomeItem (a .sort) (a .glyphs)) (some-free (a .sort) (a .glyphs)) (noItem (a .sort)) (item-discrete (a .sort)) (a .glyphs) few s (a .at) bytes (omega (arith, room)) m (c .before .before .before .before .before .before .before .before .before .before .before .before .before .before .before .before .before .u32-at .ensures .0) q offsets d (omega arith)
-    (says-yes (Apart (stretch s offsets) (countFrom 0 m)) (c .if3 .taken) (c .before .before .before .before .before .distinct .ensures))
+    (says-yes (Apart (stretch s offsets) (upFrom 0 m)) (c .if3 .taken) (c .before .before .before .before .before .distinct .ensures))
 
 same-length-4 : tie.Need-same-length-4
 same-length-4 c = search needs
@@ -105,7 +105,7 @@ returns-4 c =
     let d : Scanned (itemCode (a .sort)) (SomeItem (a .sort) (a .glyphs)) s (a .at + 4) m q offsets =
     subst (λ (r : Read). Scans (itemCode (a .sort)) (SomeItem (a .sort) (a .glyphs)) s (a .at + 4) m r offsets) (c .before .before .before .before .before .before .before .before .before .before .found .given .1) (c .before .before .before .before .before .before .before .before .before .before .before .before .before .before .scan-items .ensures) in
     items-twice (itemCode (a .sort)) (SomeItem (a .sort) (a .glyphs)) (some-free (a .sort) (a .glyphs)) (noItem (a .sort)) (item-discrete (a .sort)) (a .glyphs) few s (a .at) bytes (omega (arith, room)) m (c .before .before .before .before .before .before .before .before .before .before .before .before .before .before .before .before .before .u32-at .ensures .0) q offsets d
-    (says-no (Apart (stretch s offsets) (countFrom 0 m)) (c .if3 .left) (c .before .before .before .before .before .distinct .ensures))
+    (says-no (Apart (stretch s offsets) (upFrom 0 m)) (c .if3 .left) (c .before .before .before .before .before .distinct .ensures))
 
 same-length-7 : tie.Need-same-length-7
 same-length-7 c = search needs

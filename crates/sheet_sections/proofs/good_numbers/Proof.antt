@@ -9,15 +9,15 @@ use Rattle.encoding.specs.Codes.{itemsAt}
 use Rattle.sheet_sections.proofs.SectionLaws.{says-yes, says-no}
 use Rattle.sheet_sections.specs.RunSection.{MayFollow}
 use Rattle.sheet_sections.proofs.NumberLaws.{same-number, used-fits, number-follows, number-on, number-back, numbers-end, numbers-ended}
-use Rattle.sheet_sections.specs.Pool.{numberAt, NumbersFrom}
+use Rattle.sheet_sections.specs.Pool.{numberRunAt, NumbersFrom}
 use Rattle.sheet_sections.proofs.good_numbers.Statement.{statement}
 use Rattle.sheet_sections.proofs.good_numbers.Tie as tie
 
 abbrev Inv-loop : tie.InvT-loop
 Inv-loop bytes at count glyphs items from₀ held₀ used₀ place₀ left₀ from held used place left =
     (place + 6 * left ≤ length bytes) × (from ≤ glyphs) × (used ≤ 65537)
-    × (NumbersFrom glyphs items from held used (itemsAt numberAt 6 bytes place left) → NumbersFrom glyphs items 0 0 1 (itemsAt numberAt 6 bytes at count))
-    × (NumbersFrom glyphs items 0 0 1 (itemsAt numberAt 6 bytes at count) → NumbersFrom glyphs items from held used (itemsAt numberAt 6 bytes place left))
+    × (NumbersFrom glyphs items from held used (itemsAt numberRunAt 6 bytes place left) → NumbersFrom glyphs items 0 0 1 (itemsAt numberRunAt 6 bytes at count))
+    × (NumbersFrom glyphs items 0 0 1 (itemsAt numberRunAt 6 bytes at count) → NumbersFrom glyphs items from held used (itemsAt numberRunAt 6 bytes place left))
 
 abbrev μ-loop : tie.MeasureT-loop
 μ-loop bytes at count glyphs items from₀ held₀ used₀ place₀ left₀ from held used place left = left

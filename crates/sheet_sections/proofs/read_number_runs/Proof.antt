@@ -9,7 +9,7 @@ use Rattle.encoding.specs.Codes.{Found, counted, itemsAt}
 use Rattle.sheet_sections.proofs.SectionLaws.{says-yes, says-no}
 use Rattle.sheet_sections.specs.Section.{HasItems}
 use Rattle.sheet_sections.proofs.NumberLaws.{numbers-outside, numbers-good, numbers-bad}
-use Rattle.sheet_sections.specs.Pool.{numberAt, NumberRuns}
+use Rattle.sheet_sections.specs.Pool.{numberRunAt, NumberRuns}
 use Rattle.sheet_sections.proofs.read_number_runs.Statement.{statement}
 use Rattle.sheet_sections.proofs.read_number_runs.Tie as tie
 
@@ -55,10 +55,10 @@ returns c =
     let room = says-yes (HasItems 6 s (a .at)) (c .before .before .before .if1 .taken) (c .before .before .before .before .has-items .ensures) in
     let count = c .before .before .u32-at .result in
     let e : count ≡ u32At s (a .at) = c .before .before .u32-at .ensures .0 in
-    let g = says-yes (NumberRuns (a .glyphs) (a .items) (itemsAt numberAt 6 s (a .at + 4) count)) (c .if2 .taken) (c .before .good-numbers .ensures) in
+    let g = says-yes (NumberRuns (a .glyphs) (a .items) (itemsAt numberRunAt 6 s (a .at + 4) count)) (c .if2 .taken) (c .before .good-numbers .ensures) in
     subst (λ (k : ℕ). Found (counted runLessCode) (NumberRuns (a .glyphs) (a .items)) s (a .at) (a .at + 4 + 6 * k)) (sym e)
     (numbers-good (a .glyphs) (a .items) (q .0) (q .1) s bytes (a .at) room
-    (subst (λ (k : ℕ). NumberRuns (a .glyphs) (a .items) (itemsAt numberAt 6 s (a .at + 4) k)) e g))
+    (subst (λ (k : ℕ). NumberRuns (a .glyphs) (a .items) (itemsAt numberRunAt 6 s (a .at + 4) k)) e g))
 
 returns-2 : tie.Need-returns-2
 returns-2 c =
@@ -69,9 +69,9 @@ returns-2 c =
     let room = says-yes (HasItems 6 s (a .at)) (c .before .before .before .if1 .taken) (c .before .before .before .before .has-items .ensures) in
     let count = c .before .before .u32-at .result in
     let e : count ≡ u32At s (a .at) = c .before .before .u32-at .ensures .0 in
-    let g = says-no (NumberRuns (a .glyphs) (a .items) (itemsAt numberAt 6 s (a .at + 4) count)) (c .if2 .left) (c .before .good-numbers .ensures) in
+    let g = says-no (NumberRuns (a .glyphs) (a .items) (itemsAt numberRunAt 6 s (a .at + 4) count)) (c .if2 .left) (c .before .good-numbers .ensures) in
     numbers-bad (a .glyphs) (a .items) (q .0) (q .1) s bytes (a .at) room
-    (λ h. g (subst (λ (k : ℕ). NumberRuns (a .glyphs) (a .items) (itemsAt numberAt 6 s (a .at + 4) k)) (sym e) h))
+    (λ h. g (subst (λ (k : ℕ). NumberRuns (a .glyphs) (a .items) (itemsAt numberRunAt 6 s (a .at + 4) k)) (sym e) h))
 
 returns-3 : tie.Need-returns-3
 returns-3 c =

@@ -1,7 +1,7 @@
--- Invariant: the text of the bytes that are left, stored where it goes, makes the whole text.
+-- `sheet_text::print_sheet` meets its contract. Invariant: the text of the bytes that are left, stored where it goes, makes the whole text.
 use borrow.Author.Needs.{needs}
 use Rattle.sheet_text.proofs.HexLaws.{sheet-next, sheet-last, stored-first}
-use Rattle.sheet_text.specs.Printed.{lineOf, printedSheet}
+use Rattle.sheet_text.specs.Printed.{hexLine, printedSheet}
 use Rattle.fields.specs.Stores.{put-next, put-length}
 use lib.Seq.{sets}
 use lib.ListN.{length, take, drop, length-append}
@@ -40,7 +40,7 @@ put-line-requires c κs =
     let sheet = c .before .before .before .before .before .before .before .args .sheet .now in
     let from = c .before .before .before .before .loop .from in
     let end = c .before .before .line-end .result in
-    let line = lineOf (take (end - from) (drop from sheet)) in
+    let line = hexLine (take (end - from) (drop from sheet)) in
     let n = sheet-next sheet from end (c .before .before .before .loop-test .taken) (c .before .before .line-end .ensures) in
     omega (arith, ap length n, length-append line (printedSheet (drop end sheet)), c .before .before .before .before .loop .inv .0, c .before .before .before .before .loop .inv .1)
 
@@ -53,7 +53,7 @@ loop-again c =
     let l = c .before .before .before .before .before .before .before .loop in
     let end = c .before .before .before .before .before .line-end .result in
     let put = c .before .before .put-line in
-    let line = lineOf (take (end - l .from) (drop (l .from) sheet)) in
+    let line = hexLine (take (end - l .from) (drop (l .from) sheet)) in
     let rest = printedSheet (drop end sheet) in
     let n : printedSheet (drop (l .from) sheet) ≡ line ++ rest = sheet-next sheet (l .from) end (c .before .before .before .before .before .before .loop-test .taken) (c .before .before .before .before .before .line-end .ensures) in (
       omega (arith, ap length n, length-append line rest, l .inv .0, put .ensures .end),

@@ -1,4 +1,4 @@
--- Invariant: what is left to store, stored where it goes, makes the whole line.
+-- `sheet_text::put_line` meets its contract. Invariant: what is left to store, stored where it goes, makes the whole line.
 use borrow.Author.Needs.{needs}
 use Prim.Native.Nat.{_+_, _-_}
 use mathlib.Core.Path.{_≡_, refl, sym, ap, _∙_}
@@ -7,15 +7,15 @@ use native.Mathlib.Omega.{arith}
 use lib.ListN.{length, getD, drop}
 use lib.Seq.{sets}
 use Rattle.fields.specs.Stores.{put-next, put-length}
-use Rattle.sheet_text.specs.Printed.{hexOf, lineOf}
+use Rattle.sheet_text.specs.Printed.{hexOf, hexLine}
 use Rattle.sheet_text.proofs.HexLaws.{line-next, line-last}
 use Rattle.sheet_text.proofs.put_line.Statement.{statement}
 use Rattle.sheet_text.proofs.put_line.Tie as tie
 
 abbrev Inv-loop : tie.InvT-loop
 Inv-loop bytes out₀ at i₀ to₀ out i to =
-    (to + length (lineOf (drop i bytes)) ≡ at + length (lineOf bytes)) × (length out ≡ length out₀)
-    × (sets out to (lineOf (drop i bytes)) ≡ sets out₀ at (lineOf bytes))
+    (to + length (hexLine (drop i bytes)) ≡ at + length (hexLine bytes)) × (length out ≡ length out₀)
+    × (sets out to (hexLine (drop i bytes)) ≡ sets out₀ at (hexLine bytes))
 
 abbrev μ-loop : tie.MeasureT-loop
 μ-loop bytes out₀ at i₀ to₀ out i to = length bytes - i
@@ -49,11 +49,11 @@ loop-again c =
     let bytes = a .bytes .now in
     let put = c .before .before .put-hex in
     let hex = hexOf (getD bytes (l .i) 0) in
-    let rest = lineOf (drop (l .i + 1) bytes) in
-    let n : lineOf (drop (l .i) bytes) ≡ hex ++ rest = line-next bytes (l .i) (c .before .before .before .before .before .loop-test .taken) in (
+    let rest = hexLine (drop (l .i + 1) bytes) in
+    let n : hexLine (drop (l .i) bytes) ≡ hex ++ rest = line-next bytes (l .i) (c .before .before .before .before .before .loop-test .taken) in (
       omega (arith, ap length n, l .inv .0),
       put-length hex (l .out) (put .last .0) (l .to) _ (put .ensures) (l .inv .1),
-      put-next hex rest (lineOf (drop (l .i) bytes)) (l .out) (put .last .0) _ (l .to) (l .to + 2) n refl (put .ensures) (l .inv .2),
+      put-next hex rest (hexLine (drop (l .i) bytes)) (l .out) (put .last .0) _ (l .to) (l .to + 2) n refl (put .ensures) (l .inv .2),
     )
 
 slice-write-out : tie.Need-slice-write-out Inv-loop μ-loop

@@ -14,8 +14,8 @@ same-length c = search needs
 returns : tie.Need-returns
 returns c = stored-short (sheetOf ((c .before .before .before .before .before .before .before .before .args) .table .now) ((c .before .before .before .before .before .before .before .before .args) .glyphs)) ((c .before .before .before .before .before .before .before .before .args) .room .now) ((c .before .before .before .put-sheet) .result) ((c .before .before .before .put-sheet) .ensures .0) ((c .if1) .taken)
 
-put-again-requires : tie.Need-put-again-requires
-put-again-requires c κs = (((c .before .before .before .before .before .before .before .before .before .before .pre), ((c .before .before .before .before .before .put-sheet) .ensures .0, (c .before .before .if1) .left)), drafted (sheetOf ((c .before .before .before .before .before .before .before .before .before .before .args) .table .now) ((c .before .before .before .before .before .before .before .before .before .before .args) .glyphs)) ((c .before .before .before .before .before .before .before .before .before .before .args) .draft .now) ((c .before .before .before .before .before .put-sheet) .last .1 .1 .0) ((c .before .before .before .before .before .put-sheet) .ensures .2))
+put-sized-requires : tie.Need-put-sized-requires
+put-sized-requires c κs = (((c .before .before .before .before .before .before .before .before .before .before .pre), ((c .before .before .before .before .before .put-sheet) .ensures .0, (c .before .before .if1) .left)), drafted (sheetOf ((c .before .before .before .before .before .before .before .before .before .before .args) .table .now) ((c .before .before .before .before .before .before .before .before .before .before .args) .glyphs)) ((c .before .before .before .before .before .before .before .before .before .before .args) .draft .now) ((c .before .before .before .before .before .put-sheet) .last .1 .1 .0) ((c .before .before .before .before .before .put-sheet) .ensures .2))
 
 cast-t16 : tie.Need-cast-t16
 cast-t16 c = search needs
@@ -27,7 +27,7 @@ same-length-3 : tie.Need-same-length-3
 same-length-3 c = search needs
 
 returns-2 : tie.Need-returns-2
-returns-2 c = stored-fits (sheetOf ((c .before .before .before .before .before .before .before .before .before .before .before .before .before .args) .table .now) ((c .before .before .before .before .before .before .before .before .before .before .before .before .before .args) .glyphs)) ((c .before .before .before .before .before .before .before .before .before .before .before .before .before .args) .room .now) ((c .before .before .put-again) .last .1 .1 .1 .1 .0) ((c .before .before .before .before .before .before .before .before .put-sheet) .result) ((c .before .before .before .before .before .before .before .before .put-sheet) .ensures .0) ((c .before .before .before .before .before .if1) .left) ((c .before .before .put-again) .ensures)
+returns-2 c = stored-fits (sheetOf ((c .before .before .before .before .before .before .before .before .before .before .before .before .before .args) .table .now) ((c .before .before .before .before .before .before .before .before .before .before .before .before .before .args) .glyphs)) ((c .before .before .before .before .before .before .before .before .before .before .before .before .before .args) .room .now) ((c .before .before .put-sized) .last .1 .1 .1 .1 .0) ((c .before .before .before .before .before .before .before .before .put-sheet) .result) ((c .before .before .before .before .before .before .before .before .put-sheet) .ensures .0) ((c .before .before .before .before .before .if1) .left) ((c .before .before .put-sized) .ensures)
 
 pub write-by-spec : {M : Type 1} → statement M
 write-by-spec =
@@ -36,7 +36,7 @@ write-by-spec =
     put-sheet-requires
     same-length
     returns
-    put-again-requires
+    put-sized-requires
     cast-t16
     same-length-2
     same-length-3

@@ -14,15 +14,15 @@ spot-in-requires c κs = search needs
 enum-known-at : tie.Need-enum-known-at
 enum-known-at c = search needs
 
-place-of-requires : tie.Need-place-of-requires
-place-of-requires c κs = omega (arith, below-at (c .before .at .given .1) (c .before .before .before .spot-in .ensures .1))
+spot-in-list-requires : tie.Need-spot-in-list-requires
+spot-in-list-requires c κs = omega (arith, below-at (c .before .at .given .1) (c .before .before .before .spot-in .ensures .1))
 
 enum-told : tie.Need-enum-told
 enum-told c = search needs
 
 returns : tie.Need-returns
 unfolding actionSpot
-returns c = (c .place-of .ensures .0 ∙ ap (numbered (now (c .before .before .before .before .before .before .args .table)) (c .before .before .before .before .before .before .args .number)) (sym (c .before .before .at .given .1) ∙ c .before .before .before .before .spot-in .ensures .0), c .place-of .ensures .1)
+returns c = (c .spot-in-list .ensures .0 ∙ ap (numbered (now (c .before .before .before .before .before .before .args .table)) (c .before .before .before .before .before .before .args .number)) (sym (c .before .before .at .given .1) ∙ c .before .before .before .before .spot-in .ensures .0), c .spot-in-list .ensures .1)
 
 returns-2 : tie.Need-returns-2
 unfolding actionSpot
@@ -31,4 +31,4 @@ returns-2 c = (ap (numbered (now (c .before .before .before .before .args .table
 pub action-spot-spec : {M : Type 1} → statement M
 action-spot-spec =
     tie.close
-    (tie.spec spot-in-requires enum-known-at place-of-requires enum-told returns returns-2)
+    (tie.spec spot-in-requires enum-known-at spot-in-list-requires enum-told returns returns-2)

@@ -7,23 +7,23 @@ use borrow.Author.Needs.{needs}
 use Rattle.table_ask.proofs.components.Statement.{statement}
 use Rattle.table_ask.proofs.components.Tie as tie
 
-components-at-requires : tie.Need-components-at-requires
-components-at-requires c κs = search needs
+component-stretch-requires : tie.Need-component-stretch-requires
+component-stretch-requires c κs = search needs
 
 sub-result : tie.Need-sub-result
-sub-result c = let w = subst (Within _) (sym (c .components-at .ensures)) (components-within _ _ _ _ _) in omega arith
+sub-result c = let w = subst (Within _) (sym (c .component-stretch .ensures)) (components-within _ _ _ _ _) in omega arith
 
 part-result-start : tie.Need-part-result-start
-part-result-start c = let w = subst (Within _) (sym (c .components-at .ensures)) (components-within _ _ _ _ _) in omega arith
+part-result-start c = let w = subst (Within _) (sym (c .component-stretch .ensures)) (components-within _ _ _ _ _) in omega arith
 
 part-result-end : tie.Need-part-result-end
-part-result-end c = let w = subst (Within _) (sym (c .components-at .ensures)) (components-within _ _ _ _ _) in omega arith
+part-result-end c = let w = subst (Within _) (sym (c .component-stretch .ensures)) (components-within _ _ _ _ _) in omega arith
 
 returns : tie.Need-returns
 unfolding stretch
-returns c = (rw (c .before .components-at .ensures), rw (c .before .components-at .ensures))
+returns c = (rw (c .before .component-stretch .ensures), rw (c .before .component-stretch .ensures))
 
 pub components-spec : {M : Type 1} → statement M
 components-spec =
     tie.close
-    (tie.spec components-at-requires sub-result part-result-start part-result-end returns)
+    (tie.spec component-stretch-requires sub-result part-result-start part-result-end returns)

@@ -13,11 +13,11 @@ use borrow.Author.Needs.{needs}
 use Rattle.write_cluster.proofs.earlier_pair.Statement.{statement}
 use Rattle.write_cluster.proofs.earlier_pair.Tie as tie
 
-class-at-requires : tie.Need-class-at-requires
-class-at-requires c κs = search needs
+pair-class-requires : tie.Need-pair-class-requires
+pair-class-requires c κs = search needs
 
-class-at-requires-2 : tie.Need-class-at-requires-2
-class-at-requires-2 c κs = search needs
+pair-class-requires-2 : tie.Need-pair-class-requires-2
+pair-class-requires-2 c κs = search needs
 
 returns : tie.Need-returns
 returns c =
@@ -25,8 +25,8 @@ returns c =
     let t = a .table .now in
     let x = partsAt t (a .a) in
     let y = partsAt t (a .b) in
-    let k = c .before .before .class-at in
-    let l = c .before .class-at2 in
+    let k = c .before .before .pair-class in
+    let l = c .before .pair-class2 in
     told-of pairWords (ltb (k .result) (l .result)) (sym (pair-parts t (a .a))) (sym (pair-parts t (a .b)))
     (number-tells (k .ensures .0) (l .ensures .0) (limitsWords (x .before) ++ afterWords x) (limitsWords (y .before) ++ afterWords y) (c .if1 .taken))
 
@@ -56,8 +56,8 @@ returns-2 c =
     let y = partsAt t (a .b) in
     let l = c .before .before .before .before .limits-at in
     let m = c .before .before .before .limits-at2 in
-    let k = c .before .before .before .before .before .before .before .class-at in
-    let k2 = c .before .before .before .before .before .before .class-at2 in
+    let k = c .before .before .before .before .before .before .before .pair-class in
+    let k2 = c .before .before .before .before .before .before .pair-class2 in
     let e = subst (λ (b : Bool). Says b (l .result ≡ m .result)) (c .before .if2 .taken) (c .before .before .same-limits .ensures) in
     told-of pairWords (c .earlier-after .result) (sym (pair-parts t (a .a))) (sym (pair-parts t (a .b)))
     (number-skipped (k .ensures .0) (k2 .ensures .0) (limitsWords (x .before) ++ afterWords x) (limitsWords (y .before) ++ afterWords y) (c .earlier-after .result) (c .before .before .before .before .before .if1 .left)
@@ -75,8 +75,8 @@ returns-3 c =
     let y = partsAt t (a .b) in
     let l = c .before .before .before .before .limits-at in
     let m = c .before .before .before .limits-at2 in
-    let k = c .before .before .before .before .before .before .before .class-at in
-    let k2 = c .before .before .before .before .before .before .class-at2 in
+    let k = c .before .before .before .before .before .before .before .pair-class in
+    let k2 = c .before .before .before .before .before .before .pair-class2 in
     let e = subst (λ (b : Bool). Says b (l .result ≡ m .result)) (c .before .if2 .left) (c .before .before .same-limits .ensures) in
     told-of pairWords (c .earlier-limits .result) (sym (pair-parts t (a .a))) (sym (pair-parts t (a .b)))
     (number-skipped (k .ensures .0) (k2 .ensures .0) (limitsWords (x .before) ++ afterWords x) (limitsWords (y .before) ++ afterWords y) (c .earlier-limits .result) (c .before .before .before .before .before .if1 .left)
@@ -86,8 +86,8 @@ pub earlier-pair-spec : {M : Type 1} → statement M
 earlier-pair-spec =
     tie.close
     (tie.spec
-    class-at-requires
-    class-at-requires-2
+    pair-class-requires
+    pair-class-requires-2
     returns
     add-limits-at
     limits-at-requires

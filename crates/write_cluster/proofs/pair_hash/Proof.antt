@@ -9,7 +9,7 @@ use Rattle.write_cluster.proofs.pair_hash.Statement.{statement}
 use Rattle.write_cluster.proofs.pair_hash.Tie as tie
 use Rattle.write_cluster.proofs.pair_hash.Reads as reads
 use Rattle.write_cluster.proofs.pair_hash.Lts as lts
-use Rattle.cluster.proofs.class_at.Reads as class-at-reads
+use Rattle.cluster.proofs.pair_class.Reads as class-at-reads
 use Rattle.write_cluster.proofs.flags_at.Reads as flags-at-reads
 use Rattle.write_cluster.proofs.limits_at.Reads as limits-at-reads
 use Rattle.write_cluster.proofs.limits_hash.Reads as limits-hash-reads
@@ -75,8 +75,8 @@ add-bits : tie.Need-add-bits
 add-bits c = search needs
 
 -- src/lib.rt:133:11
-class-at-requires : tie.Need-class-at-requires
-class-at-requires c κs = search needs
+pair-class-requires : tie.Need-pair-class-requires
+pair-class-requires c κs = search needs
 
 -- src/lib.rt:133:11
 cast-result : tie.Need-cast-result
@@ -102,7 +102,7 @@ returns c =
     let after = c .before .before .before .before .limits-hash2 .ensures .0 ∙ ap limitsHash (c .before .before .before .before .before .limits-at2 .ensures) in
     let grow = ap (λ (f : Flags). f .grow) (c .before .before .before .flags-at .ensures) in
     let shrink = ap (λ (f : Flags). f .shrink) (c .before .before .before .flags-at .ensures) in
-    (omega (arith, c .class-at .ensures .0, before, after, grow, shrink, ap pairHash (pair-parts (a .table .now) (a .at))), omega arith)
+    (omega (arith, c .pair-class .ensures .0, before, after, grow, shrink, ap pairHash (pair-parts (a .table .now) (a .at))), omega arith)
 
 pub pair-hash-spec : {M : Type 1} → statement M
 pair-hash-spec =
@@ -123,7 +123,7 @@ pair-hash-spec =
     cast-bits-2
     mul-bits-2
     add-bits
-    class-at-requires
+    pair-class-requires
     cast-result
     mul-result
     add-result

@@ -14,7 +14,7 @@ use Rattle.write_cluster.proofs.put_pair.Statement.{statement}
 use Rattle.write_cluster.proofs.put_pair.Tie as tie
 use Rattle.write_cluster.proofs.put_pair.Reads as reads
 use Rattle.write_cluster.proofs.put_pair.Lts as lts
-use Rattle.cluster.proofs.class_at.Reads as class-at-reads
+use Rattle.cluster.proofs.pair_class.Reads as class-at-reads
 use Rattle.write_cluster.proofs.flags_at.Reads as flags-at-reads
 use Rattle.write_cluster.proofs.limits_at.Reads as limits-at-reads
 use Rattle.write_cluster.proofs.put_flags.Reads as put-flags-reads
@@ -22,8 +22,8 @@ use Rattle.write_cluster.proofs.put_limits.Reads as put-limits-reads
 use Rattle.fields.proofs.put_u32.Reads as put-u32-reads
 
 -- src/lib.rt:179:30
-class-at-requires : tie.Need-class-at-requires
-class-at-requires c κs = search needs
+pair-class-requires : tie.Need-pair-class-requires
+pair-class-requires c κs = search needs
 
 -- src/lib.rt:179:5
 put-u32-requires : tie.Need-put-u32-requires
@@ -86,7 +86,7 @@ returns : tie.Need-returns
 returns c =
     let a = c .before .before .before .before .before .before .before .before .before .before .before .before .before .before .before .before .before .before .before .before .before .before .args in
     let t = a .table .now in
-    let p : Pair = record { class = c .before .before .before .before .before .before .before .before .before .before .before .before .before .before .before .before .before .before .class-at .result; before = c .before .before .before .before .before .before .before .before .before .before .before .before .before .limits-at .result; after = c .before .before .before .before .before .before .before .before .limits-at2 .result; flags = c .before .before .before .flags-at .result } in
+    let p : Pair = record { class = c .before .before .before .before .before .before .before .before .before .before .before .before .before .before .before .before .before .before .pair-class .result; before = c .before .before .before .before .before .before .before .before .before .before .before .before .before .limits-at .result; after = c .before .before .before .before .before .before .before .before .limits-at2 .result; flags = c .before .before .before .flags-at .result } in
     let before = be32 (p .before .grow) ++ be32 (p .before .shrink) in
     let after = be32 (p .after .grow) ++ be32 (p .after .shrink) in
     let flags = be16 (p .flags .grow) ++ be16 (p .flags .shrink) in
@@ -94,7 +94,7 @@ returns c =
     let second = c .before .before .before .before .before .before .before .before .before .before .before .before .put-limits .last .0 in
     let third = c .before .before .before .before .before .before .before .put-limits2 .last .0 in
     let end = c .before .before .put-flags .last .0 in
-    let e : p ≡ partsAt t (a .at) = λ i. record { class = c .before .before .before .before .before .before .before .before .before .before .before .before .before .before .before .before .before .before .class-at .ensures .0 i; before = c .before .before .before .before .before .before .before .before .before .before .before .before .before .limits-at .ensures i; after = c .before .before .before .before .before .before .before .before .limits-at2 .ensures i; flags = c .before .before .before .flags-at .ensures i } in
+    let e : p ≡ partsAt t (a .at) = λ i. record { class = c .before .before .before .before .before .before .before .before .before .before .before .before .before .before .before .before .before .before .pair-class .ensures .0 i; before = c .before .before .before .before .before .before .before .before .before .before .before .before .before .limits-at .ensures i; after = c .before .before .before .before .before .before .before .before .limits-at2 .ensures i; flags = c .before .before .before .flags-at .ensures i } in
     put-two (be32 (p .class)) (before ++ (after ++ flags)) (a .out .now) first end (a .to) (a .to + 4) refl (c .before .before .before .before .before .before .before .before .before .before .before .before .before .before .before .before .before .put-u32 .ensures)
     (put-two before (after ++ flags) first second end (a .to + 4) (a .to + 12) (omega arith) (c .before .before .before .before .before .before .before .before .before .before .before .before .put-limits .ensures)
     (put-two after flags second third end (a .to + 12) (a .to + 20) (omega arith) (c .before .before .before .before .before .before .before .put-limits2 .ensures) (c .before .before .put-flags .ensures)))
@@ -104,7 +104,7 @@ pub put-pair-spec : {M : Type 1} → statement M
 put-pair-spec =
     tie.close
     (tie.spec
-    class-at-requires
+    pair-class-requires
     put-u32-requires
     add-put-limits
     add-limits-at

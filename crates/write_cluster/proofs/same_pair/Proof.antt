@@ -6,24 +6,24 @@ use Rattle.write_cluster.proofs.same_pair.Statement.{statement}
 use Rattle.write_cluster.proofs.same_pair.Tie as tie
 use Rattle.write_cluster.proofs.same_pair.Reads as reads
 use Rattle.write_cluster.proofs.same_pair.Lts as lts
-use Rattle.cluster.proofs.class_at.Reads as class-at-reads
+use Rattle.cluster.proofs.pair_class.Reads as class-at-reads
 use Rattle.cluster.proofs.fixed_at.Reads as fixed-at-reads
 use Rattle.cluster.proofs.kept_at.Reads as kept-at-reads
 use Rattle.cluster.proofs.size_at.Reads as size-at-reads
 
 -- src/lib.rt:61:8
-class-at-requires : tie.Need-class-at-requires
-class-at-requires c κs = search needs
+pair-class-requires : tie.Need-pair-class-requires
+pair-class-requires c κs = search needs
 
 -- src/lib.rt:61:39
-class-at-requires-2 : tie.Need-class-at-requires-2
-class-at-requires-2 c κs = search needs
+pair-class-requires-2 : tie.Need-pair-class-requires-2
+pair-class-requires-2 c κs = search needs
 
 -- src/lib.rt:62:9
 returns : tie.Need-returns
 returns c =
     let a = c .before .before .before .before .before .args in
-    λ e. c .if1 .taken (c .before .before .class-at .ensures .0 ∙ fields-of-same (a .one .now) (a .other .now) (a .a) (a .b) e .0 ∙ sym (c .before .class-at2 .ensures .0))
+    λ e. c .if1 .taken (c .before .before .pair-class .ensures .0 ∙ fields-of-same (a .one .now) (a .other .now) (a .a) (a .b) e .0 ∙ sym (c .before .pair-class2 .ensures .0))
 
 -- src/lib.rt:64:33
 add-fixed-at : tie.Need-add-fixed-at
@@ -162,7 +162,7 @@ returns-8 : tie.Need-returns-8
 returns-8 c =
     let a = c .before .before .before .before .before .before .before .before .before .before .before .before .before .before .before .before .before .before .before .before .before .before .before .args in
     same-of-fields (a .one .now) (a .other .now) (a .a) (a .b) (
-      sym (c .before .before .before .before .before .before .before .before .before .before .before .before .before .before .before .before .before .before .before .before .class-at .ensures .0) ∙ c .before .before .before .before .before .before .before .before .before .before .before .before .before .before .before .before .before .before .if1 .left ∙ c .before .before .before .before .before .before .before .before .before .before .before .before .before .before .before .before .before .before .before .class-at2 .ensures .0,
+      sym (c .before .before .before .before .before .before .before .before .before .before .before .before .before .before .before .before .before .before .before .before .pair-class .ensures .0) ∙ c .before .before .before .before .before .before .before .before .before .before .before .before .before .before .before .before .before .before .if1 .left ∙ c .before .before .before .before .before .before .before .before .before .before .before .before .before .before .before .before .before .before .before .pair-class2 .ensures .0,
       sym (c .before .before .before .before .before .before .before .before .before .before .before .before .before .before .before .before .before .fixed-at .ensures) ∙ c .before .before .before .before .before .before .before .before .before .before .before .before .before .before .before .if2 .left ∙ c .before .before .before .before .before .before .before .before .before .before .before .before .before .before .before .before .fixed-at2 .ensures,
       sym (c .before .before .before .before .before .before .before .before .before .before .before .before .before .before .size-at .ensures) ∙ c .before .before .before .before .before .before .before .before .before .before .before .before .if3 .left ∙ c .before .before .before .before .before .before .before .before .before .before .before .before .before .size-at2 .ensures,
       sym (c .before .before .before .before .before .before .before .before .before .before .before .fixed-at3 .ensures) ∙ c .before .before .before .before .before .before .before .before .before .if4 .left ∙ c .before .before .before .before .before .before .before .before .before .before .fixed-at4 .ensures,
@@ -175,8 +175,8 @@ pub same-pair-spec : {M : Type 1} → statement M
 same-pair-spec =
     tie.close
     (tie.spec
-    class-at-requires
-    class-at-requires-2
+    pair-class-requires
+    pair-class-requires-2
     returns
     add-fixed-at
     fixed-at-requires

@@ -24,8 +24,8 @@ Inv-loop table here count firsts₀ sheet₀ array k₀ i₀ firsts sheet k i =
 abbrev μ-loop : tie.MeasureT-loop
 μ-loop table here count firsts₀ sheet₀ array k₀ i₀ firsts sheet k i = count - i
 
-fill-requires : tie.Need-fill-requires Inv-loop μ-loop
-fill-requires c κs = search needs
+set-each-requires : tie.Need-set-each-requires Inv-loop μ-loop
+set-each-requires c κs = search needs
 
 state-array-requires : tie.Need-state-array-requires Inv-loop μ-loop
 state-array-requires c κs = search needs
@@ -37,8 +37,8 @@ loop-holds c =
       omega arith,
       omega arith,
       p .0,
-      omega (arith, p .1, (c .before .before .before .fill .kept)),
-      record { left = refl; known = (λ q u. absurd (u (ap (λ (s : List ℕ). getD s q 0) (c .before .before .before .fill .ensures) ∙ getD-zeros (length (c .before .before .before .before .before .before .before .before .args .sheet .now)) q))); passed = (λ j h z. omega arith); room = omega arith },
+      omega (arith, p .1, (c .before .before .before .set-each .kept)),
+      record { left = refl; known = (λ q u. absurd (u (ap (λ (s : List ℕ). getD s q 0) (c .before .before .before .set-each .ensures) ∙ getD-zeros (length (c .before .before .before .before .before .before .before .before .args .sheet .now)) q))); passed = (λ j h z. omega arith); room = omega arith },
     )
 
 add-u8-at : tie.Need-add-u8-at Inv-loop μ-loop
@@ -47,30 +47,30 @@ add-u8-at c = omega (arith, (c .before .before .before .before .before .before .
 u8-at-requires : tie.Need-u8-at-requires Inv-loop μ-loop
 u8-at-requires c κs = search needs
 
-slice-reshare-prefix-number-of : tie.Need-slice-reshare-prefix-number-of Inv-loop μ-loop
-slice-reshare-prefix-number-of c = omega arith
+slice-reshare-prefix-entry-number : tie.Need-slice-reshare-prefix-entry-number Inv-loop μ-loop
+slice-reshare-prefix-entry-number c = omega arith
 
-slice-aggregate-number-of : tie.Need-slice-aggregate-number-of Inv-loop μ-loop
-slice-aggregate-number-of c = sym (length-take-le ((c .before .before .before .loop .k)) ((c .before .before .before .loop .firsts)) (omega arith))
+slice-aggregate-entry-number : tie.Need-slice-aggregate-entry-number Inv-loop μ-loop
+slice-aggregate-entry-number c = sym (length-take-le ((c .before .before .before .loop .k)) ((c .before .before .before .loop .firsts)) (omega arith))
 
-mul-number-of : tie.Need-mul-number-of Inv-loop μ-loop
-mul-number-of c = omega (arith, (c .before .u8-at .ensures .1))
+mul-entry-number : tie.Need-mul-entry-number Inv-loop μ-loop
+mul-entry-number c = omega (arith, (c .before .u8-at .ensures .1))
 
-slice-read-number-of : tie.Need-slice-read-number-of Inv-loop μ-loop
-slice-read-number-of c = omega (arith, (c .before .before .u8-at .ensures .1), (c .before .before .before .before .loop .inv .3))
+slice-read-entry-number : tie.Need-slice-read-entry-number Inv-loop μ-loop
+slice-read-entry-number c = omega (arith, (c .before .before .u8-at .ensures .1), (c .before .before .before .before .loop .inv .3))
 
-number-of-requires : tie.Need-number-of-requires Inv-loop μ-loop
-number-of-requires c κs = (((c .before .before .before .before .before .before .before .before .before .before .before .before .before .pre .0 .0), ((c .before .before .u8-at .ensures .1), (c .before .before .before .before .before .before .before .before .before .before .before .before .before .pre .0 .1 .1))), (λ u. (c .before .before .before .before .loop .inv .4 .known) _ u .0))
+entry-number-requires : tie.Need-entry-number-requires Inv-loop μ-loop
+entry-number-requires c κs = (((c .before .before .before .before .before .before .before .before .before .before .before .before .before .pre .0 .0), ((c .before .before .u8-at .ensures .1), (c .before .before .before .before .before .before .before .before .before .before .before .before .before .pre .0 .1 .1))), (λ u. (c .before .before .before .before .loop .inv .4 .known) _ u .0))
 
 add-sheet : tie.Need-add-sheet Inv-loop μ-loop
 add-sheet c =
     let f = entryAt (c .before .before .before .before .before .before .before .before .before .before .before .before .before .before .args .table .now) (c .before .before .before .before .before .before .before .before .before .before .before .before .before .before .args .here) in
-    omega (arith, (c .number-of .ensures), (c .before .before .before .before .before .loop .inv .1), index-le Entry-discrete (f (c .before .before .before .u8-at .result)) (map f (take ((c .before .before .before .before .before .loop .k)) ((c .before .before .before .before .before .loop .firsts)))), map-length f (take ((c .before .before .before .before .before .loop .k)) ((c .before .before .before .before .before .loop .firsts))), length-take-le ((c .before .before .before .before .before .loop .k)) ((c .before .before .before .before .before .loop .firsts)) (omega arith))
+    omega (arith, (c .entry-number .ensures), (c .before .before .before .before .before .loop .inv .1), index-le Entry-discrete (f (c .before .before .before .u8-at .result)) (map f (take ((c .before .before .before .before .before .loop .k)) ((c .before .before .before .before .before .loop .firsts)))), map-length f (take ((c .before .before .before .before .before .loop .k)) ((c .before .before .before .before .before .loop .firsts))), length-take-le ((c .before .before .before .before .before .loop .k)) ((c .before .before .before .before .before .loop .firsts)) (omega arith))
 
 cast-sheet : tie.Need-cast-sheet Inv-loop μ-loop
 cast-sheet c =
     let f = entryAt (c .before .before .before .before .before .before .before .before .before .before .before .before .before .before .args .table .now) (c .before .before .before .before .before .before .before .before .before .before .before .before .before .before .args .here) in
-    omega (arith, (c .number-of .ensures), (c .before .before .before .before .before .loop .inv .1), index-le Entry-discrete (f (c .before .before .before .u8-at .result)) (map f (take ((c .before .before .before .before .before .loop .k)) ((c .before .before .before .before .before .loop .firsts)))), map-length f (take ((c .before .before .before .before .before .loop .k)) ((c .before .before .before .before .before .loop .firsts))), length-take-le ((c .before .before .before .before .before .loop .k)) ((c .before .before .before .before .before .loop .firsts)) (omega arith))
+    omega (arith, (c .entry-number .ensures), (c .before .before .before .before .before .loop .inv .1), index-le Entry-discrete (f (c .before .before .before .u8-at .result)) (map f (take ((c .before .before .before .before .before .loop .k)) ((c .before .before .before .before .before .loop .firsts)))), map-length f (take ((c .before .before .before .before .before .loop .k)) ((c .before .before .before .before .before .loop .firsts))), length-take-le ((c .before .before .before .before .before .loop .k)) ((c .before .before .before .before .before .loop .firsts)) (omega arith))
 
 mul-sheet : tie.Need-mul-sheet Inv-loop μ-loop
 mul-sheet c = omega (arith, (c .before .before .before .u8-at .ensures .1))
@@ -90,7 +90,7 @@ loop-again c =
     let l = (c .before .before .before .before .before .before .loop) in
     let t = a .table .now in
     let q = (c .before .before .before .before .u8-at .result) in
-    let n = (c .before .number-of .result) in
+    let n = (c .before .entry-number .result) in
     let hi : l .i < length (storedAt t (a .here) (a .count)) = omega (arith, stored-length t (a .here) (a .count)) in
     let ep = stored-is t (a .here) (a .count) _ (l .i) q (c .before .before .before .before .before .before .before .state-array .ensures .0) (omega arith) (c .before .before .before .before .u8-at .ensures .0) in (
       omega arith,
@@ -98,7 +98,7 @@ loop-again c =
       l .inv .2,
       length-set (l .sheet) q (n + 1) ∙ l .inv .3,
       turn-old Entry-discrete (entryAt t (a .here)) (storedAt t (a .here) (a .count)) _ (l .firsts) (l .sheet) (l .k) (l .i) n q
-          hi (omega (arith, (c .before .before .before .before .u8-at .ensures .1), l .inv .3)) ep (omega arith) (c .before .number-of .ensures) (l .inv .4) (omega arith),
+          hi (omega (arith, (c .before .before .before .before .u8-at .ensures .1), l .inv .3)) ep (omega arith) (c .before .entry-number .ensures) (l .inv .4) (omega arith),
     )
 
 cast-firsts : tie.Need-cast-firsts Inv-loop μ-loop
@@ -110,13 +110,13 @@ slice-write-firsts c =
     let l = (c .before .before .before .before .before .before .loop) in
     let t = a .table .now in
     let q = (c .before .before .before .before .u8-at .result) in
-    let n = (c .before .number-of .result) in
+    let n = (c .before .entry-number .result) in
     let hi : l .i < length (storedAt t (a .here) (a .count)) = omega (arith, stored-length t (a .here) (a .count)) in
     let ep = stored-is t (a .here) (a .count) _ (l .i) q (c .before .before .before .before .before .before .before .state-array .ensures .0) (omega arith) (c .before .before .before .before .u8-at .ensures .0) in
     omega (
       arith,
       space Entry-discrete (entryAt t (a .here)) (storedAt t (a .here) (a .count)) _ (l .firsts) (l .sheet) (l .k) (l .i) n q
-          hi (omega (arith, (c .before .before .before .before .u8-at .ensures .1), l .inv .3)) ep (omega arith) (c .before .number-of .ensures) (l .inv .4) (omega arith),
+          hi (omega (arith, (c .before .before .before .before .u8-at .ensures .1), l .inv .3)) ep (omega arith) (c .before .entry-number .ensures) (l .inv .4) (omega arith),
     )
 
 add-k : tie.Need-add-k Inv-loop μ-loop
@@ -134,18 +134,18 @@ loop-again-2 c =
     let l = (c .before .before .before .before .before .before .loop) in
     let t = a .table .now in
     let q = (c .before .before .before .before .u8-at .result) in
-    let n = (c .before .number-of .result) in
+    let n = (c .before .entry-number .result) in
     let hi : l .i < length (storedAt t (a .here) (a .count)) = omega (arith, stored-length t (a .here) (a .count)) in
     let hp : q < length (l .sheet) = omega (arith, (c .before .before .before .before .u8-at .ensures .1), l .inv .3) in
     let ep = stored-is t (a .here) (a .count) _ (l .i) q (c .before .before .before .before .before .before .before .state-array .ensures .0) (omega arith) (c .before .before .before .before .u8-at .ensures .0) in
     let room = space Entry-discrete (entryAt t (a .here)) (storedAt t (a .here) (a .count)) _ (l .firsts) (l .sheet) (l .k) (l .i) n q
-    hi hp ep (omega arith) (c .before .number-of .ensures) (l .inv .4) (omega arith) in (
+    hi hp ep (omega arith) (c .before .entry-number .ensures) (l .inv .4) (omega arith) in (
       omega arith,
       omega (arith, room),
       length-set (l .firsts) (l .k) q ∙ l .inv .2,
       length-set (l .sheet) q (n + 1) ∙ l .inv .3,
       turn-new Entry-discrete (entryAt t (a .here)) (storedAt t (a .here) (a .count)) _ (l .firsts) (l .sheet) (l .k) (l .i) n q
-          hi hp ep (omega arith) (c .before .number-of .ensures) (l .inv .4) (omega (arith, room)) (omega arith),
+          hi hp ep (omega arith) (c .before .entry-number .ensures) (l .inv .4) (omega (arith, room)) (omega arith),
     )
 
 same-length : tie.Need-same-length Inv-loop μ-loop
@@ -176,16 +176,16 @@ number-entries-spec =
     (tie.spec
     Inv-loop
     μ-loop
-    fill-requires
+    set-each-requires
     state-array-requires
     loop-holds
     add-u8-at
     u8-at-requires
-    slice-reshare-prefix-number-of
-    slice-aggregate-number-of
-    mul-number-of
-    slice-read-number-of
-    number-of-requires
+    slice-reshare-prefix-entry-number
+    slice-aggregate-entry-number
+    mul-entry-number
+    slice-read-entry-number
+    entry-number-requires
     add-sheet
     cast-sheet
     mul-sheet

@@ -1,7 +1,7 @@
 -- `write_entries::put_entries` meets its contract.
 use Rattle.write_entries.proofs.Laws.{entries-next, entries-none}
 use borrow.Author.Needs.{needs}
-use Rattle.write_entries.specs.Entries.{entriesOf}
+use Rattle.write_entries.specs.Entries.{storedEntries}
 use Rattle.meaning.specs.Sheet.{entryCode}
 use Rattle.encoding.specs.Codes.{many}
 use Rattle.fields.specs.Stores.{put-next}
@@ -16,7 +16,7 @@ use Rattle.write_entries.proofs.put_entries.Tie as tie
 abbrev Inv-loop : tie.InvT-loop
 Inv-loop table here firsts out₀ to i₀ at₀ out i at =
     (i ≤ length firsts) × (at ≡ to + 4 * i) × (length out ≡ length out₀)
-    × (sets out at (many entryCode (entriesOf table here (drop i firsts))) ≡ sets out₀ to (many entryCode (entriesOf table here firsts)))
+    × (sets out at (many entryCode (storedEntries table here (drop i firsts))) ≡ sets out₀ to (many entryCode (storedEntries table here firsts)))
 
 abbrev μ-loop : tie.MeasureT-loop
 μ-loop table here firsts out₀ to i₀ at₀ out i at = length firsts - i
@@ -54,7 +54,7 @@ loop-again c =
       omega arith,
       omega arith,
       omega arith,
-      put-next (entryCode (c .before .before .before .before .entry-at .result)) (many entryCode (entriesOf t (a .here) (drop (l .i + 1) fs))) (many entryCode (entriesOf t (a .here) (drop (l .i) fs))) (l .out) (c .before .before .put-entry .last .0) _ (l .at) (l .at + 4)
+      put-next (entryCode (c .before .before .before .before .entry-at .result)) (many entryCode (storedEntries t (a .here) (drop (l .i + 1) fs))) (many entryCode (storedEntries t (a .here) (drop (l .i) fs))) (l .out) (c .before .before .put-entry .last .0) _ (l .at) (l .at + 4)
           (entries-next t (a .here) fs (l .i) (c .before .before .before .before .entry-at .result) (omega arith) (c .before .before .before .before .entry-at .ensures)) refl (c .before .before .put-entry .ensures) (l .inv .3),
     )
 

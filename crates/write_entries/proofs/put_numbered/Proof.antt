@@ -1,6 +1,6 @@
 -- `write_entries::put_numbered` meets its contract.
 use Rattle.write_entries.proofs.Laws.{entries-bytes, covers, numbered-parts, numbered-length}
-use Rattle.write_entries.specs.Entries.{storedAt, entriesOf, cellBytes}
+use Rattle.write_entries.specs.Entries.{storedAt, storedEntries, cellBytes}
 use Rattle.meaning.specs.Sheet.{entryCode}
 use Rattle.encoding.specs.Codes.{many}
 use Rattle.fields.specs.Stores.{put-two}
@@ -69,7 +69,7 @@ returns c =
     let l4 = (c .before .before .put-cells .last .1 .1 .1 .1 .0) in
     let k = length (a .firsts .now) in
     let n = a .count in
-    let es = many entryCode (entriesOf (a .table .now) (a .here) (a .firsts .now)) in
+    let es = many entryCode (storedEntries (a .table .now) (a .here) (a .firsts .now)) in
     let cs = cellBytes (a .sheet .now) (storedAt (a .table .now) (a .here) n) in
     let q = a .to + 4 + 4 * k in
     let w = (c .before .before .before .before .before .before .before .before .before .before .before .before .before .before .before .before .before .before .before .before .pre .1 .1) in (

@@ -60,8 +60,8 @@ returns c =
 run-place-requires : tie.Need-run-place-requires Inv-loop μ-loop
 run-place-requires c κs = ((c .before .before .before .before .before .before .before .before .before .before .before .before .before .before .before .pre) .0 .1 .0, (omega (arith, (c .before .before .before .before .before .before .before .before .before .before .before .before .before .before .before .pre) .0 .1 .1 .0, (c .before .loop-test) .taken, (c .before .before .before .lower) .ensures), (c .before .before .before .before .before .next-run) .ensures .1 .near))
 
-number-of-requires : tie.Need-number-of-requires Inv-loop μ-loop
-number-of-requires c κs =
+item-number-requires : tie.Need-item-number-requires Inv-loop μ-loop
+item-number-requires c κs =
     let a = (c .before .before .before .before .before .before .before .before .before .before .before .before .before .before .before .before .before .before .before .before .args) in
     let l = (c .before .before .before .before .before .before .before .loop) in
     let s = l .inv .0 in
@@ -73,12 +73,12 @@ cast-stretch-end c =
     let a = (c .before .before .before .before .before .before .before .before .before .before .before .before .before .before .before .before .before .before .before .before .before .before .before .before .before .before .before .before .before .before .before .args) in
     let l = (c .before .before .before .before .before .before .before .before .before .before .before .before .before .before .before .before .before .before .loop) in
     let s = l .inv .0 in
-    omega (arith, (c .before .before .before .before .before .before .before .before .before .before .number-of) .ensures .2, stands-few (a .kind) (a .table .now) (glyphItem (a .kind) (a .table .now) (a .glyphs) (a .at) (a .base)) (a .glyphs) (l .ends) (l .nums) (l .firsts) (l .others) (l .slots) (l .seen) (l .stretches) (l .items) (l .glyph) s, (c .before .before .before .before .before .before .before .before .before .before .before .before .before .before .before .before .before .before .before .before .before .before .before .before .before .before .before .before .before .before .before .pre) .0 .1 .1 .0, (c .before .before .before .before .before .before .before .before .before .before .before .before .before .before .before .before .before .loop-test) .taken, (c .before .before .before .before .before .before .before .before .before .before .before .before .before .before .before .before .before .before .before .lower) .ensures)
+    omega (arith, (c .before .before .before .before .before .before .before .before .before .before .item-number) .ensures .2, stands-few (a .kind) (a .table .now) (glyphItem (a .kind) (a .table .now) (a .glyphs) (a .at) (a .base)) (a .glyphs) (l .ends) (l .nums) (l .firsts) (l .others) (l .slots) (l .seen) (l .stretches) (l .items) (l .glyph) s, (c .before .before .before .before .before .before .before .before .before .before .before .before .before .before .before .before .before .before .before .before .before .before .before .before .before .before .before .before .before .before .before .pre) .0 .1 .1 .0, (c .before .before .before .before .before .before .before .before .before .before .before .before .before .before .before .before .before .loop-test) .taken, (c .before .before .before .before .before .before .before .before .before .before .before .before .before .before .before .before .before .before .before .lower) .ensures)
 
 stretch-end-requires : tie.Need-stretch-end-requires Inv-loop μ-loop
 stretch-end-requires c κs =
     let a = (c .before .before .before .before .before .before .before .before .before .before .before .before .before .before .before .before .before .before .before .before .before .before .before .before .before .before .before .before .before .before .before .args) in
-    let nb = (c .before .before .before .before .before .before .before .before .before .before .number-of) in
+    let nb = (c .before .before .before .before .before .before .before .before .before .before .item-number) in
     let l = (c .before .before .before .before .before .before .before .before .before .before .before .before .before .before .before .before .before .before .loop) in
     let notes = seen-agree (a .kind) (a .table .now) (nb .last .1 .1 .0) (nb .last .1 .1 .1 .1 .1 .0) _ (omega (arith, nb .ensures .2, nb .kept, l .inv .0 .few, (c .before .before .before .before .before .before .before .before .before .before .before .before .before .before .before .before .before .before .before .before .before .before .before .before .before .before .before .before .before .before .before .pre) .1 .0 .1 .distinct, l .inv .3, l .inv .5, (c .before .before .before .before .before .before .before .before .before .before .before .before .before .before .before .before .if1) .left)) (nb .ensures .1) in
     (((c .before .before .before .before .before .before .before .before .before .before .before .before .before .before .before .before .before .before .before .before .before .before .before .before .before .before .before .before .before .before .before .pre) .0 .1 .0, (omega (arith, (c .before .before .before .before .before .before .before .before .before .before .before .before .before .before .before .before .before .before .before .before .before .before .before .before .before .before .before .before .before .before .before .pre) .0 .1 .1 .0, (c .before .before .before .before .before .before .before .before .before .before .before .before .before .before .before .before .before .before .before .lower) .ensures), ((c .before .before .before .before .before .before .before .before .before .before .before .before .before .before .before .before .before .before .before .before .before .next-run) .ensures .1 .near, (c .before .before .before .before .before .before .before .before .before .before .before .before .before .before .before .before .before .loop-test) .taken))), (notes, l .inv .11))
@@ -91,7 +91,7 @@ cast-extend-2 c =
     let a = (c .before .before .before .before .before .before .before .before .before .before .before .before .before .before .before .before .before .before .before .before .before .before .before .before .before .before .before .before .before .before .before .before .before .before .before .before .args) in
     let l = (c .before .before .before .before .before .before .before .before .before .before .before .before .before .before .before .before .before .before .before .before .before .before .before .loop) in
     let s = l .inv .0 in
-    omega (arith, (c .before .before .before .before .before .before .before .before .before .before .before .before .before .before .before .number-of) .ensures .2, stands-few (a .kind) (a .table .now) (glyphItem (a .kind) (a .table .now) (a .glyphs) (a .at) (a .base)) (a .glyphs) (l .ends) (l .nums) (l .firsts) (l .others) (l .slots) (l .seen) (l .stretches) (l .items) (l .glyph) s, (c .before .before .before .before .before .before .before .before .before .before .before .before .before .before .before .before .before .before .before .before .before .before .before .before .before .before .before .before .before .before .before .before .before .before .before .before .pre) .0 .1 .1 .0, (c .before .before .before .before .before .before .before .before .before .before .before .before .before .before .before .before .before .before .before .before .before .before .loop-test) .taken, (c .before .before .before .before .before .before .before .before .before .before .before .before .before .before .before .before .before .before .before .before .before .before .before .before .lower) .ensures)
+    omega (arith, (c .before .before .before .before .before .before .before .before .before .before .before .before .before .before .before .item-number) .ensures .2, stands-few (a .kind) (a .table .now) (glyphItem (a .kind) (a .table .now) (a .glyphs) (a .at) (a .base)) (a .glyphs) (l .ends) (l .nums) (l .firsts) (l .others) (l .slots) (l .seen) (l .stretches) (l .items) (l .glyph) s, (c .before .before .before .before .before .before .before .before .before .before .before .before .before .before .before .before .before .before .before .before .before .before .before .before .before .before .before .before .before .before .before .before .before .before .before .before .pre) .0 .1 .1 .0, (c .before .before .before .before .before .before .before .before .before .before .before .before .before .before .before .before .before .before .before .before .before .before .loop-test) .taken, (c .before .before .before .before .before .before .before .before .before .before .before .before .before .before .before .before .before .before .before .before .before .before .before .before .lower) .ensures)
 
 extend-requires : tie.Need-extend-requires Inv-loop μ-loop
 extend-requires c κs = ((c .before .before .before .before .before .before .before .before .before .before .before .before .before .before .before .before .before .before .before .before .before .if1) .left, omega (arith, (c .before .before .before .before .before .before .before .before .before .before .before .before .before .before .before .before .before .before .before .before .before .before .before .before .before .before .before .before .before .before .before .before .before .before .before .before .pre) .1 .0 .1 .each, (c .before .before .before .before .before .before .before .before .before .before .before .before .before .before .before .before .before .before .before .before .before .before .before .loop) .inv .3, (c .before .before .before .before .before .before .before .before .before .before .before .before .before .before .before .before .before .before .before .before .before .before .before .loop) .inv .4))
@@ -110,7 +110,7 @@ loop-again c =
     let s = l .inv .0 in
     let o = (c .before .before .before .before .before .before .before .before .before .before .before .before .before .before .before .before .before .before .before .before .before .before .before .before .before .before .before .before .before .before .before .before .before .before .before .before .before .before .before .before .before .before .pre) .1 .0 .1 in
     let run = (c .before .before .before .before .before .before .before .before .before .before .before .before .before .before .before .before .before .before .before .before .before .before .before .before .before .before .before .before .before .before .before .before .next-run) .result in
-    let nb = (c .before .before .before .before .before .before .before .before .before .before .before .before .before .before .before .before .before .before .before .before .before .number-of) in
+    let nb = (c .before .before .before .before .before .before .before .before .before .before .before .before .before .before .before .before .before .before .before .before .before .item-number) in
     let st = (c .before .before .before .before .before .before .before .before .before .before .stretch-end) in
     let ex = (c .before .before .before .before .before .extend) in
     let item = glyphItem (a .kind) t (a .glyphs) (a .at) (a .base) in
@@ -194,7 +194,7 @@ number-run-spec =
     same-length-7
     returns
     run-place-requires
-    number-of-requires
+    item-number-requires
     cast-stretch-end
     stretch-end-requires
     cast-extend
