@@ -1,6 +1,9 @@
 //! Every function of the library but `main` has a statement: an `ensures` between its signature and its body, which speaks
 //! of its answer or of what a lent slice holds afterwards.
 
+mod pages;
+
+use pages::in_name;
 use std::path::{Path, PathBuf};
 
 const CRATES: &str = concat!(env!("CARGO_MANIFEST_DIR"), "/../crates");
@@ -13,10 +16,6 @@ fn in_folder(folder: &Path) -> Vec<PathBuf> {
 fn sources() -> Vec<PathBuf> {
     let files = in_folder(Path::new(CRATES)).into_iter().flat_map(|crate_| in_folder(&crate_.join("src")));
     files.filter(|file| file.extension().is_some_and(|end| end == "rt")).collect()
-}
-
-fn in_name(c: char) -> bool {
-    c.is_alphanumeric() || "_-'".contains(c)
 }
 
 /// The functions of a source, methods too: a name, and the text from the name on. Comments are left out.

@@ -2,9 +2,10 @@
 //! stands before "in FILE" stands in that file. Every must-fail edit is named on the second page, as one of code or, with
 //! the mark (d), of a definition; the first page has the number of each.
 
-use std::path::Path;
+mod pages;
 
-const ROOT: &str = concat!(env!("CARGO_MANIFEST_DIR"), "/..");
+use pages::{has_word, page, ROOT};
+use std::path::Path;
 
 /// The path that begins at the start of the text: up to the first character that no path has.
 fn path_at(text: &str) -> &str {
@@ -15,19 +16,6 @@ fn path_at(text: &str) -> &str {
 /// The names in backticks of a stretch of text.
 fn names(text: &str) -> Vec<&str> {
     text.split('`').skip(1).step_by(2).collect()
-}
-
-/// Whether a name stands in a text as a word of its own, and not as a part of a longer one.
-fn has_word(text: &str, name: &str) -> bool {
-    let inside = |c: char| c.is_alphanumeric() || "_-'".contains(c);
-    text.match_indices(name).any(|(at, _)| {
-        let (before, after) = (text[..at].chars().next_back(), text[at + name.len()..].chars().next());
-        !before.is_some_and(inside) && !after.is_some_and(inside)
-    })
-}
-
-fn page(path: &str) -> String {
-    std::fs::read_to_string(Path::new(ROOT).join(path)).expect("the page")
 }
 
 /// The must-fail edits of all crates, as paths from the top.
