@@ -1,5 +1,6 @@
 // An action list (document 01, "The table"): a 32-bit count, 0 to 64, then actions that say their own lengths: class,
 // type, length, data. Here: its first fault, where an action of it stands, and what is read from an action.
+#![tactic(auto)]
 ghost use Rattle.std.specs.Prelude.{◌≡◌, true, ◌+◌, ◌≤◌, ◌<◌, ◌^◌, length, take};
 ghost use Rattle.fields.specs.declared.Fault.TheVariants.{Clear};
 ghost use Rattle.fields.specs.Field.{u32_at};
@@ -12,21 +13,21 @@ use fields::{Fault, Refusal};
 use types::HeldAction;
 
 // Where an action stands, or nowhere.
-#[derive(Drop)]
+#[derive(Clone, Copy)]
 pub enum Spot {
     At(usize),
     Nowhere,
 }
 
 // A part of the table, the bytes from `from` on and before `to`.
-#[derive(Drop)]
+#[derive(Clone, Copy)]
 pub struct Stretch {
     pub from: usize,
     pub to: usize,
 }
 
 // How many actions that follow each other were found without fault, and how many known ones were stepped over on the way.
-#[derive(Drop)]
+#[derive(Clone, Copy)]
 struct SteppedOver {
     passed: usize,
     over: usize,

@@ -1,5 +1,6 @@
 // The answers to the questions that a table and a sheet can be asked (document 01, "The sheet"): the part, or
 // nothing, or a refusal with its offset (document 02, 4/14). specs/Says.antt gives what each case says.
+#![tactic(auto)]
 ghost use Rattle.std.specs.Prelude.{◌≡◌};
 ghost use Rattle.answers.specs.Says.{no_action};
 
@@ -7,21 +8,21 @@ use fields::Refusal;
 use types::{Entry, HeldAction, Pair};
 
 // Whether a table or a sheet is accepted.
-#[derive(Drop)]
+#[derive(Clone, Copy)]
 pub enum Checked {
     Accepted,
     Refused { refusal: Refusal, at: usize },
 }
 
 // The glyph count.
-#[derive(Drop)]
+#[derive(Clone, Copy)]
 pub enum CountAnswer {
     Count(u32),
     Refused { refusal: Refusal, at: usize },
 }
 
 // The class of a glyph.
-#[derive(Drop)]
+#[derive(Clone, Copy)]
 pub enum ClassAnswer {
     Class(u8),
     Nothing,
@@ -29,7 +30,7 @@ pub enum ClassAnswer {
 }
 
 // The row count S and the class count of a machine.
-#[derive(Drop)]
+#[derive(Clone, Copy)]
 pub enum SizesAnswer {
     Sizes { rows: u16, classes: u16 },
     Nothing,
@@ -37,7 +38,7 @@ pub enum SizesAnswer {
 }
 
 // What the cell of a row and a class holds.
-#[derive(Drop)]
+#[derive(Clone, Copy)]
 pub enum CellAnswer {
     Cell(Entry),
     Nothing,
@@ -45,7 +46,7 @@ pub enum CellAnswer {
 }
 
 // The width record of a glyph and a class.
-#[derive(Drop)]
+#[derive(Clone, Copy)]
 pub enum RecordAnswer {
     Record(Pair),
     Nothing,
@@ -53,7 +54,7 @@ pub enum RecordAnswer {
 }
 
 // Whether an action was found.
-#[derive(Drop)]
+#[derive(Clone, Copy)]
 pub enum ActionSought {
     Found,
     Nothing,
@@ -61,7 +62,7 @@ pub enum ActionSought {
 }
 
 // The action of a glyph and a number; all zeros where none was found.
-#[derive(Drop)]
+#[derive(Clone, Copy)]
 pub struct ActionAnswer {
     pub sought: ActionSought,
     pub action: HeldAction,

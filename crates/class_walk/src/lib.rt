@@ -1,4 +1,5 @@
 // The class walk of a line (document 01, "The class walk"), by the machine in a table's bytes.
+#![tactic(auto)]
 ghost use Rattle.std.specs.Prelude.{◌≡◌, cond, not, ◌&&◌, ℕ, ◌+◌, ◌*◌, ◌<◌, ◌^◌, leb, length, get_or, replicate};
 ghost use Rattle.std.proofs.Math.Option.{or_else};
 ghost use Rattle.fields.specs.Field.{u16_at};
@@ -10,14 +11,14 @@ ghost use Rattle.class_walk.specs.Line.{machine_at, line_of, line_column, line_c
 use machine::ClassTable;
 
 // A walk that ended, with its count of entries; of one that never ends the count is 0.
-#[derive(Drop)]
+#[derive(Clone, Copy)]
 pub struct Walked {
     pub ends: bool,
     pub count: u32,
 }
 
 // An entry as the table has it: where its new row stands, and its flags.
-#[derive(Drop)]
+#[derive(Clone, Copy)]
 struct Met {
     pub base: usize,
     pub flags: u16,

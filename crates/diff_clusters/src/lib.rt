@@ -1,5 +1,6 @@
 // The width differences of one glyph (document 02, 6/14): its clusters in two tables, whose classes rise, merged class by
 // class and stored into lent numbers.
+#![tactic(auto)]
 ghost use Rattle.std.specs.Prelude.{◌≡◌, ◌+◌, ◌-◌, ◌≤◌, ◌<◌, ◌^◌};
 ghost use Rattle.std.proofs.Math.Option.{some};
 ghost use Rattle.meaning.specs.Limits.{Rising};
@@ -19,14 +20,14 @@ const PAIR: usize = 24;
 const NO_CLASS: u32 = 128;
 
 // What is left of a cluster: `count` pairs from `at` on.
-#[derive(Drop)]
+#[derive(Clone, Copy)]
 struct Pairs {
     at: usize,
     count: usize,
 }
 
 // The next class of two clusters, how its records differ, and what is left of each after it.
-#[derive(Drop)]
+#[derive(Clone, Copy)]
 struct MergeStep {
     class: u16,
     comparison: Comparison,

@@ -2,6 +2,7 @@
 // by stretches of glyphs that have one place in each table; past the end of the room a stretch is only counted, by a product.
 // Two places are compared once for a stretch, and not again where the next stretch has them too, or where they are kept as
 // holding the same.
+#![tactic(auto)]
 ghost use Rattle.std.specs.Prelude.{◌≡◌, ◌+◌, ◌-◌, ◌*◌, ◌/◌, ◌%◌, ◌≤◌, ◌<◌, ◌^◌, true, length, get_or};
 ghost use Rattle.std.proofs.lemmas.List.Edits.{sets};
 ghost use Rattle.meaning.specs.Discrete.{list-discrete};
@@ -28,7 +29,7 @@ const KEPT: usize = 64;
 const NOWHERE: u32 = 4294967295;
 
 // Two places that were compared, and how many differences a glyph has that has them.
-#[derive(Drop)]
+#[derive(Clone, Copy)]
 struct Compared {
     places: Places,
     each: usize,

@@ -1,5 +1,6 @@
 // The differences of the machines of one direction in two tables (document 02, 6/14), stored into lent numbers; where there
 // is no room they are only counted, by where they would end.
+#![tactic(auto)]
 ghost use Rattle.std.specs.Prelude.{◌≡◌, ◌++◌, ℕ, ◌+◌, ◌≤◌, ◌<◌, ◌^◌};
 ghost use Rattle.std.proofs.Math.Option.{some};
 ghost use Rattle.std.proofs.Math.Decide.{ℕ_discrete};
@@ -19,7 +20,7 @@ use machine::ClassTable;
 use types::Direction;
 
 // Where the machines of one direction stand in two tables that are read with one glyph count, and the sizes of the first.
-#[derive(Drop)]
+#[derive(Clone, Copy)]
 struct Machines {
     direction: Direction,
     glyphs: usize,
@@ -30,7 +31,7 @@ struct Machines {
 }
 
 // The glyphs from `from` on and before `until`.
-#[derive(Drop)]
+#[derive(Clone, Copy)]
 struct Span {
     from: usize,
     until: usize,

@@ -1,4 +1,5 @@
 // What differs between the meanings of two tables (document 02, 6/14), and storing it into lent numbers.
+#![tactic(auto)]
 ghost use Rattle.std.specs.Prelude.{◌≡◌, [], ◌∷◌, ◌+◌, ◌*◌, ◌≤◌, ◌<◌, ◌^◌, length};
 ghost use Rattle.std.proofs.lemmas.List.Edits.{sets};
 ghost use Rattle.diff_rule.specs.Differences.{noted, mark_seen};
@@ -9,7 +10,7 @@ use types::Direction;
 
 // What of a direction differs: the machine's sizes, the class of a glyph, a cell, a width record, a glyph's action list.
 // The order is that of the list.
-#[derive(Drop)]
+#[derive(Clone, Copy)]
 pub enum Aspect {
     Sizes,
     Class,
@@ -19,7 +20,7 @@ pub enum Aspect {
 }
 
 // How: in both and not the same, only in the first, only in the second.
-#[derive(Drop)]
+#[derive(Clone, Copy)]
 pub enum Mark {
     Changed,
     OnlyFirst,
@@ -27,7 +28,7 @@ pub enum Mark {
 }
 
 // What a comparison answers: the same, or how it differs.
-#[derive(Drop)]
+#[derive(Clone, Copy)]
 pub enum Comparison {
     Same,
     Differs(Mark),
@@ -35,7 +36,7 @@ pub enum Comparison {
 
 // A difference: its direction, what differs and how, and two numbers: a glyph; a row and a class; a glyph and a class. An
 // unused one is 0.
-#[derive(Drop)]
+#[derive(Clone, Copy)]
 pub struct Difference {
     pub direction: Direction,
     pub aspect: Aspect,

@@ -1,5 +1,6 @@
 // A pass over what the glyphs have in two tables, clusters or action lists (document 02, 6/14): by stretches of glyphs that
 // have one place in each.
+#![tactic(auto)]
 ghost use Rattle.std.specs.Prelude.{◌≡◌, ◌≤◌, ◌<◌, ◌^◌, length};
 ghost use Rattle.write_glyphs.specs.Places.{SoundSource, run_place};
 ghost use Rattle.diff_stretches.specs.Stretches.{base_of, ServesBy, RunTells, BothTell, BothSound, Even, Splits};
@@ -9,7 +10,7 @@ use lookup_runs::Run;
 use lookup_targets::{Kind, Source};
 
 // What is compared of two tables: clusters or lists of `glyphs` glyphs, and where each table's come from.
-#[derive(Drop)]
+#[derive(Clone, Copy)]
 pub struct Sources {
     pub kind: Kind,
     pub glyphs: usize,
@@ -18,21 +19,21 @@ pub struct Sources {
 }
 
 // A run of each table.
-#[derive(Drop)]
+#[derive(Clone, Copy)]
 pub struct RunPair {
     pub first: Run,
     pub second: Run,
 }
 
 // Where a cluster or a list stands in each table.
-#[derive(Drop)]
+#[derive(Clone, Copy)]
 pub struct Places {
     pub first: u16,
     pub second: u16,
 }
 
 // The glyphs before `end` have what stands at these places; the runs tell what the glyphs after them have.
-#[derive(Drop)]
+#[derive(Clone, Copy)]
 pub struct GlyphStretch {
     pub end: usize,
     pub places: Places,

@@ -1,5 +1,6 @@
 // What differs between two accepted tables (document 02, 6/14), direction by direction, stored into lent numbers; and how many
 // numbers that takes.
+#![tactic(auto)]
 ghost use Rattle.std.specs.Prelude.{◌≡◌, true, ◌+◌, ◌≤◌, ◌<◌, ◌^◌, length};
 ghost use Rattle.fields.specs.declared.Fault.TheVariants.{Clear};
 ghost use Rattle.table.specs.Table.{table_fault};
@@ -34,7 +35,7 @@ fn same_table<'a>(one: &'a [u8], other: &'a [u8]) -> bool
 }
 
 // A direction of two tables that are read with one glyph count, and its offset in each, 0 where it is absent.
-#[derive(Drop)]
+#[derive(Clone, Copy)]
 struct DirectionPair {
     direction: Direction,
     glyphs: usize,

@@ -2,6 +2,7 @@
 // their numbers, and the first fault of a chain of fields (document 01, "Numbers of refusal").
 // A field is read as if zeros followed the bytes, so that reading asks nothing of its caller; whether a field
 // lies inside is judged apart, by `in_table`.
+#![tactic(auto)]
 ghost use Rattle.std.specs.Prelude.{◌≡◌, ℕ, ◌+◌, ◌-◌, ◌≤◌, ◌<◌, ◌^◌, min, max, length, get_or, set};
 ghost use Rattle.std.proofs.lemmas.List.Edits.{sets};
 ghost use Rattle.fields.specs.Field.{u16_at, u32_at, be16, be32};
@@ -9,7 +10,7 @@ ghost use Rattle.fields.specs.Refusals.{number_of};
 ghost use Rattle.fields.specs.Faults.{◌then◌, rule, inside};
 
 // The refusals, each named by what is wrong, in the order of their numbers, 1 to 18 and 21 to 23.
-#[derive(Drop)]
+#[derive(Clone, Copy)]
 pub enum Refusal {
     TableLength,
     GlyphCount,
@@ -36,7 +37,7 @@ pub enum Refusal {
 
 // No fault, or a refusal and, for 4 to 8, the offset of the first byte of the field that was found or judged; 0 for
 // the others.
-#[derive(Drop)]
+#[derive(Clone, Copy)]
 pub enum Fault {
     Clear,
     Bad { refusal: Refusal, at: usize },

@@ -1,17 +1,18 @@
 // The directory of a whole font, and the checksum of one of its tables (document 02, 12/14).
+#![tactic(auto)]
 ghost use Rattle.std.specs.Prelude.{◌≡◌, ◌+◌, ◌^◌, ◌<◌, ◌≤◌, length};
 ghost use Rattle.font_directory.specs.Sum.{words_for, checksum_of};
 ghost use Rattle.font_directory.specs.Directory.{directory_size, table_record_at, first_listed, table_of};
 
 // What the directory says of a table: its checksum, where it begins in the font, and its length in bytes.
-#[derive(Drop)]
+#[derive(Clone, Copy)]
 pub struct TableRecord {
     pub sum: u32,
     pub offset: u32,
     pub length: u32,
 }
 
-#[derive(Drop)]
+#[derive(Clone, Copy)]
 pub enum Listing {
     Listed(TableRecord),
     Missing,

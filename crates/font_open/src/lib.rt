@@ -1,4 +1,5 @@
 // A 'just' table straight from a font file (document 02, 12/14).
+#![tactic(auto)]
 ghost use Rattle.std.specs.Prelude.{◌≡◌};
 ghost use Rattle.table.specs.Table.{table_fault};
 ghost use Rattle.font_directory.specs.declared.Listing.TheVariants.{Listed};
@@ -11,7 +12,7 @@ use font_directory::{Listing, TableRecord};
 
 // Where 'just' stands in the font, its length in bytes and the font's glyph count; or the refusal and, for 4 to 8, its
 // offset from the start of 'just'.
-#[derive(Drop)]
+#[derive(Clone, Copy)]
 pub enum FontAnswer {
     Opened {
         offset: u32,
@@ -26,7 +27,7 @@ pub enum FontAnswer {
 
 // The same as a struct of C layout; crate `just_c` has the call.
 #[repr(C)]
-#[derive(Drop)]
+#[derive(Clone, Copy)]
 pub struct JustFont {
     pub refusal: u32,
     pub offset: u64,

@@ -1,6 +1,7 @@
 // The library for programs in C and other languages: each call with numbers, slices (a pointer, then a length) and
 // structs of C layout. A refusal is its number, 0 for none, and its offset. A direction is 0 for horizontal, any other number for
 // vertical. specs/InC.antt says what each struct holds.
+#![tactic(auto)]
 ghost use Rattle.std.specs.Prelude.{◌≡◌};
 ghost use Rattle.types.specs.InC.{direction_in};
 ghost use Rattle.meaning.specs.Ask.{ask, glyph_count, along, sizes, class, cell, width, action};
@@ -29,14 +30,14 @@ use table_find::{JustUnits, JustValue};
 use types::{Entry, Flags, HeldAction, Limits, Pair};
 
 #[repr(C)]
-#[derive(Drop)]
+#[derive(Clone, Copy)]
 pub struct JustChecked {
     pub refusal: u32,
     pub offset: u64,
 }
 
 #[repr(C)]
-#[derive(Drop)]
+#[derive(Clone, Copy)]
 pub struct JustCount {
     pub refusal: u32,
     pub offset: u64,
@@ -44,7 +45,7 @@ pub struct JustCount {
 }
 
 #[repr(C)]
-#[derive(Drop)]
+#[derive(Clone, Copy)]
 pub struct JustSizes {
     pub refusal: u32,
     pub offset: u64,
@@ -54,7 +55,7 @@ pub struct JustSizes {
 }
 
 #[repr(C)]
-#[derive(Drop)]
+#[derive(Clone, Copy)]
 pub struct JustClass {
     pub refusal: u32,
     pub offset: u64,
@@ -63,7 +64,7 @@ pub struct JustClass {
 }
 
 #[repr(C)]
-#[derive(Drop)]
+#[derive(Clone, Copy)]
 pub struct JustCell {
     pub refusal: u32,
     pub offset: u64,
@@ -72,7 +73,7 @@ pub struct JustCell {
 }
 
 #[repr(C)]
-#[derive(Drop)]
+#[derive(Clone, Copy)]
 pub struct JustRecord {
     pub refusal: u32,
     pub offset: u64,
@@ -81,7 +82,7 @@ pub struct JustRecord {
 }
 
 #[repr(C)]
-#[derive(Drop)]
+#[derive(Clone, Copy)]
 pub struct JustAction {
     pub refusal: u32,
     pub offset: u64,
@@ -90,14 +91,14 @@ pub struct JustAction {
 }
 
 #[repr(C)]
-#[derive(Drop)]
+#[derive(Clone, Copy)]
 pub struct JustStretch {
     pub offset: usize,
     pub length: usize,
 }
 
 #[repr(C)]
-#[derive(Drop)]
+#[derive(Clone, Copy)]
 pub struct JustLength {
     pub refusal: u32,
     pub offset: u64,

@@ -1,6 +1,7 @@
 // The call for a line for programs in C and other languages (document 01, demand 2), in the conventions of `just_c`:
 // numbers, slices (a pointer, then a length) and structs of C layout; a refusal is its number, 0 for none, and its offset; a direction
 // is 0 for horizontal, any other number for vertical. specs/LineInC.antt says what the struct holds.
+#![tactic(auto)]
 ghost use Rattle.std.specs.Prelude.{◌≡◌};
 ghost use Rattle.line_call.specs.Justified.{says_line, justified};
 ghost use Rattle.line_rule.specs.Shape.{line_by};
@@ -13,7 +14,7 @@ use types::Verdict;
 
 // The remainder in units, the count of entries that the class walk took, and the count of verdicts.
 #[repr(C)]
-#[derive(Drop)]
+#[derive(Clone, Copy)]
 pub struct JustLine {
     pub refusal: u32,
     pub offset: u64,

@@ -1,6 +1,7 @@
 // One call for a line (document 01, demand 2): its classes, movements, remainder and verdicts, or the refusal.
 // Here: all of it but the storing of the verdicts, whose number `settle` answers beside the call's answer, and whose
 // bits it leaves in a lent room. No lent class or movement is written before every refusal is judged.
+#![tactic(auto)]
 ghost use Rattle.std.specs.Prelude.{◌≡◌, List, ◌*◌, length};
 ghost use Rattle.types.specs.declared.Verdict.{Verdict};
 ghost use Rattle.meaning.specs.Ask.{side_of};
@@ -19,7 +20,7 @@ use line_rule::LineShape;
 
 // What a line's call answers: the remainder in units, the count of entries that the class walk took, and the count
 // of verdicts; or the refusal and its offset.
-#[derive(Drop)]
+#[derive(Clone, Copy)]
 pub enum LineAnswer {
     Justified {
         remainder: i32,
@@ -33,14 +34,14 @@ pub enum LineAnswer {
 }
 
 // The answer of a line's call, and how many verdicts are still to be stored: none where it is a refusal.
-#[derive(Drop)]
+#[derive(Clone, Copy)]
 pub struct Settled {
     pub answer: LineAnswer,
     pub stored: usize,
 }
 
 // What a line's call says beside its slices: the font's count of glyphs, the line's shape, and the room for verdicts.
-#[derive(Drop)]
+#[derive(Clone, Copy)]
 struct Call {
     count: u32,
     shape: LineShape,
@@ -49,7 +50,7 @@ struct Call {
 
 // What is left to say of a line that is worked out: whether it shrinks, the remainder in units, the count of entries that the
 // class walk took, and the count of verdicts.
-#[derive(Drop)]
+#[derive(Clone, Copy)]
 struct Tally {
     shrink: bool,
     remainder: i32,
@@ -58,7 +59,7 @@ struct Tally {
 }
 
 // A line that is worked out; or the refusal that bars it, with its offset.
-#[derive(Drop)]
+#[derive(Clone, Copy)]
 enum Worked {
     Done(Tally),
     Bad { refusal: Refusal, at: usize },

@@ -1,6 +1,7 @@
 // Whether a line's input may be (document 01, "Numbers of refusal", 9 to 13, and 18 of document 02). `input_fault` judges the table, the
 // lengths of the slices, the number of glyphs, the edition and the point sizes; the advances with the target, which give the gap, and the
 // glyphs are judged after it, by `gap_of` and `all_known`.
+#![tactic(auto)]
 ghost use Rattle.std.specs.Prelude.{◌≡◌, ◌||◌, [], ◌∷◌, eqb, ltb};
 ghost use Rattle.line_rule.specs.Shape.{line_by};
 ghost use Rattle.line_input.specs.Input.{all_long, good_size, good_sizes, all_known};
@@ -20,14 +21,14 @@ const LONGEST: usize = 1024;
 const LARGEST: u32 = 67108864;
 
 // The sum of advances, or that they may not be.
-#[derive(Drop)]
+#[derive(Clone, Copy)]
 enum Sum {
     Total(Units),
     Unfit,
 }
 
 // A line's gap, negative where the line shrinks; or that advances and target may not be.
-#[derive(Drop)]
+#[derive(Clone, Copy)]
 pub enum Gap {
     Of(Units),
     Unfit,

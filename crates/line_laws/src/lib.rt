@@ -3,3 +3,4 @@
 // ends, one that is not has ended as reported; tables with equal sheets justify every line alike; a line of equal sizes
 // answers as the call for a line in one size did (document 02, request 5/14). The definitions stand in specs/ and the
 // theorems in proofs/; there is no code.
+#![tactic(auto)]

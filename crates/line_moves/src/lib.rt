@@ -1,5 +1,6 @@
 // What a line's call works out before its verdicts (document 01, "The class walk" and "Sharing the gap"), from an
 // accepted table: the classes of the line's glyphs, the part of each glyph, and the movements of its two sides.
+#![tactic(auto)]
 ghost use Rattle.std.specs.Prelude.{◌≡◌, cond, ◌+◌, ◌*◌, ◌≤◌, ◌<◌, pos, nat_abs, length, replicate};
 ghost use Rattle.std.specs.Int.Signed.{lt_z};
 ghost use Rattle.fields.specs.declared.Fault.TheVariants.{Clear};
@@ -27,7 +28,7 @@ use units::{Ems, Units};
 
 // A glyph's part in the sharing of the gap: its stage priority, 1 where it is unlimited and else 0, and the factors of
 // its before and its after side.
-#[derive(Drop)]
+#[derive(Clone, Copy)]
 struct GlyphPart {
     pub priority: u8,
     pub extra: u8,
@@ -37,7 +38,7 @@ struct GlyphPart {
 
 // The remainder of a gap that was shared, with the gap's sign; or that a stage's total is above the most that it
 // may be.
-#[derive(Drop)]
+#[derive(Clone, Copy)]
 pub enum Shared {
     Left(Units),
     Over,

@@ -1,6 +1,7 @@
 // What is worked out of a line by the meaning of one direction (document 01, "The class walk", "Sharing the gap"
 // and "Verdicts"). The definitions stand in specs/; here is only what a line's call is told in numbers, and which of the
 // rule's editions it names.
+#![tactic(auto)]
 ghost use Rattle.std.specs.Prelude.{◌≡◌};
 ghost use Rattle.line_rule.specs.Line.{goes_back, known_edition};
 
@@ -8,7 +9,7 @@ use types::Direction;
 
 // A line but for its glyphs, their point sizes and advances: its direction, whether it starts and ends the text, its
 // target, in units, and the edition of the rule. It goes by value from the call to where each is used.
-#[derive(Drop)]
+#[derive(Clone, Copy)]
 pub struct LineShape {
     pub direction: Direction,
     pub starts: bool,

@@ -1,6 +1,7 @@
 // Which actions of a line's glyphs fire (document 01, "Verdicts"): how many there are, kept as bits while they are
 // counted, and then taken from the bits one verdict after the other, by place and then in list order. The table is one
 // that was accepted.
+#![tactic(auto)]
 ghost use Rattle.std.specs.Prelude.{◌≡◌, ℕ, ◌+◌, ◌*◌, ◌≤◌, ◌<◌, ◌^◌, [], ◌∷◌, length, get_or, drop};
 ghost use Rattle.fields.specs.Field.{u16_at};
 ghost use Rattle.fields.specs.declared.Fault.TheVariants.{Clear};
@@ -26,7 +27,7 @@ use units::Units;
 use verdict::Fires;
 
 // Which of a glyph's actions fire, and which of those substitute, as bits, that of action k being 2^k; and how many fire.
-#[derive(Drop)]
+#[derive(Clone, Copy)]
 struct GlyphBits {
     pub fires: u64,
     pub substitutes: u64,
@@ -35,7 +36,7 @@ struct GlyphBits {
 
 // How far a line's verdicts have been taken: the glyphs before `next` are begun; of the last of them the bits from the
 // action with this number on are left, that one's being the lowest.
-#[derive(Drop)]
+#[derive(Clone, Copy)]
 pub struct VerdictCursor {
     pub next: usize,
     pub number: u16,
@@ -44,7 +45,7 @@ pub struct VerdictCursor {
 }
 
 // The next verdict, and the cursor past it.
-#[derive(Drop)]
+#[derive(Clone, Copy)]
 pub struct VerdictStep {
     pub verdict: Verdict,
     pub past: VerdictCursor,

@@ -1,5 +1,6 @@
 // A lookup from glyphs to 16-bit values, formats 0, 2, 4, 6 and 8 (document 01, "The table"): its first fault, and a pass
 // over glyphs upward that looks at each unit once. One glyph's value is found in crate `lookup_find`.
+#![tactic(auto)]
 ghost use Rattle.std.specs.Prelude.{◌≡◌, ℕ, ◌+◌, ◌*◌, ◌≤◌, ◌<◌, ◌^◌, length};
 ghost use Rattle.fields.specs.declared.Fault.TheVariants.{Clear};
 ghost use Rattle.fields.specs.Field.{u16_at};
@@ -11,14 +12,14 @@ ghost use Rattle.lookup.specs.Pass.{Serves};
 use fields::{Fault, Refusal};
 
 // A glyph's value.
-#[derive(Drop)]
+#[derive(Clone, Copy)]
 pub enum Found {
     Value(u16),
     Nothing,
 }
 
 // Where a pass over glyphs upward stands: the next unit, and how many counted units are left from it on.
-#[derive(Drop)]
+#[derive(Clone, Copy)]
 pub struct Cursor {
     pub at: usize,
     pub left: usize,

@@ -1,5 +1,6 @@
 // A find in a lookup by halves (document 02, 9/14), and how many units it looked at. The lookup is one without a fault, so
 // that its units rise and all lie inside the table.
+#![tactic(auto)]
 ghost use Rattle.std.specs.Prelude.{◌≡◌, ◌+◌, ◌*◌, ◌≤◌, ◌<◌, ◌^◌, length};
 ghost use Rattle.fields.specs.declared.Fault.TheVariants.{Clear};
 ghost use Rattle.fields.specs.Field.{u16_at};
@@ -10,14 +11,14 @@ ghost use Rattle.lookup_find.specs.Halves.{unit_of, closes, open_of, head_at, Se
 use lookup::Found;
 
 // The head of a lookup, which is read once for many finds: its format, and how many units a find can look at.
-#[derive(Drop)]
+#[derive(Clone, Copy)]
 pub struct Head {
     pub format: usize,
     pub units: usize,
 }
 
 // What a find gives: the value, and how many units it looked at.
-#[derive(Drop)]
+#[derive(Clone, Copy)]
 pub struct Looked {
     pub found: Found,
     pub looks: usize,

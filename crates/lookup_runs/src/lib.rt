@@ -1,5 +1,6 @@
 // A pass over the glyphs of a lookup that have a value (document 01, "Numbers of refusal": clusters and lists go by
 // glyph): a run of glyphs at a time, upward, whose values are one field or an array. Glyphs without a value cost nothing.
+#![tactic(auto)]
 ghost use Rattle.std.specs.Prelude.{◌≡◌, ℕ, ◌+◌, ◌*◌, ◌≤◌, ◌<◌, ◌^◌, length};
 ghost use Rattle.fields.specs.Field.{u16_at};
 ghost use Rattle.lookup.specs.Units.{unit_size};
@@ -11,7 +12,7 @@ use lookup::Cursor;
 // The next glyphs that have a value: those from `from` on and before `until`. Their values stand at `place`, one for each
 // of them in an array, else one for all. The cursor serves the glyphs after them. Where no glyph is left that has a value,
 // the run is past the last glyph there can be.
-#[derive(Drop)]
+#[derive(Clone, Copy)]
 pub struct Run {
     pub from: usize,
     pub until: usize,

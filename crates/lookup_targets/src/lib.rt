@@ -1,5 +1,6 @@
 // What the values of a direction's two lookups lead to (document 01, "The table"): clusters of width records and
 // lists of actions. The lookup is judged first, then, glyphs upward, what each value leads to (refusals 4 to 6 and 8).
+#![tactic(auto)]
 ghost use Rattle.std.specs.Prelude.{◌≡◌, true, cond, ℕ, ◌+◌, ◌-◌, ◌*◌, ◌≤◌, ◌<◌, ◌^◌, min};
 ghost use Rattle.fields.specs.declared.Fault.TheVariants.{Clear};
 ghost use Rattle.fields.specs.Field.{u16_at};
@@ -16,14 +17,14 @@ use lookup::{Cursor, Found};
 use lookup_runs::Run;
 
 // What a lookup's values lead to.
-#[derive(Drop)]
+#[derive(Clone, Copy)]
 pub enum Kind {
     Clusters,
     Lists,
 }
 
 // Where the glyphs' clusters or lists come from: a lookup, whose values are offsets from `base`, or nothing.
-#[derive(Drop)]
+#[derive(Clone, Copy)]
 pub enum Source {
     Lookup { at: usize, base: usize },
     Absent,
@@ -359,7 +360,7 @@ fn run_fault(
 }
 
 // Where a pass over a lookup's runs has come: the cursor serves the glyphs from `glyph` on.
-#[derive(Drop)]
+#[derive(Clone, Copy)]
 struct PassPlace {
     cursor: Cursor,
     glyph: usize,

@@ -1,6 +1,7 @@
 // The class machine of a table (document 01, "The table", Machine): its first fault (refusals 4 and 7), its row
 // count S, a glyph's class, and what a cell holds. `here` is the place after the machine's 8-byte header, from
 // which the machine's offsets count.
+#![tactic(auto)]
 ghost use Rattle.std.specs.Prelude.{◌≡◌, true, ℕ, ◌+◌, ◌<◌, ◌^◌, max};
 ghost use Rattle.fields.specs.declared.Fault.TheVariants.{Clear};
 ghost use Rattle.machine.specs.declared.Scan.TheVariants.{Count};
@@ -13,14 +14,14 @@ use fields::{Fault, Refusal};
 use types::Entry;
 
 // The first fault of a machine's rows, or their count.
-#[derive(Drop)]
+#[derive(Clone, Copy)]
 pub enum Scan {
     Broken(Fault),
     Count(usize),
 }
 
 // A class table: where it stands, its first glyph and its count of glyphs.
-#[derive(Drop)]
+#[derive(Clone, Copy)]
 pub struct ClassTable {
     pub at: usize,
     pub first: usize,

@@ -1,6 +1,7 @@
 // A line's gap shared over its sides (document 01, "Sharing the gap" and refusal 15). All of it works on sizes; the sign stands in
 // `signed` alone. A line is two slices with an element for each side, in line order, a glyph's before side ahead of its after side:
 // its stage priority, with 16 added for its extra weight (see `side_number`), and its factor. A priority that is no stage takes no part.
+#![tactic(auto)]
 ghost use Rattle.std.specs.Prelude.{◌≡◌, ◌*◌, ◌≤◌, ◌<◌, length, replicate, true, cond, map};
 ghost use Rattle.share.specs.Share.{total, most_total, plus, shares, stages, stage_moves, stage_left, stages_moves, stages_left, back_moves, back_left};
 ghost use Rattle.share.specs.Carry.{widest, Carriable, CarriedOn};
@@ -19,7 +20,7 @@ pub const PRIORITIES: u8 = 16;
 
 // Step 1's formula on its way from side to side: the amount, the total that it is shared over, and the quotient and remainder of
 // the amount times the running total, by that total. The quotient is what the sides so far have been given.
-#[derive(Drop)]
+#[derive(Clone, Copy)]
 pub struct Running {
     pub amount: u64,
     pub over: u64,
@@ -28,7 +29,7 @@ pub struct Running {
 }
 
 // A side's share, and the state after it.
-#[derive(Drop)]
+#[derive(Clone, Copy)]
 pub struct ShareStep {
     pub share: u64,
     pub next: Running,
@@ -55,7 +56,7 @@ fn product(amount: u32, weight: u32) -> u64
 }
 
 // What is carried past a side.
-#[derive(Drop)]
+#[derive(Clone, Copy)]
 pub struct Carried {
     pub quotient: u64,
     pub remainder: u64,
@@ -107,7 +108,7 @@ fn next_share(run: Running, weight: u64) -> ShareStep
 }
 
 // The factors of the sides of each priority together. The stages are the first of the priorities.
-#[derive(Drop)]
+#[derive(Clone, Copy)]
 pub struct Totals {
     pub sums: [u64; PRIORITIES as usize],
 }

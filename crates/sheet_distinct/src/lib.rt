@@ -3,6 +3,7 @@
 // finds its slot taken is compared with the first that took it, and set aside; the numbers of those set aside are
 // sorted by content, and neighbours compared. The cost stays near the bytes' and, whatever the items are, not near the
 // square of their count.
+#![tactic(auto)]
 ghost use Rattle.std.specs.Prelude.{◌≡◌, ◌+◌, ◌*◌, ◌≤◌, ◌<◌, ◌^◌, min, length, get_or};
 ghost use Rattle.std.proofs.Math.Seq.{slice};
 ghost use Rattle.encoding.specs.Tests.{Says};

@@ -1,13 +1,14 @@
 // The printing program (document 01, "Sample lines and tables"): reads a glyph count (two bytes) and a table from standard
 // input, and prints the table's sheet or its refusal. The text is the work of `sheet_text::print_input`; this reads and writes.
 // Where a read fails it prints nothing, since the bytes before the failure are another input, and says so on standard error.
+#![tactic(auto)]
 ghost use Rattle.std.specs.Prelude.{length};
 ghost use Rattle.sheet_print.specs.Within.{Within};
 
 use libc::{STDERR_FILENO, STDIN_FILENO, STDOUT_FILENO};
 
 // How many bytes standard input had, or that a read failed.
-#[derive(Drop)]
+#[derive(Clone, Copy)]
 enum Input {
     Bytes(usize),
     Failed,

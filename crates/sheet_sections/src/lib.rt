@@ -2,6 +2,7 @@
 // class (section 2), and runs of glyphs of one cluster or one action list, each with its number (sections 6 and 8). There numbers
 // come in order of first use, none is left unused; here they count from 1 on, 0 is a glyph with none, and the bytes hold a number
 // less one.
+#![tactic(auto)]
 ghost use Rattle.std.specs.Prelude.{◌≡◌, ◌+◌, ◌*◌, ◌≤◌, ◌<◌, ◌^◌, length};
 ghost use Rattle.encoding.specs.Codes.{items_at, counted};
 ghost use Rattle.encoding.specs.Sections.{run_section, run_less_code};
@@ -11,7 +12,7 @@ ghost use Rattle.sheet_sections.specs.RunSection.{run_at, MayFollow, GoodRuns, B
 ghost use Rattle.sheet_sections.specs.Pool.{number_run_at, NumbersFrom, NumberRuns, used_after};
 
 // What a reader finds at a position: the bytes of a valid value, up to the place named, or those of none.
-#[derive(Drop)]
+#[derive(Clone, Copy)]
 pub enum Read {
     Upto(usize),
     Absent,

@@ -1,5 +1,6 @@
 // The sheet of a table (document 01, "The sheet"): its length, and writing it into lent bytes. Its length is known
 // before a byte is stored into them, so that refusal 16 changes nothing.
+#![tactic(auto)]
 ghost use Rattle.std.specs.Prelude.{◌≡◌, ◌++◌, ◌≤◌, ◌<◌, ◌^◌, length, take, drop};
 ghost use Rattle.std.proofs.lemmas.List.Edits.{sets};
 ghost use Rattle.std.proofs.Math.Seq.{slice};
@@ -11,14 +12,14 @@ use fields::{Fault, Refusal};
 use types::Direction;
 
 // How long the sheet is, in bytes.
-#[derive(Drop)]
+#[derive(Clone, Copy)]
 pub enum LengthAnswer {
     Length(u32),
     Refused { refusal: Refusal, at: usize },
 }
 
 // How many bytes were written.
-#[derive(Drop)]
+#[derive(Clone, Copy)]
 pub enum WriteAnswer {
     Written(u32),
     Refused { refusal: Refusal, at: usize },

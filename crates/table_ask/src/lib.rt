@@ -2,6 +2,7 @@
 // very stretch of the table ("The table"). What is named ask_.. judges the table first, and may refuse; a component
 // list is never refused, but empty. What serves the line besides (machine_in, lookup_in, spot_by) reads a table that
 // was judged before.
+#![tactic(auto)]
 ghost use Rattle.std.specs.Prelude.{◌≡◌, ◌<◌, ◌^◌};
 ghost use Rattle.meaning.specs.Ask.{maybe, pair, record_of, ask, glyph_count, sizes, class, cell, width, action, along};
 ghost use Rattle.answers.specs.Says.{given, unless_bad, says_count, says_sizes, says_class, says_cell, says_record, says_action, room_after};
@@ -23,7 +24,7 @@ use lookup_targets::{Kind, Source};
 use types::Direction;
 
 // A direction's source of one kind (`lookup_targets::Source`), with the lookup's head, read once.
-#[derive(Drop)]
+#[derive(Clone, Copy)]
 pub enum Lookup {
     Absent,
     There { at: usize, base: usize, head: Head },

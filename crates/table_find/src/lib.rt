@@ -1,5 +1,6 @@
 // The value of a glyph in one of a direction's two lookups, and how many units a find of it looks at; the units of such a
 // lookup, and the bound on a find's looks there (document 02, 9/14). The table is judged first, and may be refused.
+#![tactic(auto)]
 ghost use Rattle.std.specs.Prelude.{◌≡◌, List, ℕ, ◌<◌, ◌^◌};
 ghost use Rattle.table_ask.specs.Places.{Readable, Sound};
 ghost use Rattle.table_find.specs.Values.{says_value, says_units, found_in, value_asked, units_in, least_over, units_asked};
@@ -12,7 +13,7 @@ use table_ask::Lookup;
 use types::Direction;
 
 // A glyph's value in a lookup and how many units were looked at to find it, or that there is none.
-#[derive(Drop)]
+#[derive(Clone, Copy)]
 pub enum ValueAnswer {
     Value { value: u16, looks: u32 },
     Nothing { looks: u32 },
@@ -20,7 +21,7 @@ pub enum ValueAnswer {
 }
 
 // How many units a lookup has for a find, and `most`: no find there takes more looks.
-#[derive(Drop)]
+#[derive(Clone, Copy)]
 pub enum UnitsAnswer {
     Units { units: u32, most: u32 },
     Refused { refusal: Refusal, at: usize },
@@ -29,7 +30,7 @@ pub enum UnitsAnswer {
 // Both as structs of C layout; crate `just_c` has the calls.
 
 #[repr(C)]
-#[derive(Drop)]
+#[derive(Clone, Copy)]
 pub struct JustValue {
     pub refusal: u32,
     pub offset: u64,
@@ -39,7 +40,7 @@ pub struct JustValue {
 }
 
 #[repr(C)]
-#[derive(Drop)]
+#[derive(Clone, Copy)]
 pub struct JustUnits {
     pub refusal: u32,
     pub offset: u64,

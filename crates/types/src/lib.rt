@@ -2,11 +2,12 @@
 // Code and definitions use these same types, and so does the meaning, whose actions alone have their data as a list.
 // A width record and an action are held as the sheet writes them: shrink limits as sizes, ignored bits zero, no
 // padding.
+#![tactic(auto)]
 ghost use Rattle.std.specs.Prelude.{◌≡◌};
 ghost use Rattle.types.specs.InC.{direction_in};
 
 // Horizontal stands first in a table, in a sheet and in the order of faults.
-#[derive(Drop)]
+#[derive(Clone, Copy)]
 pub enum Direction {
     Horizontal,
     Vertical,
@@ -14,7 +15,7 @@ pub enum Direction {
 
 // What a cell of the class machine holds: the new row's number and the flags.
 #[repr(C)]
-#[derive(Drop)]
+#[derive(Clone, Copy)]
 pub struct Entry {
     pub row: u16,
     pub flags: u16,
@@ -22,7 +23,7 @@ pub struct Entry {
 
 // A side's limits in ems (Fixed), both as sizes.
 #[repr(C)]
-#[derive(Drop)]
+#[derive(Clone, Copy)]
 pub struct Limits {
     pub grow: u32,
     pub shrink: u32,
@@ -30,7 +31,7 @@ pub struct Limits {
 
 // Of each: 0x1000 for unlimited, and the priority, 0 to 3.
 #[repr(C)]
-#[derive(Drop)]
+#[derive(Clone, Copy)]
 pub struct Flags {
     pub grow: u16,
     pub shrink: u16,
@@ -38,7 +39,7 @@ pub struct Flags {
 
 // A width record with its class.
 #[repr(C)]
-#[derive(Drop)]
+#[derive(Clone, Copy)]
 pub struct Pair {
     pub class: u32,
     pub before: Limits,
@@ -49,7 +50,7 @@ pub struct Pair {
 // An action as it is handed out: its class, its type 0 to 5, and its data, which is the first `size` bytes; zeros
 // follow. The longest data is type 0's with 32 components: 12 + 2 × 32 bytes.
 #[repr(C)]
-#[derive(Drop)]
+#[derive(Clone, Copy)]
 pub struct HeldAction {
     pub class: u16,
     pub ty: u16,
@@ -60,7 +61,7 @@ pub struct HeldAction {
 // An action that fires: the glyph's place in the line, the action's number in its list, both from 0, and 1 where a
 // type 2 action substitutes, else 0: a number, so that the record has no padding and each byte of a lent list is told.
 #[repr(C)]
-#[derive(Drop)]
+#[derive(Clone, Copy)]
 pub struct Verdict {
     pub place: u16,
     pub action: u16,

@@ -1,16 +1,17 @@
 // Distances and flags (document 01, "Numbers", and of "The table" the flags of entries and of width records).
 // A distance in ems and one in points are values of two types; only `factor` joins them, with a point size.
 // Flags are taken apart by shifts and masks and put together again by shifts.
+#![tactic(auto)]
 ghost use Rattle.std.specs.Prelude.{◌≡◌, cond, ℕ, ◌+◌, ◌*◌, ◌/◌, ◌%◌, ◌<◌, ◌^◌};
 ghost use Rattle.units.specs.Fixed.{fixed_of, fixed_size, factor_of};
 ghost use Rattle.units.specs.Flags.{sets_mark, stays, mark_class, current_class, entry_flags, is_unlimited, priority_of, width_flags, kept_flags};
 
 // A distance in ems, Fixed: 65,536 is one em.
-#[derive(Drop)]
+#[derive(Clone, Copy)]
 pub struct Ems(pub i64);
 
 // A distance in units of 1/65,536 point.
-#[derive(Drop)]
+#[derive(Clone, Copy)]
 pub struct Units(pub i64);
 
 // The distance that the 32 bits of a Fixed say.

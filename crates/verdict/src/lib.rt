@@ -1,4 +1,5 @@
 // Whether an action fires (document 01, "Verdicts"). A limit in ems and a growth in units meet only through `units::factor`.
+#![tactic(auto)]
 ghost use Rattle.std.specs.Prelude.{◌≡◌, ◌≤◌, length, drop};
 ghost use Rattle.fields.specs.Field.{u32_at};
 ghost use Rattle.units.specs.Fixed.{fixed_of};
@@ -7,7 +8,7 @@ ghost use Rattle.verdict.specs.Verdict.{below, above, breaks, adds, substitutes,
 use units::{Ems, Units};
 
 // What an action does at a growth. Only type 2 substitutes.
-#[derive(Drop)]
+#[derive(Clone, Copy)]
 pub enum Fires {
     No,
     Plain,

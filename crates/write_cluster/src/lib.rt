@@ -2,6 +2,7 @@
 // whether two positions hold the same one and which comes earlier, a number that tells where to look for it, and storing
 // it into lent bytes. Two clusters are the same when they are written alike, whatever their ignored bits and the signs of
 // their shrink limits.
+#![tactic(auto)]
 ghost use Rattle.std.specs.Prelude.{◌≡◌, ◌++◌, ◌+◌, ◌*◌, ◌<◌, ◌^◌, length};
 ghost use Rattle.std.proofs.lemmas.List.Edits.{sets};
 ghost use Rattle.fields.specs.Field.{be16, be32};

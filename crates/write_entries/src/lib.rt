@@ -1,6 +1,7 @@
 // Sections 3 and 4 of a sheet for the machine of a table (document 01, "The sheet"): an array of 256 numbers, cleared
 // first, maps stored entry numbers to sheet numbers while rows are walked. Entries are distinct by row number and
 // flags, not by stored number.
+#![tactic(auto)]
 ghost use Rattle.std.specs.Prelude.{◌≡◌, ◌+◌, ◌*◌, ◌≤◌, ◌<◌, ◌^◌, length};
 ghost use Rattle.std.proofs.lemmas.List.Edits.{sets};
 ghost use Rattle.encoding.specs.Codes.{many};

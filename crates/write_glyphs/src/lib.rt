@@ -1,5 +1,6 @@
 // What the glyphs have, clusters or action lists, numbered in order of first use (document 01, "The sheet", sections 5 to
 // 8), in one pass over the lookup: by stretches of glyphs that have the same.
+#![tactic(auto)]
 ghost use Rattle.std.specs.Prelude.{◌≡◌, ◌+◌, ◌*◌, ◌≤◌, ◌<◌, ◌^◌, length};
 ghost use Rattle.fields.specs.declared.Fault.TheVariants.{Clear};
 ghost use Rattle.fields.specs.Field.{u16_at};
@@ -150,7 +151,7 @@ fn stretch_end(
 
 // How far a pass over the glyphs came: how many stretches of glyphs that have the same item it found, how many distinct
 // items, and the first glyph after them.
-#[derive(Drop)]
+#[derive(Clone, Copy)]
 pub struct Pass {
     pub stretches: usize,
     pub items: usize,
@@ -158,7 +159,7 @@ pub struct Pass {
 }
 
 // Where a pass stands: how far it came, and the cursor for the glyphs after that.
-#[derive(Drop)]
+#[derive(Clone, Copy)]
 struct Way {
     stretches: usize,
     items: usize,

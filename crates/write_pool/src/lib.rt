@@ -1,6 +1,7 @@
 // Sections 5 and 6, or 7 and 8, of a sheet for a table (document 01, "The sheet"): the glyphs' clusters or lists are
 // numbered by stretches of glyphs that have the same, and stored from the numbers. What would stand past the end of
 // the lent bytes is dropped, so that the sections are sized by storing them into nothing.
+#![tactic(auto)]
 ghost use Rattle.std.specs.Prelude.{◌≡◌, ◌++◌, ◌+◌, ◌*◌, ◌%◌, ◌≤◌, ◌<◌, ◌^◌, length};
 ghost use Rattle.std.proofs.lemmas.List.Edits.{sets};
 ghost use Rattle.fields.specs.Field.{u16_at, be32};
@@ -54,7 +55,7 @@ fn put_sections(
 
 // What is stored: the sections of a kind for `glyphs` glyphs, by the lookup at `at` whose values are offsets from `base`; and
 // from where on.
-#[derive(Drop)]
+#[derive(Clone, Copy)]
 struct Pool {
     glyphs: usize,
     kind: Kind,
