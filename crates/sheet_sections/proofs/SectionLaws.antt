@@ -21,12 +21,12 @@ says-yes {b} P e h = subst (λ (t : Bool). Says t P) e h
 pub says-no : {b : Bool} (P : Type 0) → b ≡ false → Says b P → P → ⊥
 says-no {b} P e h = subst (λ (t : Bool). Says t P) e h
 
--- and what its opposite says
-pub failed : (b : Bool) (P : Type 0) → not b ≡ true → Says b P → P → ⊥
+-- and what a branch on its opposite says
+pub failed : (b : Bool) (P : Type 0) → b ≡ false → Says b P → P → ⊥
 failed true P e h = let z : ◌≡◌ {A = ℕ} 0 1 = cc in absurd (omega arith)
 failed false P e h = h
 
-pub passed : (b : Bool) (P : Type 0) → not b ≡ false → Says b P → P
+pub passed : (b : Bool) (P : Type 0) → b ≡ true → Says b P → P
 passed true P e h = h
 passed false P e h = let z : ◌≡◌ {A = ℕ} 0 1 = cc in absurd (omega arith)
 

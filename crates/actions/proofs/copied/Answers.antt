@@ -1,0 +1,20 @@
+use Rattle.encoding.specs.Upto.{from}
+use borrow.Author.Rules.{rules}
+use mathlib.Core.Path.{◌≡◌, refl, ◌∙◌}
+use native.Mathlib.Omega.{arith}
+use lib.ListN.{replicate}
+use mathlib.Core.List.{◌++◌}
+use Prim.Native.Nat.{◌-◌, ◌≤◌}
+use Rattle.actions.specs.Actions.{bytes_at}
+use Rattle.actions.proofs.Copies.{fill-again, fill_end}
+use Rattle.actions.proofs.copied.Goals as goal
+
+pub loop-i-init : goal.loop-i-init
+unfolding bytes_at from
+loop-i-init c = (refl, omega arith)
+
+pub loop-i-preserved : goal.loop-i-preserved
+loop-i-preserved c = (fill-again _ _ _ _ _ c.loop-i.invariant.0 (omega arith) c.u8_at.ensures.0, omega arith)
+
+pub returns : goal.returns
+returns c = let e : c.loop-i.i ≡ c.args.size = omega arith in c.loop-i.invariant.0 ∙ fill_end _ _ _ _ e

@@ -1,0 +1,14 @@
+-- `actions::glyphs_fault` meets its contract.
+use borrow.Author.Rules.{rules}
+use mathlib.Core.Path.{◌≡◌, refl, sym, ◌∙◌}
+use native.Mathlib.Omega.{arith}
+use Rattle.fields.specs.Walk.{walk-stop, walk-next, walk_none}
+use Rattle.actions.specs.Faults.{glyphs_fault}
+use Rattle.actions.proofs.Steps.{glyph-inside}
+use Rattle.actions.proofs.glyphs_fault.Given as goal
+
+abbrev pub invariant-loop-left : goal.invariant-loop-left
+invariant-loop-left l = glyphs_fault l.table l.glyphs l.count l.first ≡ glyphs_fault l.table l.glyphs l.left l.at
+
+abbrev pub decreases-loop-left : goal.decreases-loop-left
+decreases-loop-left l = l.left

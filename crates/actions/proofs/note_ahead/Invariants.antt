@@ -1,0 +1,19 @@
+-- `actions::note_ahead` meets its contract.
+use Rattle.actions.proofs.Notes.{none-passing, both-passing, ahead-passing, first-clear, rest-clear}
+use Rattle.actions.proofs.Steps.{action-begins}
+use Rattle.actions.specs.Notes.{Passing}
+use Rattle.actions.specs.Faults.{actions_fault}
+use Rattle.fields.specs.declared.Fault.TheVariants.{Clear}
+use native.Mathlib.Omega.{arith}
+use mathlib.Core.Path.{◌≡◌, refl, ap}
+use Prim.Native.Nat.{ℕ, ◌+◌}
+use lib.ListN.{length}
+use borrow.Author.Rules.{rules}
+use Rattle.actions.proofs.note_ahead.Given as goal
+
+abbrev pub invariant-loop-left : goal.invariant-loop-left
+invariant-loop-left l =
+    (actions_fault l.table l.glyphs l.left l.at ≡ Clear) × Passing l.table l.glyphs l.initial.judged l.judged × (length l.judged ≡ length l.initial.judged)
+
+abbrev pub decreases-loop-left : goal.decreases-loop-left
+decreases-loop-left l = l.left

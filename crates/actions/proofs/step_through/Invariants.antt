@@ -1,0 +1,22 @@
+-- `actions::step_through` meets its contract.
+use Rattle.actions.proofs.Notes.{none-passing, both-passing, one-passing, known-clear, known-all, none_yet, passed-all, passed-next}
+use Rattle.actions.proofs.Steps.{action-begins}
+use Rattle.actions.specs.Notes.{Passing}
+use Rattle.actions.specs.Faults.{actions_fault}
+use native.Mathlib.Omega.{arith}
+use mathlib.Core.Path.{◌≡◌, refl, ap, ◌∙◌}
+use Prim.Native.Nat.{ℕ, ◌+◌, ◌-◌, ◌/◌, ◌≤◌, ◌^◌}
+use lib.ListN.{length}
+use borrow.Author.Rules.{rules}
+use Rattle.actions.proofs.step_through.Given as goal
+
+abbrev pub invariant-loop-passed : goal.invariant-loop-passed
+invariant-loop-passed l =
+    ((k : ℕ) → actions_fault l.table l.glyphs (l.passed + k) l.first ≡ actions_fault l.table l.glyphs k l.at)
+    × (l.at ≤ length l.table + 2 ^ 32)
+    × Passing l.table l.glyphs l.initial.judged l.judged
+    × (length l.judged ≡ length l.initial.judged)
+    × (l.over ≤ l.passed)
+
+abbrev pub decreases-loop-passed : goal.decreases-loop-passed
+decreases-loop-passed l = l.most - l.passed

@@ -1,0 +1,39 @@
+-- `class_walk::walk_line` meets its contract. Assumes nothing.
+use Prim.Native.Nat.{ℕ, ◌+◌, ◌-◌, ◌*◌, ◌≤◌, ◌<◌, ◌^◌}
+use mathlib.Core.Bool.{Bool, cond}
+use mathlib.Core.List.{List}
+use mathlib.Core.Path.{◌≡◌, refl, sym, ap, ◌∙◌}
+use native.Mathlib.Omega.{arith}
+use lib.ListN.{length, length-map, length-replicate}
+use borrow.Author.Rules.{rules}
+use Rattle.class_walk.proofs.Line.{fits-of}
+use Rattle.class_walk.proofs.Loop.{conf_of, Entered, entered, entered-length, keeps-first, keeps-stays, keeps-moves, keeps-stops, keeps-never, count_small, stops_true, stops_false, met-flags, met-base}
+use Rattle.class_walk.proofs.Theory.{At, column-low}
+use Rattle.types.specs.declared.Entry.{Entry}
+use Rattle.machine.specs.Cells.{cell_at, class_count}
+use Rattle.class_walk.specs.Line.{machine_at, line_of, line_column, line_columns, row_place, SoundMachine, Columns}
+use Rattle.class_walk.specs.Walk.{Machine, Line, Fits, glyphs, column_at}
+use Rattle.units.specs.Flags.{stays}
+use Rattle.class_walk.proofs.walk_line.Given as goal
+
+-- a line of glyphs, as the machine at `here` has it
+abbrev pub line_by : List ℕ → ℕ → List ℕ → Bool → Bool → Line
+line_by table here glyphs starts ends = line_of (line_columns table here glyphs) starts ends
+
+-- the row at hand
+abbrev pub row : tie.In-loop invariant-loop decreases-loop → ℕ
+row i = i.before.loop.invariant.0
+
+pub stands : (i : tie.In-loop invariant-loop decreases-loop) → let l = i.before.loop in At (machine_of i) (line_in i) 256 (conf_of (line_in i) (row i) l.place l.mark l.classes l.count) l.spent
+stands i = i.before.loop.invariant.2
+
+-- the row at hand is known by where it stands, and the class at the place is at hand
+abbrev pub invariant-loop-spent : goal.invariant-loop-spent
+invariant-loop-spent l =
+    (row : ℕ) × ((l.base ≡ row_place l.table l.here row) × (l.base < 2 ^ 34))
+    × At (machine_at l.table l.here) (line_by l.table l.here l.glyphs l.starts l.ends) 256 (conf_of (line_by l.table l.here l.glyphs l.starts l.ends) row l.place l.mark l.classes l.count) l.spent
+    × (l.column ≡ column_at (line_columns l.table l.here l.glyphs) l.ends l.place)
+
+abbrev pub decreases-loop-spent : goal.decreases-loop-spent
+decreases-loop-spent l =
+    (length l.glyphs + 1 - l.place) * 257 + (256 - l.spent)

@@ -1,0 +1,6 @@
+-- `cluster::kept_at` meets its contract.
+use borrow.Author.Rules.{rules}
+use Rattle.cluster.proofs.kept_at.Goals as goal
+
+pub returns : goal.returns
+returns c = cc

@@ -1,0 +1,17 @@
+-- `diff_clusters::put_records` meets its contract.
+use Rattle.diff_clusters.proofs.Laws.{Put, put_all, put-more, put-end}
+use Rattle.diff_rule.specs.Order.{all_numbers}
+use Rattle.fields.specs.Stores.{put-length}
+use native.Mathlib.Omega.{arith}
+use Prim.Native.Nat.{◌+◌, ◌*◌, ◌≤◌, ◌<◌, ◌^◌}
+use mathlib.Core.Path.{refl}
+use borrow.Author.Rules.{rules}
+use Rattle.diff_clusters.proofs.put_records.Given as goal
+
+abbrev pub invariant-loop-ones : goal.invariant-loop-ones
+invariant-loop-ones l =
+    (l.ones.at + 24 * l.ones.count < 2 ^ 59) × (l.others.at + 24 * l.others.count < 2 ^ 59) × (l.end + 6 * (l.ones.count + l.others.count) ≤ l.to + 2 ^ 36)
+    × Put l.one l.other l.first l.second l.ones l.others l.direction l.glyph l.initial.list l.list l.to l.end
+
+abbrev pub decreases-loop-ones : goal.decreases-loop-ones
+decreases-loop-ones l = l.ones.count + l.others.count

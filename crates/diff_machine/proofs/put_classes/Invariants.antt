@@ -1,0 +1,22 @@
+-- `diff_machine::put_classes` meets its contract.
+use Rattle.diff_machine.proofs.Laws.{classes-whole}
+use Rattle.diff_machine.specs.Machines.{class_differs}
+use Rattle.diff_rule.specs.declared.Aspect.TheVariants.{Class}
+use Rattle.diff_rule.proofs.Filled.{Filled, filled_none, filled_next, filled-all, filled-length}
+use Rattle.diff_rule.proofs.Stored.{stores-other}
+use Rattle.diff_rule.specs.Differences.{noted}
+use Rattle.diff_rule.specs.declared.Difference.{Difference}
+use Rattle.diff_rule.specs.declared.Mark.{Mark}
+use Prim.Native.Nat.{ℕ, ◌+◌, ◌-◌, ◌*◌, ◌≤◌, ◌<◌}
+use native.Mathlib.Omega.{arith}
+use mathlib.Core.Option.{Option}
+use mathlib.Core.List.{List}
+use mathlib.Core.Path.{◌≡◌, ap}
+use Rattle.diff_machine.proofs.put_classes.Given as goal
+
+abbrev pub invariant-loop-glyph : goal.invariant-loop-glyph
+invariant-loop-glyph l =
+    (l.span.from ≤ l.glyph) × (l.glyph ≤ l.span.until) × (l.at ≤ l.to + 6 * l.glyph) × Filled (class_differs l.one l.other l.machines) l.initial.list l.list l.to l.at l.span.from l.glyph
+
+abbrev pub decreases-loop-glyph : goal.decreases-loop-glyph
+decreases-loop-glyph l = l.span.until - l.glyph

@@ -1,0 +1,14 @@
+-- `fields::u8_at` meets its contract.
+use lib.ListN.{get_or-eq_default}
+use native.Mathlib.Omega.{arith}
+use borrow.Author.Rules.{rules}
+use Rattle.fields.proofs.u8_at.Goals as goal
+
+pub overflow_cast-result : goal.overflow_cast-result
+overflow_cast-result c = omega (arith, c.shared_slice_known-1.given c.args.at)
+
+pub returns-then-at-bytes : goal.returns-then-at-bytes
+returns-then-at-bytes c = (search rules, omega (arith, c.shared_slice_known-1.given c.args.at))
+
+pub returns-else-at-bytes : goal.returns-else-at-bytes
+returns-else-at-bytes c = omega (arith, get_or-eq_default c.args.bytes.now 0 c.if-at-bytes.false)

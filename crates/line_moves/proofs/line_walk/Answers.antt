@@ -1,0 +1,37 @@
+-- `line_moves::line_walk` meets its contract.
+use Prim.Native.Nat.{ℕ, ◌+◌, ◌<◌, ◌^◌}
+use mathlib.Core.List.{List}
+use mathlib.Core.Path.{sym, ap, ◌∙◌}
+use native.Mathlib.Omega.{arith}
+use borrow.Author.Rules.{rules}
+use Rattle.class_walk.specs.Walk.{stopped}
+use Rattle.class_walk.proofs.Line.{handed-stopped, handed-same}
+use Rattle.line_moves.proofs.Walks.{no_walk_lem, a-walk, machine-clear, sound, columns}
+use Rattle.line_moves.proofs.line_walk.Goals as goal
+
+pub returns-then-offset-eq0 : goal.returns-then-offset-eq0
+returns-then-offset-eq0 c =
+    let a = c.args in
+    let m = c.machine_in-offset in
+    handed-stopped a.classes.now 0
+    (no_walk_lem a.table.now a.count a.shape.direction m.result m.ensures.0 c.if-offset-eq0.true a.glyphs.now a.shape.starts a.shape.ends
+    ∙ ap (λ (cs : List ℕ). stopped cs 0) (sym c.requires.known_glyphs.1))
+
+pub walk_line-requires : goal.walk_line-requires
+walk_line-requires c =
+    let a = c.args in
+    let p = c.requires in
+    let m = c.machine_in-offset in
+    let o = m.result in
+    let clear = machine-clear a.table.now a.count a.shape.direction o m.ensures.0 p.count_value.0 c.if-offset-eq0.false in
+    let near : o + 8 < 2 ^ 32 = omega (arith, m.ensures.1) in
+    record { sound_machine = (sound a.table.now a.count (o + 8) near clear, columns a.table.now a.count (o + 8) near clear a.glyphs.now p.count_value.1 p.known_glyphs.0);  classes_value = p.known_glyphs.1 }
+
+pub returns : goal.returns
+returns c =
+    let a = c.args in
+    let p = c.requires in
+    let m = c.machine_in-offset in
+    handed-same
+    (a-walk a.table.now a.count a.shape.direction m.result m.ensures.0 c.if-offset-eq0.false (omega (arith, m.ensures.1)) p.count_value.0 a.glyphs.now p.count_value.1 p.known_glyphs.0 a.shape.starts a.shape.ends)
+    c.walk_line.ensures

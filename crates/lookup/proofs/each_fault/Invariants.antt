@@ -1,0 +1,13 @@
+-- `lookup::each_fault` meets its contract.
+use borrow.Author.Rules.{rules}
+use mathlib.Core.Path.{◌≡◌, refl, sym, ◌∙◌, ap}
+use Prim.Native.Nat.{ℕ, ◌+◌, ◌*◌, ◌<◌, ◌^◌}
+use Rattle.fields.specs.Walk.{walk-stop, walk-next, walk_none}
+use Rattle.lookup.specs.Units.{units_fault}
+use Rattle.lookup.proofs.each_fault.Given as goal
+
+abbrev pub invariant-loop-left : goal.invariant-loop-left
+invariant-loop-left l = (units_fault l.table l.format l.count l.start l.from ≡ units_fault l.table l.format l.left l.p l.least) × (l.p + 6 * l.left < 2 ^ 40)
+
+abbrev pub decreases-loop-left : goal.decreases-loop-left
+decreases-loop-left l = l.left

@@ -1,0 +1,22 @@
+-- `lookup_targets::places_fault` meets its contract.
+use Rattle.lookup_targets.proofs.Laws.{part-passed, part-known, part-stops, each-noted, along-noted, noted-ahead}
+use Rattle.lookup_targets.specs.Values.{place_fault, Judged, Ahead}
+use Rattle.fields.specs.Walk.{each, walk_none}
+use native.Mathlib.Omega.{arith}
+use mathlib.Core.Path.{◌≡◌, refl, sym, ◌∙◌}
+use Prim.Native.Nat.{◌+◌, ◌*◌}
+use lib.ListN.{length}
+use borrow.Author.Rules.{rules}
+use Rattle.lookup_targets.proofs.places_fault.Given as goal
+
+abbrev pub invariant-loop-left : goal.invariant-loop-left
+invariant-loop-left l =
+    (each (place_fault l.table l.glyphs l.kind l.base) (λ q. q + 2) l.count l.place ≡ each (place_fault l.table l.glyphs l.kind l.base) (λ q. q + 2) l.left l.p)
+    × Judged l.table l.glyphs l.judged
+    × (length l.judged ≡ length l.initial.judged)
+    × (l.p + 2 * l.left ≡ l.place + 2 * l.count)
+    × Ahead l.table l.glyphs l.kind l.base l.ahead
+    × (length l.ahead ≡ length l.initial.ahead)
+
+abbrev pub decreases-loop-left : goal.decreases-loop-left
+decreases-loop-left l = l.left

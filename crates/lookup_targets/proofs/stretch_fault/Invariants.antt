@@ -1,0 +1,20 @@
+-- `lookup_targets::stretch_fault` meets its contract.
+use borrow.Author.Rules.{rules}
+use lib.ListN.{length}
+use native.Mathlib.Omega.{arith}
+use Rattle.fields.specs.Walk.{each, walk-stop, walk-next, walk_none}
+use Prim.Native.Nat.{◌+◌, ◌*◌, ◌<◌, ◌^◌}
+use Rattle.lookup_targets.specs.Values.{place_fault, Judged}
+use Rattle.lookup_targets.proofs.Laws.{each-told}
+use mathlib.Core.Path.{◌≡◌, refl, sym, ◌∙◌}
+use Rattle.lookup_targets.proofs.stretch_fault.Given as goal
+
+abbrev pub invariant-loop-left : goal.invariant-loop-left
+invariant-loop-left l =
+    (each (place_fault l.table l.glyphs l.kind l.base) (λ q. q + 2) l.count l.place ≡ each (place_fault l.table l.glyphs l.kind l.base) (λ q. q + 2) l.left l.p)
+    × Judged l.table l.glyphs l.judged
+    × (length l.judged ≡ length l.initial.judged)
+    × (l.p + 2 * l.left < 2 ^ 50)
+
+abbrev pub decreases-loop-left : goal.decreases-loop-left
+decreases-loop-left l = l.left

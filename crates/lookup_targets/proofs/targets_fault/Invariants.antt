@@ -1,0 +1,23 @@
+-- `lookup_targets::targets_fault` meets its contract.
+use borrow.Author.Rules.{rules}
+use lib.ListN.{length}
+use native.Mathlib.Omega.{arith}
+use Rattle.lookup.specs.Pass.{Serves}
+use Rattle.fields.specs.Laws.{then-stop, then-go}
+use Rattle.fields.specs.Walk.{each, walk_none}
+use Prim.Native.Nat.{◌+◌, ◌-◌}
+use Rattle.lookup_targets.specs.Values.{target_fault, Judged, Ahead}
+use Rattle.lookup_targets.proofs.Laws.{run_end, run-judged, all_left}
+use mathlib.Core.Path.{◌≡◌, refl, sym, ◌∙◌}
+use Rattle.lookup_targets.proofs.targets_fault.Given as goal
+
+abbrev pub invariant-loop-glyph : goal.invariant-loop-glyph
+invariant-loop-glyph l =
+    (each (target_fault l.table l.glyphs l.kind l.at l.base) (λ g. g + 1) l.glyphs 0 ≡ each (target_fault l.table l.glyphs l.kind l.at l.base) (λ g. g + 1) (l.glyphs - l.glyph) l.glyph)
+    × Serves l.table l.at l.glyph l.cursor
+    × (Judged l.table l.glyphs l.judged × Ahead l.table l.glyphs l.kind l.base l.ahead)
+    × (length l.judged ≡ length l.initial.judged)
+    × (length l.ahead ≡ length l.initial.ahead)
+
+abbrev pub decreases-loop-glyph : goal.decreases-loop-glyph
+decreases-loop-glyph l = l.glyphs - l.glyph

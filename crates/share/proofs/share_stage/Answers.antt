@@ -1,0 +1,41 @@
+-- `share::share_stage` meets its contract.
+use native.Mathlib.Omega.{arith}
+use borrow.Author.Rules.{rules}
+use Rattle.share.specs.Sides.{factors_at, extras_at}
+use Rattle.share.proofs.Giving.{length-factors_at, length-extras_at}
+use Rattle.share.proofs.Stages.{past-holds, stage-none, stage-within, stage-free, stage-past}
+use Rattle.share.proofs.share_stage.Goals as goal
+
+pub returns-then-left-eq0 : goal.returns-then-left-eq0
+returns-then-left-eq0 c = let a = c.args in
+    let p = c.requires in
+    let both = stage-none (factors_at a.stage a.sides.now a.factors.now) (extras_at a.stage a.sides.now) a.moves.now
+    (omega (arith, p.sides.1.equal, length-factors_at a.stage p.sides.0)) (omega (arith, p.sides.1.equal, length-extras_at a.stage a.sides.now)) c.if-left-eq0.true in
+    record { value = both.0; moves_after = both.1 }
+
+pub returns-then-left-over : goal.returns-then-left-over
+returns-then-left-over c = let a = c.args in
+    let both = stage-within (factors_at a.stage a.sides.now a.factors.now) a.moves.now c.requires.over_value.0 (extras_at a.stage a.sides.now) c.if-left-over.true c.give.ensures in
+    record { value = both.0; moves_after = both.1 }
+
+pub returns-then-unlimited-eq0 : goal.returns-then-unlimited-eq0
+returns-then-unlimited-eq0 c = let a = c.args in
+    let p = c.requires in
+    let g = c.give_all-unlimited in
+    let both = stage-free (factors_at a.stage a.sides.now a.factors.now) a.moves.now p.over_value.0 c.if-left-over.false (extras_at a.stage a.sides.now)
+    (omega (arith, g.ensures.value.0, c.if-unlimited-eq0.true)) (omega (arith, g.auto, p.sides.1.equal, length-extras_at a.stage a.sides.now)) g.ensures.moves_after in
+    record { value = both.0; moves_after = both.1 }
+
+pub give-requires-2 : goal.give-requires-2
+give-requires-2 c = let a = c.args in
+    let p = c.requires in
+    let g = c.give_all-unlimited in
+    let f = factors_at a.stage a.sides.now a.factors.now in record { sides = (p.sides.0, past-holds f a.moves.now p.over_value.0 c.if-left-over.false p.sides.1 (omega (arith, g.auto)) g.ensures.moves_after);  over_value = (g.ensures.value.0, g.ensures.value.1, omega (arith, c.if-unlimited-eq0.false)) }
+
+pub returns : goal.returns
+returns c = let a = c.args in
+    let p = c.requires in
+    let g = c.give_all-unlimited.ensures in
+    let both = stage-past (factors_at a.stage a.sides.now a.factors.now) a.moves.now p.over_value.0 c.if-left-over.false (extras_at a.stage a.sides.now)
+    (omega (arith, g.0.0, c.if-unlimited-eq0.false)) g.1 c.give-2.ensures in
+    record { value = both.0; moves_after = both.1 }

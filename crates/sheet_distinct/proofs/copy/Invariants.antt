@@ -1,0 +1,15 @@
+-- `sheet_distinct::copy` meets its contract. The loop's invariant: what is filled, and what is left of the source, is the source. Assumes nothing.
+use Prim.Native.Nat.{◌-◌, ◌≤◌}
+use mathlib.Core.Path.{◌≡◌, refl, sym, ◌∙◌}
+use mathlib.Core.List.{◌++◌}
+use native.Mathlib.Omega.{arith}
+use lib.ListN.{length, take, drop, length-set, drop_of_length-le}
+use Rattle.sheet_distinct.proofs.MergeLaws.{fill-again, fill_end}
+use Rattle.sheet_distinct.proofs.RisingLaws.{copy-next}
+use Rattle.sheet_distinct.proofs.copy.Given as goal
+
+abbrev pub invariant-loop-k : goal.invariant-loop-k
+invariant-loop-k l = (length l.dst ≡ length l.src) × (l.k ≤ length l.src) × (take l.k l.dst ++ drop l.k l.src ≡ l.src)
+
+abbrev pub decreases-loop-k : goal.decreases-loop-k
+decreases-loop-k l = length l.src - l.k

@@ -1,0 +1,13 @@
+-- `sheet_list::all_below` meets its contract. The loop's invariant: the glyphs that were passed are below. Assumes nothing.
+use Prim.Native.Nat.{◌-◌, ◌≤◌}
+use native.Mathlib.Omega.{arith}
+use Rattle.sheet_list.specs.Action.{AllBelow}
+use Rattle.sheet_list.proofs.ContentLaws.{below_more}
+use borrow.Author.Rules.{rules}
+use Rattle.sheet_list.proofs.all_below.Given as goal
+
+abbrev pub invariant-loop-k : goal.invariant-loop-k
+invariant-loop-k l = (l.k ≤ l.count) × AllBelow l.bytes l.at l.k l.glyphs
+
+abbrev pub decreases-loop-k : goal.decreases-loop-k
+decreases-loop-k l = l.count - l.k

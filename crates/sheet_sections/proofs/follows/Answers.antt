@@ -1,0 +1,7 @@
+-- `sheet_sections::follows` meets its contract, test by test. Assumes nothing.
+use native.Mathlib.Omega.{arith}
+use borrow.Author.Rules.{rules}
+use Rattle.sheet_sections.proofs.follows.Goals as goal
+
+pub returns-then-value-held : goal.returns-then-value-held
+returns-then-value-held c = λ h. h.maximal (omega (arith, c.if-first-from-2.true)) (omega (arith, c.if-value-held.true))

@@ -1,0 +1,15 @@
+-- `sheet_write::copy_front` meets its contract.
+use Prim.Native.Nat.{ℕ, ◌-◌, ◌≤◌}
+use mathlib.Core.Path.{◌≡◌, ap, ◌∙◌, refl}
+use mathlib.Core.List.{◌++◌}
+use native.Mathlib.Omega.{arith}
+use lib.ListN.{length, get_or, take, drop, length-set}
+use Rattle.sheet_write.proofs.Laws.{copied_more}
+use borrow.Author.Rules.{rules}
+use Rattle.sheet_write.proofs.copy_front.Given as goal
+
+abbrev pub invariant-loop-i : goal.invariant-loop-i
+invariant-loop-i l = (l.i ≤ l.count) × (length l.room ≡ length l.initial.room) × (l.room ≡ take l.i l.bytes ++ drop l.i l.initial.room)
+
+abbrev pub decreases-loop-i : goal.decreases-loop-i
+decreases-loop-i l = l.count - l.i

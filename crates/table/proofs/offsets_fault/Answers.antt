@@ -1,0 +1,9 @@
+-- `table::offsets_fault` meets its contract.
+use Rattle.table.specs.Table.{offsets_fault}
+use Rattle.fields.specs.Laws.{then-of}
+use borrow.Author.Rules.{rules}
+use Rattle.table.proofs.offsets_fault.Goals as goal
+
+pub returns : goal.returns
+unfolding offsets_fault
+returns c = then-of c.then-2.ensures c.in_table-machine_in.ensures (then-of c.then.ensures c.in_table-widths_in.ensures c.in_table-actions_in.ensures)

@@ -1,0 +1,11 @@
+-- `table_ask::ask_sizes` meets its contract.
+use Rattle.table_ask.proofs.Steps.{judged}
+use mathlib.Core.Path.{sym, ◌∙◌}
+use borrow.Author.Rules.{rules}
+use Rattle.table_ask.proofs.ask_sizes.Goals as goal
+
+pub returns-in-Clear : goal.returns-in-Clear
+returns-in-Clear c = c.sizes_of.ensures ∙ judged _ (sym c.in-Clear.is ∙ c.table_fault.ensures)
+
+pub returns-in-Bad : goal.returns-in-Bad
+returns-in-Bad c = judged _ (sym c.in-Bad.is ∙ c.table_fault.ensures)

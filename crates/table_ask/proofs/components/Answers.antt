@@ -1,0 +1,14 @@
+-- `table_ask::components` meets its contract.
+use Rattle.table_ask.proofs.Laws.{Within, components-within}
+use Rattle.table_ask.specs.Components.{stretch}
+use native.Mathlib.Omega.{arith}
+use mathlib.Core.Path.{sym, subst}
+use borrow.Author.Rules.{rules}
+use Rattle.table_ask.proofs.components.Goals as goal
+
+pub slice_bounds-result-count : goal.slice_bounds-result-count
+slice_bounds-result-count c = let w = subst (Within _) (sym c.component_stretch-list.ensures) (components-within _ _ _ _ _) in omega arith
+
+pub returns : goal.returns
+unfolding stretch
+returns c = (rw c.component_stretch-list.ensures, rw c.component_stretch-list.ensures)

@@ -1,0 +1,10 @@
+-- `units::priority` meets its contract.
+use native.Mathlib.Omega.{arith}
+use lib.Bits.{and_mask}
+use Rattle.units.proofs.priority.Goals as goal
+
+pub overflow_cast-result : goal.overflow_cast-result
+overflow_cast-result c = omega (arith, and_mask c.args.flags 4)
+
+pub returns : goal.returns
+returns c = (and_mask c.args.flags 4, omega (arith, and_mask c.args.flags 4))

@@ -1,0 +1,15 @@
+-- `write_glyphs::known_values` meets its contract.
+use borrow.Author.Rules.{rules}
+use Rattle.write_glyphs.proofs.Laws.{carries-here, lead-more, lead-alike}
+use Rattle.write_glyphs.specs.Places.{Lead}
+use native.Mathlib.Omega.{arith}
+use mathlib.Core.Path.{refl}
+use Prim.Native.Nat.{◌-◌, ◌≤◌}
+use Rattle.write_glyphs.proofs.known_values.Given as goal
+
+abbrev pub invariant-loop-values : goal.invariant-loop-values
+invariant-loop-values l =
+    (l.values ≤ l.count) × Lead l.kind l.table l.base l.seen l.place l.number l.values
+
+abbrev pub decreases-loop-values : goal.decreases-loop-values
+decreases-loop-values l = l.count - l.values

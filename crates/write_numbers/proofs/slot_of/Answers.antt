@@ -1,0 +1,15 @@
+-- `write_numbers::slot_of` meets its contract.
+use Prim.Native.Nat.{ℕ, ◌%◌}
+use mathlib.Core.Path.{ap}
+use native.Mathlib.Nat.{mod-lt}
+use borrow.Author.Rules.{rules}
+use Rattle.write_numbers.proofs.slot_of.Reads as reads
+use Rattle.write_numbers.proofs.slot_of.Lts as lts
+use Rattle.write_item.proofs.item_hash.Reads as item-hash-reads
+use Rattle.write_numbers.proofs.slot_of.Goals as goal
+
+-- src/lib.rt:85:1
+pub returns : goal.returns
+returns c =
+    let a = c.args in
+    (ap (λ (n : ℕ). n % a.count) c.item_hash.ensures.0, mod-lt c.item_hash.result c.requires.1)
