@@ -23,4 +23,4 @@ pub returns-then-end-at : goal.returns-then-end-at
 returns-then-end-at c = λ h. absurd (omega arith)
 
 pub returns : goal.returns
-returns c = λ h. let size = c.u32_at-size.ensures.0 in let w = c.data_is_clear.ensures (not-false _ c.if-not-data_is_clear.false) in (action-clear _ _ _ _ _ _ c.if-table-at.false c.u16_at-class.ensures.0 c.u16_at-ty.ensures.0 size c.if-class-gt127.false c.if-ty-gt5.false w.0 c.if-end-at.false w.1, ap (λ (k : ℕ). c.args.at + k) size, omega (arith, c.if-table-at.false, c.u32_at-size.ensures.1))
+returns c = λ h. let size = c.u32_at-size.ensures.0 in let w = c.data_is_clear.ensures c.if-not-data_is_clear.false in (action-clear _ _ _ _ _ _ c.if-table-at.false c.u16_at-class.ensures.0 c.u16_at-ty.ensures.0 size c.if-class-gt127.false c.if-ty-gt5.false w.0 c.if-end-at.false w.1, ap (λ (k : ℕ). c.args.at + k) size, omega (arith, c.if-table-at.false, c.u32_at-size.ensures.1))

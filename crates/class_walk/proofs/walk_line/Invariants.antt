@@ -20,13 +20,6 @@ use Rattle.class_walk.proofs.walk_line.Given as goal
 abbrev pub line_by : List ℕ → ℕ → List ℕ → Bool → Bool → Line
 line_by table here glyphs starts ends = line_of (line_columns table here glyphs) starts ends
 
--- the row at hand
-abbrev pub row : tie.In-loop invariant-loop decreases-loop → ℕ
-row i = i.before.loop.invariant.0
-
-pub stands : (i : tie.In-loop invariant-loop decreases-loop) → let l = i.before.loop in At (machine_of i) (line_in i) 256 (conf_of (line_in i) (row i) l.place l.mark l.classes l.count) l.spent
-stands i = i.before.loop.invariant.2
-
 -- the row at hand is known by where it stands, and the class at the place is at hand
 abbrev pub invariant-loop-spent : goal.invariant-loop-spent
 invariant-loop-spent l =

@@ -23,4 +23,4 @@ pub returns-then-not-flags_are_clear : goal.returns-then-not-flags_are_clear
 returns-then-not-flags_are_clear c = λ h. absurd (omega arith)
 
 pub returns : goal.returns
-returns c = λ h. let class = c.pair_class-class.ensures.0 in (pair-clear _ _ _ _ (omega arith) class c.if-class-least.false (c.limits_are_clear.ensures (not-false _ c.if-not-limits_are_clear.false)) (c.limits_are_clear-2.ensures (not-false _ c.if-not-limits_are_clear-2.false)) (c.flags_are_clear.ensures (not-false _ c.if-not-flags_are_clear.false)), ap (λ (k : ℕ). k + 1) class)
+returns c = λ h. let class = c.pair_class-class.ensures.0 in (pair-clear _ _ _ _ (omega arith) class c.if-class-least.false (c.limits_are_clear.ensures c.if-not-limits_are_clear.false) (c.limits_are_clear-2.ensures c.if-not-limits_are_clear-2.false) (c.flags_are_clear.ensures c.if-not-flags_are_clear.false), ap (λ (k : ℕ). k + 1) class)

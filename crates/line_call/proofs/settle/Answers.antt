@@ -13,8 +13,7 @@ use Rattle.line_call.proofs.settle.Goals as goal
 pub returns-in-Bad : goal.returns-in-Bad
 returns-in-Bad c =
     let a = c.args in
-    let e = c.in-Bad.given in
-    (λ verdicts h. whole-bad a.table.now a.count (line_by a.shape a.sizes.now a.glyphs.now a.advances.now) a.classes.now a.before.now a.after.now e.0.0 e.0.1.0 c.input_fault-fault.ensures e.1 c.refused.ensures verdicts, tells-refused _ _ c.refused.ensures)
+    (λ verdicts h. whole-bad a.table.now a.count (line_by a.shape a.sizes.now a.glyphs.now a.advances.now) a.classes.now a.before.now a.after.now c.in-Bad.refusal c.in-Bad.at c.input_fault-fault.ensures c.in-Bad.is c.refused.ensures verdicts, tells-refused _ _ c.refused.ensures)
 
 pub slice_bounds-settle_with_room-end : goal.slice_bounds-settle_with_room-end
 slice_bounds-settle_with_room-end c =
@@ -43,5 +42,5 @@ returns c =
     let i = input-clear a.table.now a.count l a.classes.now a.before.now a.after.now f q in
     let n = length a.glyphs.now in
     let r = c.settle_with_room in
-    let e = r.auto.1.1.1.1.1.1.1.1.0 ∙ sym (part_length a.work.now (2 * n) (room-enough c.requires i.judged.short)) in
+    let e = r.auto.work ∙ sym (part_length a.work.now (2 * n) (room-enough c.requires i.judged.short)) in
     (whole-clear a.table.now a.count l a.classes.now a.before.now a.after.now r.result f q r.ensures, tells-longer {vs = verdicts_of (side_of a.shape.direction (meaning_of a.table.now a.count)) l} n r.new.work (drop (2 * n) a.work.now) e r.ensures.tells)

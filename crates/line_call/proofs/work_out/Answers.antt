@@ -12,28 +12,24 @@ use Rattle.line_call.proofs.work_out.Goals as goal
 pub returns-in_default : goal.returns-in_default
 returns-in_default c =
     let a = c.args in
-    let e = c.in_default.given in
-    counted-bad (side_in a.table.now a.call) a.call.count (called_line a.call a.sizes.now a.glyphs.now a.advances.now) a.call.room c.share_out-shared.ensures e.0.0 e.0.1.0 e.1
+    counted-bad (side_in a.table.now a.call) a.call.count (called_line a.call a.sizes.now a.glyphs.now a.advances.now) a.call.room c.share_out-shared.ensures c.in_default.field-0 c.in_default.field-1 c.in_default.is
 
 pub keep_verdicts-verdicts-requires : goal.keep_verdicts-verdicts-requires
 keep_verdicts-verdicts-requires c =
     let a = c.args in
     let p = c.requires in
     let o = c.share_out-shared in
-    let e = c.in-Done.given in
     let n = length a.glyphs.now in
-    let held = o.auto.1.1.1.1.1.0 ∙ ap length p.1.classes ∙ length-replicate n 0 in
-    let moves = o.auto.1.1.1.1.1.1.0 ∙ ap length p.1.moves ∙ length-replicate (2 * n) 0 in
-    (has-moves (side_in a.table.now a.call) a.call.count (called_line a.call a.sizes.now a.glyphs.now a.advances.now) a.call.room o.ensures e.0.0 e.1 a.sizes.now a.glyphs.now p.0 held moves, o.auto.1.1.1.1.1.1.1.0 ∙ p.1.work)
+    let held = o.auto.held ∙ ap length p.1.classes ∙ length-replicate n 0 in
+    let moves = o.auto.moves ∙ ap length p.1.moves ∙ length-replicate (2 * n) 0 in
+    (has-moves (side_in a.table.now a.call) a.call.count (called_line a.call a.sizes.now a.glyphs.now a.advances.now) a.call.room o.ensures c.in-Done.tally c.in-Done.is a.sizes.now a.glyphs.now p.0 held moves, o.auto.factors ∙ p.1.work)
 
 pub returns-then-call-verdicts : goal.returns-then-call-verdicts
 returns-then-call-verdicts c =
     let a = c.args in
-    let e = c.in-Done.given in
-    counted-short (side_in a.table.now a.call) a.call.count (called_line a.call a.sizes.now a.glyphs.now a.advances.now) a.call.room c.share_out-shared.ensures e.0.0 e.1 c.keep_verdicts-verdicts.ensures (omega (arith, c.if-call-verdicts.true)) c.barred.ensures
+    counted-short (side_in a.table.now a.call) a.call.count (called_line a.call a.sizes.now a.glyphs.now a.advances.now) a.call.room c.share_out-shared.ensures c.in-Done.tally c.in-Done.is c.keep_verdicts-verdicts.ensures (omega (arith, c.if-call-verdicts.true)) c.barred.ensures
 
 pub returns : goal.returns
 returns c =
     let a = c.args in
-    let e = c.in-Done.given in
-    counted-done (side_in a.table.now a.call) a.call.count (called_line a.call a.sizes.now a.glyphs.now a.advances.now) a.call.room c.share_out-shared.ensures e.0.0 e.1 c.keep_verdicts-verdicts.ensures (omega (arith, c.if-call-verdicts.false)) refl (as_read e.0.0.remainder c.struct_told-1.given.1.0.1) refl
+    counted-done (side_in a.table.now a.call) a.call.count (called_line a.call a.sizes.now a.glyphs.now a.advances.now) a.call.room c.share_out-shared.ensures c.in-Done.tally c.in-Done.is c.keep_verdicts-verdicts.ensures (omega (arith, c.if-call-verdicts.false)) refl (as_read c.in-Done.tally.remainder c.struct_told-1.given.1.0.1) refl

@@ -10,15 +10,6 @@ use Rattle.line_moves.proofs.Parts.{parts-count, part-plain, may-lay, comes-next
 use borrow.Author.Rules.{rules}
 use Rattle.line_moves.proofs.lay_parts.Goals as goal
 
-index-small : (i : tie.In-loop invariant-loop decreases-loop) → i.before.loop.i < 1024
-index-small i = omega arith
-
-layable : (c : tie.After-slice-known4 invariant-loop decreases-loop) → Layable (glyph_of c.before.before.before.before.before.before.before.part_of.result)
-layable c =
-    let a = c.before.before.before.before.before.before.before.before.before.before.before.before.before.before.before.before.before.before.before.before.before.args in
-    may-lay (side_of a.shape.direction (meaning_of a.table.now a.count)) a.shrink c.before.before.before.before.before.before.before.before.before.before.before.before.before.before.before.before.before.before.before.before.before.requires.0 _ c.before.before.before.before.before.before.before.before.before.before.before.before.before.loop.i (sought_pair c.before.before.before.before.before.before.before.before.before.record-for.result)
-    c.before.before.before.before.before.before.before.part_of.ensures c.before.before.before.before.before.before.before.before.before.record-for.ensures.1
-
 pub loop-i-init : goal.loop-i-init
 loop-i-init c =
     let a = c.args in
@@ -64,18 +55,26 @@ pub offset_bounds-sums-priority : goal.offset_bounds-sums-priority
 offset_bounds-sums-priority c = omega arith
 
 pub bounds-sums-priority : goal.bounds-sums-priority
-bounds-sums-priority c = (layable c).stage
+bounds-sums-priority c =
+    let a = c.args in
+    let w = may-lay (side_of a.shape.direction (meaning_of a.table.now a.count)) a.shrink c.requires.sharable _ c.loop-i.i (sought_pair c.record_for-sought.result) c.part_of-part.ensures c.record_for-sought.ensures.1 in
+    w.stage
 
 pub overflow_add-sums : goal.overflow_add-sums
 overflow_add-sums c =
-    let w = layable c in
-    record { fits = omega (arith, index-small c.before, w.before, w.after, c.lay_part.ensures.sum, c.loop-i.invariant.2.low c.part_of-part.result.priority w.stage) }
+    let a = c.args in
+    let w = may-lay (side_of a.shape.direction (meaning_of a.table.now a.count)) a.shrink c.requires.sharable _ c.loop-i.i (sought_pair c.record_for-sought.result) c.part_of-part.ensures c.record_for-sought.ensures.1 in
+    let small : c.loop-i.i < 1024 = omega arith in
+    record { fits = omega (arith, w.before, w.after, c.lay_part.ensures.sum, c.loop-i.invariant.2.low c.part_of-part.result.priority w.stage) }
 
 pub bounds-sums-priority-in-loop-i : goal.bounds-sums-priority-in-loop-i
-bounds-sums-priority-in-loop-i c = (layable c).stage
+bounds-sums-priority-in-loop-i c =
+    let a = c.args in
+    let w = may-lay (side_of a.shape.direction (meaning_of a.table.now a.count)) a.shrink c.requires.sharable _ c.loop-i.i (sought_pair c.record_for-sought.result) c.part_of-part.ensures c.record_for-sought.ensures.1 in
+    w.stage
 
 pub overflow_add-i : goal.overflow_add-i
-overflow_add-i c = record { fits = omega (arith, index-small c.before) }
+overflow_add-i c = omega arith
 
 pub loop-i-smaller : goal.loop-i-smaller
 loop-i-smaller c = omega arith
@@ -90,7 +89,7 @@ loop-i-preserved c =
     let e = c.part_of-part.ensures in
     let n = comes-next s a.shrink w _ l.i _ e c.record_for-sought.ensures.0 (omega arith) in
     let y = c.lay_part.ensures in
-    (omega arith, filling-on l.invariant.1 y (omega (arith, q)) n, summing_on l.invariant.2 (layable c) y.sum n)
+    (omega arith, filling-on l.invariant.1 y (omega (arith, q)) n, summing_on l.invariant.2 (may-lay s a.shrink w _ l.i (sought_pair c.record_for-sought.result) e c.record_for-sought.ensures.1) y.sum n)
 
 pub shape_of-sides : goal.shape_of-sides
 shape_of-sides c =

@@ -41,7 +41,7 @@ loop-glyph-preserved c =
       omega (arith, c.loop-glyph.invariant.0, w.begins, w.more),
       w.serves,
       c.loop-glyph.invariant.2
-          ∙ run-told a.table.now a.glyphs a.kind a.at a.base c.loop-glyph.glyph _ w c.requires.at_bound.1.1.0 c.if-glyphs-next.false c.if-next.false a.judged.now c.requires.judged.0 (c.is_judged.ensures (not-false _ c.if-not-is_judged.false)),
+          ∙ run-told a.table.now a.glyphs a.kind a.at a.base c.loop-glyph.glyph _ w c.requires.at_bound.1.1.0 c.if-glyphs-next.false c.if-next.false a.judged.now c.requires.judged.0 (c.is_judged.ensures c.if-not-is_judged.false),
     )
 
 pub returns : goal.returns

@@ -16,7 +16,7 @@ returns-then-not-is_judged c = (c.loop-left.invariant.0, c.loop-left.invariant.2
 pub loop-left-preserved : goal.loop-left-preserved
 loop-left-preserved c =
     let a = c.args in
-    (omega arith, omega arith, told-next a.place a.count c.loop-left.left c.loop-left.p c.loop-left.invariant.0 c.loop-left.invariant.1 c.loop-left.invariant.2 (c.is_judged.ensures (not-false _ c.if-not-is_judged.false)))
+    (omega arith, omega arith, told-next a.place a.count c.loop-left.left c.loop-left.p c.loop-left.invariant.0 c.loop-left.invariant.1 c.loop-left.invariant.2 (c.is_judged.ensures c.if-not-is_judged.false))
 
 pub returns : goal.returns
 returns c = (omega arith, λ i l. c.loop-left.invariant.2 i (omega arith))

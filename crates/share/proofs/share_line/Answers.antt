@@ -18,7 +18,7 @@ returns-then-back c = let a = c.args in
     let p = c.requires in
     let s = c.share_stages-left.ensures in
     let b = c.go_back.ensures in
-    whole p.sides.0 p.sides.1 a.gap s.0 s.1 a.back c.if-back.true b.0 b.1
+    whole p.sides.0 p.sides.1 a.gap s.value s.moves_after a.back c.if-back.true b.value b.moves_after
 
 pub returns : goal.returns
 returns c = let a = c.args in

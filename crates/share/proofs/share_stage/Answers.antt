@@ -37,5 +37,5 @@ returns c = let a = c.args in
     let p = c.requires in
     let g = c.give_all-unlimited.ensures in
     let both = stage-past (factors_at a.stage a.sides.now a.factors.now) a.moves.now p.over_value.0 c.if-left-over.false (extras_at a.stage a.sides.now)
-    (omega (arith, g.0.0, c.if-unlimited-eq0.false)) g.1 c.give-2.ensures in
+    (omega (arith, g.value.0, c.if-unlimited-eq0.false)) g.moves_after c.give-2.ensures in
     record { value = both.0; moves_after = both.1 }

@@ -29,7 +29,7 @@ loop-stage-smaller c = omega arith
 pub loop-stage-preserved : goal.loop-stage-preserved
 loop-stage-preserved c = let l = c.loop-stage in
     let s = c.share_stage-left.ensures in
-    (omega arith, staging-on l.invariant.1 (omega (arith, c.loop-stage-test.true)) s.0 s.1 (omega (arith, c.share_stage-left.auto)))
+    (omega arith, staging-on l.invariant.1 (omega (arith, c.loop-stage-test.true)) s.value s.moves_after (omega (arith, c.share_stage-left.auto)))
 
 pub shape_of-moves : goal.shape_of-moves
 shape_of-moves c = let s = c.loop-stage.invariant.1.same in omega arith

@@ -19,9 +19,9 @@ returns-in-2 c = let a = c.args in
 
 pub returns-in-3 : goal.returns-in-3
 returns-in-3 c = let a = c.args in
-    let m = c.in_default-1.rest in
+    let m = c.in-3.in_default-own.rest in
     c.stretches_at.ensures ∙ type-stretches (drop a.at a.table.now) a.growth.0 a.size a.ty c.in-3.if-ty-lt5-own.true m.0.0.1 m.0.1 m.1
 
 pub returns-in_default : goal.returns-in_default
 returns-in_default c = let a = c.args in
-    type-none (drop a.at a.table.now) a.growth.0 a.size a.ty c.in_default.if-ty-lt5-own.false c.in_default-1.rest.0.1
+    type-none (drop a.at a.table.now) a.growth.0 a.size a.ty c.in_default.if-ty-lt5-own.false c.in_default.in_default-own.rest.0.1

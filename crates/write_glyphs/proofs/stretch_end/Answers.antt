@@ -14,10 +14,10 @@ returns-then-glyph-from c =
 pub returns-then-not-array : goal.returns-then-not-array
 returns-then-not-array c =
     let a = c.args in
-    (alike-one a.kind a.table.now a.base a.from a.until a.place a.array a.glyph a.seen.now a.number _ c.requires.base_bound.1.1.1 c.if-glyph-from.false (not-true _ c.if-not-array.true) refl, c.requires.agree.1)
+    (alike-one a.kind a.table.now a.base a.from a.until a.place a.array a.glyph a.seen.now a.number _ c.requires.base_bound.1.1.1 c.if-glyph-from.false c.if-not-array.true refl, c.requires.agree.1)
 
 pub returns : goal.returns
 returns c =
     let a = c.args in
     let v = c.same_values in
-    (alike-array a.kind a.table.now a.base a.from a.until a.place a.array a.glyph a.seen.now a.number _ c.requires.base_bound.1.1.1 c.if-glyph-from.false (not-false _ c.if-not-array.false) _ v.result refl (omega (arith, v.ensures.0)) v.ensures.1 (omega arith), v.ensures.2)
+    (alike-array a.kind a.table.now a.base a.from a.until a.place a.array a.glyph a.seen.now a.number _ c.requires.base_bound.1.1.1 c.if-glyph-from.false c.if-not-array.false _ v.result refl (omega (arith, v.ensures.0)) v.ensures.1 (omega arith), v.ensures.2)
