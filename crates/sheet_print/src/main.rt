@@ -5,7 +5,7 @@
 ghost use Rattle.std.specs.Prelude.{length};
 ghost use Rattle.sheet_print.specs.Within.{Within};
 
-use libc::{STDERR_FILENO, STDIN_FILENO, STDOUT_FILENO};
+use std::io::{Read, Write};
 
 // How many bytes standard input had, or that a read failed.
 #[derive(Clone, Copy)]
@@ -15,40 +15,41 @@ enum Input {
 }
 
 // Reads until the input ends or the lent bytes are full.
-fn read_input(input: &mut [u8]) -> Input
+fn read_input(rt: &HostRuntime, input: &mut [u8]) -> Input
     ensures { Within result (length input.new) }
 {
     let mut at = 0;
     while at < input.len() {
-        let got = libc::read(STDIN_FILENO, &mut input[at..]);
-        if got < 0 {
-            return Input::Failed;
+        match rt.stdin().read(&mut input[at..]) {
+            Ok(0) => {
+                return Input::Bytes(at);
+            }
+            Ok(more) => {
+                at += more;
+            }
+            Err(_) => {
+                return Input::Failed;
+            }
         }
-        let more = io::count(got, &input[at..]);
-        if more == 0 {
-            return Input::Bytes(at);
-        }
-        at += more;
     }
     Input::Bytes(at)
 }
 
-fn main() {
+// Says on standard error what failed; where that fails too, there is nobody left to tell.
+fn complain(rt: &HostRuntime, message: &[u8]) {
+    let _ = rt.stderr().write_all(message);
+}
+
+fn main(rt: HostRuntime) {
     // one byte more than the longest input, so that a longer one is told from it
     let mut input = [0u8; 65537];
-    let Input::Bytes(length) = read_input(&mut input) else {
-        io::write_all(
-            STDERR_FILENO,
-            b"sheet_print: standard input cannot be read\n",
-        );
+    let Input::Bytes(length) = read_input(&rt, &mut input) else {
+        complain(&rt, b"sheet_print: standard input cannot be read\n");
         return;
     };
     let mut out = [0u8; 147456];
     let end = sheet_text::print_input(&input[..length], &mut out);
-    if !io::write_all(STDOUT_FILENO, &out[..end]) {
-        io::write_all(
-            STDERR_FILENO,
-            b"sheet_print: standard output cannot be written\n",
-        );
+    if rt.stdout().write_all(&out[..end]).is_err() {
+        complain(&rt, b"sheet_print: standard output cannot be written\n");
     }
 }

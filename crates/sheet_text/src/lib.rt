@@ -128,7 +128,7 @@ pub fn print_refusal(refusal: Refusal, out: &mut [u8]) -> usize
     requires { 11 ≤ length out.old }
     ensures { Printed (printed_refusal (number_of refusal)) out.old out.new result }
 {
-    bytes::copy(b"refused ", out);
+    out[..8].copy_from_slice(b"refused ");
     let end = put_decimal(out, 8, fields::number_of(refusal) as u8);
     out[end] = b'\n';
     end + 1
