@@ -3,6 +3,7 @@
 // A field is read as if zeros followed the bytes, so that reading asks nothing of its caller; whether a field
 // lies inside is judged apart, by `in_table`.
 #![tactic(auto)]
+
 ghost use Rattle.std.specs.Prelude.{◌≡◌, ℕ, ◌+◌, ◌-◌, ◌≤◌, ◌<◌, ◌^◌, min, max, length, get_or, set};
 ghost use Rattle.std.proofs.lemmas.List.Edits.{sets};
 ghost use Rattle.fields.specs.Field.{u16_at, u32_at, be16, be32};

@@ -3,6 +3,7 @@
 // A width record and an action are held as the sheet writes them: shrink limits as sizes, ignored bits zero, no
 // padding.
 #![tactic(auto)]
+
 ghost use Rattle.std.specs.Prelude.{◌≡◌};
 ghost use Rattle.types.specs.InC.{direction_in};
 

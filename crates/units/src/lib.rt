@@ -2,6 +2,7 @@
 // A distance in ems and one in points are values of two types; only `factor` joins them, with a point size.
 // Flags are taken apart by shifts and masks and put together again by shifts.
 #![tactic(auto)]
+
 ghost use Rattle.std.specs.Prelude.{◌≡◌, cond, ℕ, ◌+◌, ◌*◌, ◌/◌, ◌%◌, ◌<◌, ◌^◌};
 ghost use Rattle.units.specs.Fixed.{fixed_of, fixed_size, factor_of};
 ghost use Rattle.units.specs.Flags.{sets_mark, stays, mark_class, current_class, entry_flags, is_unlimited, priority_of, width_flags, kept_flags};

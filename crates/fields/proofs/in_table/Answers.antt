@@ -4,10 +4,8 @@ use Rattle.fields.specs.Laws.{leb-left, bad-inside}
 use Rattle.fields.specs.Faults.{rule, inside}
 use lib.ListN.{length}
 use mathlib.Core.Bool.{Bool}
-use mathlib.Core.Path.{◌≡◌, refl, sym, ◌∙◌, ap}
-use borrow.Author.Tests.{lt-leb}
+use mathlib.Core.Path.{sym, ◌∙◌, ap}
 use native.Mathlib.Omega.{arith}
-use borrow.Author.Rules.{rules}
 use Rattle.fields.proofs.in_table.Goals as goal
 
 pub returns-then-at-table : goal.returns-then-at-table

@@ -1,7 +1,6 @@
 -- `fields::number_of` meets its contract.
 use mathlib.Core.Path.{sym, ap}
 use Rattle.fields.specs.Refusals.{number_of}
-use borrow.Author.Rules.{rules}
 use Rattle.fields.proofs.number_of.Goals as goal
 
 pub returns-in-TableLength : goal.returns-in-TableLength

@@ -1,13 +1,9 @@
 -- `fields::put_u16` meets its contract.
 use native.Mathlib.Omega.{arith}
-use mathlib.Core.Path.{◌≡◌, refl}
-use mathlib.Core.List.{List, [], ◌∷◌}
-use Prim.Native.Nat.{ℕ, ◌+◌, ◌/◌, ◌%◌}
+use mathlib.Core.Path.{refl}
+use mathlib.Core.List.{[], ◌∷◌}
+use Prim.Native.Nat.{◌+◌, ◌/◌, ◌%◌}
 use Rattle.fields.specs.Stores.{put-part, put_two}
-use borrow.Author.Rules.{rules}
-use Rattle.fields.proofs.put_u16.Reads as reads
-use Rattle.fields.proofs.put_u16.Lts as lts
-use Rattle.fields.proofs.put_u8.Reads as put-u8-reads
 use Rattle.fields.proofs.put_u16.Goals as goal
 
 -- src/lib.rt:130:9

@@ -1,13 +1,8 @@
 -- `fields::put_u32` meets its contract.
-use mathlib.Core.Path.{◌≡◌, refl}
-use Prim.Native.Nat.{ℕ, ◌+◌, ◌/◌, ◌%◌}
+use mathlib.Core.Path.{refl}
+use Prim.Native.Nat.{◌+◌, ◌/◌, ◌%◌}
 use Rattle.fields.specs.Stores.{put_two}
 use Rattle.fields.specs.Field.{be16}
-use borrow.Author.Rules.{rules}
-use Rattle.fields.proofs.put_u32.Reads as reads
-use Rattle.fields.proofs.put_u32.Lts as lts
-use Rattle.fields.proofs.put_u16.Reads as put-u16-reads
-use Rattle.fields.proofs.put_u32_near_end.Reads as put-u32-near-end-reads
 use Rattle.fields.proofs.put_u32.Goals as goal
 
 -- src/lib.rt:157:9

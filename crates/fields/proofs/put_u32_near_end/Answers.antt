@@ -1,11 +1,8 @@
 -- `fields::put_u32_near_end` meets its contract.
 use Rattle.fields.specs.Field.{be16, be32}
 use Rattle.fields.specs.Stores.{sets-out, put_two}
-use native.Mathlib.Numerals.{add-one}
-use Prim.Native.Nat.{ℕ, ◌+◌, ◌/◌, ◌%◌}
-use mathlib.Core.List.{List, [], ◌∷◌}
-use mathlib.Core.Path.{◌≡◌, refl, sym, ap, ap₂, ◌∙◌}
-use borrow.Author.Rules.{rules}
+use Prim.Native.Nat.{◌+◌, ◌/◌, ◌%◌}
+use mathlib.Core.Path.{refl, sym}
 use Rattle.fields.proofs.put_u32_near_end.Goals as goal
 
 pub returns-then-at-out : goal.returns-then-at-out

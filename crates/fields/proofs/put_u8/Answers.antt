@@ -1,7 +1,6 @@
 -- `fields::put_u8` meets its contract.
 use mathlib.Core.Path.{sym}
 use lib.Seq.{set_out}
-use borrow.Author.Rules.{rules}
 use Rattle.fields.proofs.put_u8.Goals as goal
 
 pub returns-else-at-out : goal.returns-else-at-out

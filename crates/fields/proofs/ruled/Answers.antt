@@ -1,7 +1,6 @@
 -- `fields::ruled` meets its contract.
 use mathlib.Core.Path.{sym}
 use Rattle.fields.specs.Laws.{rule-clear, rule-fails}
-use borrow.Author.Rules.{rules}
 use Rattle.fields.proofs.ruled.Goals as goal
 
 pub returns-then-test : goal.returns-then-test

@@ -1,7 +1,6 @@
 -- `fields::then` meets its contract.
 use Rattle.fields.specs.Laws.{then-go, then-stop}
 use mathlib.Core.Path.{sym, ◌∙◌}
-use borrow.Author.Rules.{rules}
 use Rattle.fields.proofs.then.Goals as goal
 
 pub returns-in-Clear : goal.returns-in-Clear

@@ -1,7 +1,6 @@
 -- `fields::u16_at` meets its contract.
 use Rattle.fields.specs.Laws.{last_byte}
 use native.Mathlib.Omega.{arith}
-use borrow.Author.Rules.{rules}
 use Rattle.fields.proofs.u16_at.Goals as goal
 
 pub returns-then-bytes-lt2 : goal.returns-then-bytes-lt2

@@ -1,7 +1,6 @@
 -- `fields::u32_in` meets its contract.
 use Rattle.fields.specs.Field.{u32_at}
 use native.Mathlib.Omega.{arith}
-use borrow.Author.Rules.{rules}
 use Rattle.fields.proofs.u32_in.Goals as goal
 
 pub returns : goal.returns

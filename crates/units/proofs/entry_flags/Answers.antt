@@ -1,6 +1,5 @@
 -- `units::entry_flags` meets its contract.
 use Rattle.units.proofs.Laws.{entry-put}
-use borrow.Author.Rules.{rules}
 use Rattle.units.proofs.entry_flags.Goals as goal
 
 pub returns : goal.returns

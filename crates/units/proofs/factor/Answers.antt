@@ -1,6 +1,5 @@
 -- `units::factor` meets its contract.
 use Rattle.units.proofs.Laws.{factor-below, factor-above, factor-fits, factor-is}
-use Prim.Native.Nat.{ℕ}
 use borrow.Author.Rules.{rules}
 use Rattle.units.proofs.factor.Goals as goal
 

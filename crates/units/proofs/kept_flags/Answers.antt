@@ -1,7 +1,6 @@
 -- `units::kept_flags` meets its contract.
 use Rattle.units.specs.Flags.{width_flags}
 use mathlib.Core.Path.{◌∙◌, ap₂}
-use borrow.Author.Rules.{rules}
 use Rattle.units.proofs.kept_flags.Goals as goal
 
 pub returns : goal.returns

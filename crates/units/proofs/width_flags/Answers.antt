@@ -1,6 +1,5 @@
 -- `units::width_flags` meets its contract.
 use Rattle.units.proofs.Laws.{width-put}
-use borrow.Author.Rules.{rules}
 use Rattle.units.proofs.width_flags.Goals as goal
 
 pub returns : goal.returns
