@@ -4,8 +4,8 @@ use std::path::{Path, PathBuf};
 
 const SOURCES: &str = concat!(env!("CARGO_MANIFEST_DIR"), "/../crates/share/src");
 
-/// What a product can be written with: the operator, a method of a number, a shift; and a call into another crate, where one could stand.
-const PRODUCTS: [&str; 5] = ["*", "mul", "pow", "<<", "::"];
+/// What a product can be written with: the operator, a method of a number or of an iterator, a shift; and a call into another crate, where one could stand.
+const PRODUCTS: [&str; 7] = ["*", "mul", "pow", "<<", "shl", ".product", "::"];
 
 /// The source files of sharing, in any folder below its `src`.
 fn sources(folder: &Path) -> Vec<PathBuf> {
@@ -13,16 +13,30 @@ fn sources(folder: &Path) -> Vec<PathBuf> {
     entries.flat_map(|path| if path.is_dir() { sources(&path) } else { vec![path] }).collect()
 }
 
+/// What of a line follows the clause that it stands in; nothing where the clause goes on. The depth is that of its brackets.
+fn past_clause<'a>(line: &'a str, depth: &mut i32) -> &'a str {
+    for (at, c) in line.char_indices() {
+        *depth += i32::from(c == '{') - i32::from(c == '}');
+        if c == '}' && *depth == 0 {
+            return &line[at + 1..];
+        }
+    }
+    ""
+}
+
 /// The lines of code, with the name of the function that each stands in; no comments, contracts and ghost imports.
 fn code(source: &str) -> Vec<(&str, &str)> {
     let mut function = "";
+    let mut depth = 0;
     let mut lines = Vec::new();
     for line in source.lines() {
         let line = line.split("//").next().unwrap_or("").trim();
         if let Some(rest) = line.trim_start_matches("pub ").strip_prefix("fn ") {
             function = rest.split('(').next().unwrap_or("");
         }
-        if !["ghost use", "requires", "ensures"].iter().any(|word| line.starts_with(word)) {
+        if depth > 0 || ["requires", "ensures"].iter().any(|word| line.starts_with(word)) {
+            lines.push((function, past_clause(line, &mut depth)));
+        } else if !line.starts_with("ghost use") {
             lines.push((function, line));
         }
     }

@@ -11,9 +11,9 @@ pub fn page(path: &str) -> String {
     std::fs::read_to_string(Path::new(ROOT).join(path)).unwrap_or_else(|_| panic!("no page {path}"))
 }
 
-/// Whether a name can have this character.
+/// Whether a name can have this character; ◌ stands in an operator's for what it is between.
 pub fn in_name(c: char) -> bool {
-    c.is_alphanumeric() || "_-'".contains(c)
+    c.is_alphanumeric() || "_-'◌".contains(c)
 }
 
 /// Whether a name stands in a text as a word of its own, and not as a part of a longer one.
