@@ -1,6 +1,7 @@
 // An action list (document 01, "The table"): a 32-bit count, 0 to 64, then actions that say their own lengths: class,
 // type, length, data. Here: its first fault, where an action of it stands, and what is read from an action.
 #![tactic(auto)]
+
 ghost use Rattle.std.specs.Prelude.{◌≡◌, true, ◌+◌, ◌≤◌, ◌<◌, ◌^◌, length, take};
 ghost use Rattle.fields.specs.declared.Fault.TheVariants.{Clear};
 ghost use Rattle.fields.specs.Field.{u32_at};

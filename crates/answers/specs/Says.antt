@@ -1,6 +1,5 @@
 -- What the cases of an answer say (document 01, "The sheet" and "Numbers of refusal"): a refusal its number and (document 02, 4/14) its offset, everything else the part that was asked for.
-use Rattle.std.specs.Prelude.{ℕ, List, [], replicate, take}
-use Rattle.fields.specs.declared.Refusal.{Refusal}
+use Rattle.std.specs.Prelude.{ℕ, replicate, take}
 use Rattle.fields.specs.declared.Fault.{Fault}
 use Rattle.fields.specs.declared.Fault.TheVariants.{Clear, Bad}
 use Rattle.fields.specs.Refusals.{number_of}

@@ -1,6 +1,7 @@
 // The answers to the questions that a table and a sheet can be asked (document 01, "The sheet"): the part, or
 // nothing, or a refusal with its offset (document 02, 4/14). specs/Says.antt gives what each case says.
 #![tactic(auto)]
+
 ghost use Rattle.std.specs.Prelude.{◌≡◌};
 ghost use Rattle.answers.specs.Says.{no_action};
 

@@ -1,5 +1,6 @@
 // The class walk of a line (document 01, "The class walk"), by the machine in a table's bytes.
 #![tactic(auto)]
+
 ghost use Rattle.std.specs.Prelude.{◌≡◌, cond, not, ◌&&◌, ℕ, ◌+◌, ◌*◌, ◌<◌, ◌^◌, leb, length, get_or, replicate};
 ghost use Rattle.std.proofs.Math.Option.{or_else};
 ghost use Rattle.fields.specs.Field.{u16_at};

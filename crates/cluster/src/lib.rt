@@ -1,6 +1,7 @@
 // A width cluster (document 01, "The table"): a 32-bit count, 1 to 128, then pairs of 24 bytes: class, before grow,
 // before shrink, after grow, after shrink, grow flags, shrink flags. Here: its first fault, and what is read from it.
 #![tactic(auto)]
+
 ghost use Rattle.std.specs.Prelude.{◌≡◌, true, ◌+◌, ◌*◌, ◌≤◌, ◌<◌, ◌^◌, length};
 ghost use Rattle.fields.specs.declared.Fault.TheVariants.{Clear};
 ghost use Rattle.fields.specs.Field.{u16_at, u32_at};

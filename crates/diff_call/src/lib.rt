@@ -1,6 +1,7 @@
 // The calls for what differs between two tables (document 02, 6/14): how many differences there are, and the list of them.
 // Their number is known before one is stored, so that refusal 16 changes nothing.
 #![tactic(auto)]
+
 ghost use Rattle.std.specs.Prelude.{◌≡◌};
 ghost use Rattle.answers.specs.Says.{says_count};
 ghost use Rattle.diff_call.specs.Calls.{either_fault, differences_counted, differences_listed};

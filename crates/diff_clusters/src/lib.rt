@@ -1,6 +1,7 @@
 // The width differences of one glyph (document 02, 6/14): its clusters in two tables, whose classes rise, merged class by
 // class and stored into lent numbers.
 #![tactic(auto)]
+
 ghost use Rattle.std.specs.Prelude.{◌≡◌, ◌+◌, ◌-◌, ◌≤◌, ◌<◌, ◌^◌};
 ghost use Rattle.std.proofs.Math.Option.{some};
 ghost use Rattle.meaning.specs.Limits.{Rising};

@@ -1,6 +1,7 @@
 // The differences of the machines of one direction in two tables (document 02, 6/14), stored into lent numbers; where there
 // is no room they are only counted, by where they would end.
 #![tactic(auto)]
+
 ghost use Rattle.std.specs.Prelude.{◌≡◌, ◌++◌, ℕ, ◌+◌, ◌≤◌, ◌<◌, ◌^◌};
 ghost use Rattle.std.proofs.Math.Option.{some};
 ghost use Rattle.std.proofs.Math.Decide.{ℕ_discrete};

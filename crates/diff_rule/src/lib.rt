@@ -1,5 +1,6 @@
 // What differs between the meanings of two tables (document 02, 6/14), and storing it into lent numbers.
 #![tactic(auto)]
+
 ghost use Rattle.std.specs.Prelude.{◌≡◌, [], ◌∷◌, ◌+◌, ◌*◌, ◌≤◌, ◌<◌, ◌^◌, length};
 ghost use Rattle.std.proofs.lemmas.List.Edits.{sets};
 ghost use Rattle.diff_rule.specs.Differences.{noted, mark_seen};

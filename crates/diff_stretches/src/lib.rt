@@ -1,6 +1,7 @@
 // A pass over what the glyphs have in two tables, clusters or action lists (document 02, 6/14): by stretches of glyphs that
 // have one place in each.
 #![tactic(auto)]
+
 ghost use Rattle.std.specs.Prelude.{◌≡◌, ◌≤◌, ◌<◌, ◌^◌, length};
 ghost use Rattle.write_glyphs.specs.Places.{SoundSource, run_place};
 ghost use Rattle.diff_stretches.specs.Stretches.{base_of, ServesBy, RunTells, BothTell, BothSound, Even, Splits};

@@ -1,6 +1,7 @@
 // What differs between two accepted tables (document 02, 6/14), direction by direction, stored into lent numbers; and how many
 // numbers that takes.
 #![tactic(auto)]
+
 ghost use Rattle.std.specs.Prelude.{◌≡◌, true, ◌+◌, ◌≤◌, ◌<◌, ◌^◌, length};
 ghost use Rattle.fields.specs.declared.Fault.TheVariants.{Clear};
 ghost use Rattle.table.specs.Table.{table_fault};

@@ -1,5 +1,6 @@
 // The directory of a whole font, and the checksum of one of its tables (document 02, 12/14).
 #![tactic(auto)]
+
 ghost use Rattle.std.specs.Prelude.{◌≡◌, ◌+◌, ◌^◌, ◌<◌, ◌≤◌, length};
 ghost use Rattle.font_directory.specs.Sum.{words_for, checksum_of};
 ghost use Rattle.font_directory.specs.Directory.{directory_size, table_record_at, first_listed, table_of};

@@ -1,5 +1,6 @@
 // A 'just' table straight from a font file (document 02, 12/14).
 #![tactic(auto)]
+
 ghost use Rattle.std.specs.Prelude.{◌≡◌};
 ghost use Rattle.table.specs.Table.{table_fault};
 ghost use Rattle.font_directory.specs.declared.Listing.TheVariants.{Listed};

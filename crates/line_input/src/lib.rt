@@ -2,6 +2,7 @@
 // lengths of the slices, the number of glyphs, the edition and the point sizes; the advances with the target, which give the gap, and the
 // glyphs are judged after it, by `gap_of` and `all_known`.
 #![tactic(auto)]
+
 ghost use Rattle.std.specs.Prelude.{◌≡◌, ◌||◌, [], ◌∷◌, eqb, ltb};
 ghost use Rattle.line_rule.specs.Shape.{line_by};
 ghost use Rattle.line_input.specs.Input.{all_long, good_size, good_sizes, all_known};

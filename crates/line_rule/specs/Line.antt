@@ -1,12 +1,9 @@
 -- A line as it is handed in, and what is worked out of it by the meaning of one direction (document 01, "The class walk", "Sharing the gap" and
 -- "Verdicts"), in document order: the gap, the classes, the records, the factors, the stages, the movements with their signs, the verdicts.
-use Rattle.std.specs.Prelude.{ℕ, zero, suc, ◌+◌, ◌*◌, ◌/◌, Bool, true, false, cond, ◌||◌, List, [], ◌∷◌, ◌++◌, map, eqb, ℤ, pos, nat_abs, ◌+ℤ◌, ◌-ℤ◌, length, get_or}
+use Rattle.std.specs.Prelude.{ℕ, suc, ◌+◌, ◌*◌, ◌/◌, Bool, true, false, cond, ◌||◌, List, [], ◌∷◌, ◌++◌, map, eqb, ℤ, pos, nat_abs, ◌+ℤ◌, ◌-ℤ◌, get_or}
 use Rattle.std.proofs.Math.Option.{Option, none, some}
 use Rattle.std.specs.Int.Signed.{lt_z}
 use Rattle.types.specs.declared.Direction.{Direction}
-use Rattle.types.specs.declared.Entry.{Entry}
-use Rattle.types.specs.declared.Limits.{Limits}
-use Rattle.types.specs.declared.Flags.{Flags}
 use Rattle.types.specs.declared.Pair.{Pair}
 use Rattle.types.specs.declared.Verdict.{Verdict}
 use Rattle.units.specs.Flags.{is_unlimited, priority_of}
@@ -15,7 +12,7 @@ use Rattle.meaning.specs.Ask.{record_of}
 use Rattle.class_walk.specs.Walk.{Walk, going, stopped, walked, no_walk}
 use Rattle.class_walk.specs.Walk as walk
 use Rattle.class_walk.specs.Line.{line_of}
-use Rattle.share.specs.Line.{Glyph, apart, before_moves, after_moves, line_left, line_fits, signed_of, sumℤ}
+use Rattle.share.specs.Line.{Glyph, apart, before_moves, after_moves, line_left, signed_of, sumℤ}
 use Rattle.verdict.specs.declared.Fires.{Fires}
 use Rattle.verdict.specs.declared.Fires.TheVariants.{No, Plain, Substitutes}
 use Rattle.verdict.specs.Verdict.{fires_of}

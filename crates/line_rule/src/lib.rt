@@ -2,6 +2,7 @@
 // and "Verdicts"). The definitions stand in specs/; here is only what a line's call is told in numbers, and which of the
 // rule's editions it names.
 #![tactic(auto)]
+
 ghost use Rattle.std.specs.Prelude.{◌≡◌};
 ghost use Rattle.line_rule.specs.Line.{goes_back, known_edition};
 

@@ -1,6 +1,7 @@
 // A find in a lookup by halves (document 02, 9/14), and how many units it looked at. The lookup is one without a fault, so
 // that its units rise and all lie inside the table.
 #![tactic(auto)]
+
 ghost use Rattle.std.specs.Prelude.{◌≡◌, ◌+◌, ◌*◌, ◌≤◌, ◌<◌, ◌^◌, length};
 ghost use Rattle.fields.specs.declared.Fault.TheVariants.{Clear};
 ghost use Rattle.fields.specs.Field.{u16_at};

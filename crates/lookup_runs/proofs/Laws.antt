@@ -16,7 +16,6 @@ use Rattle.lookup.specs.Pass.{Serves}
 use Rattle.lookup.proofs.Laws.{count_none, first_range, covers_high, units-next, units-here, units-none, value-2, value-4, value-6, from-0, from-8, from-units, trimmed-low, trimmed-high, trimmed-in}
 use Rattle.lookup.proofs.Unique.{begins-above, unit-rules, units-rest, units-first, none_above}
 use Rattle.lookup.proofs.Pass.{serves-later, serves-past}
-use Rattle.lookup_runs.specs.declared.Run.{Run}
 use Rattle.lookup_runs.specs.Runs.{unit_place, no_run, every_run, trimmed_from, trimmed_run, units_run, next_run, Follows}
 
 -- where a unit's values stand, by its format

@@ -1,6 +1,7 @@
 // A pass over the glyphs of a lookup that have a value (document 01, "Numbers of refusal": clusters and lists go by
 // glyph): a run of glyphs at a time, upward, whose values are one field or an array. Glyphs without a value cost nothing.
 #![tactic(auto)]
+
 ghost use Rattle.std.specs.Prelude.{◌≡◌, ℕ, ◌+◌, ◌*◌, ◌≤◌, ◌<◌, ◌^◌, length};
 ghost use Rattle.fields.specs.Field.{u16_at};
 ghost use Rattle.lookup.specs.Units.{unit_size};

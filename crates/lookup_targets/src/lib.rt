@@ -1,6 +1,7 @@
 // What the values of a direction's two lookups lead to (document 01, "The table"): clusters of width records and
 // lists of actions. The lookup is judged first, then, glyphs upward, what each value leads to (refusals 4 to 6 and 8).
 #![tactic(auto)]
+
 ghost use Rattle.std.specs.Prelude.{◌≡◌, true, cond, ℕ, ◌+◌, ◌-◌, ◌*◌, ◌≤◌, ◌<◌, ◌^◌, min};
 ghost use Rattle.fields.specs.declared.Fault.TheVariants.{Clear};
 ghost use Rattle.fields.specs.Field.{u16_at};

@@ -2,6 +2,7 @@
 // count S, a glyph's class, and what a cell holds. `here` is the place after the machine's 8-byte header, from
 // which the machine's offsets count.
 #![tactic(auto)]
+
 ghost use Rattle.std.specs.Prelude.{◌≡◌, true, ℕ, ◌+◌, ◌<◌, ◌^◌, max};
 ghost use Rattle.fields.specs.declared.Fault.TheVariants.{Clear};
 ghost use Rattle.machine.specs.declared.Scan.TheVariants.{Count};

@@ -8,7 +8,7 @@ use native.Mathlib.Nat.{mul-le-mul}
 use lib.ListN.{length, replicate, length-replicate}
 use Rattle.fields.specs.Field.{be32}
 use Rattle.encoding.specs.Codes.{All, counted, PrefixFree}
-use Rattle.encoding.specs.Sections.{byte, run_section, numbered, pool}
+use Rattle.encoding.specs.Sections.{byte, run_section, numbered}
 use Rattle.encoding.proofs.ListLaws.{all_map, all-unit, all_replicate}
 use Rattle.encoding.proofs.CodeLaws.{be16-free, be32-free, peel, counted-free}
 use Rattle.encoding.proofs.SectionLaws.{byte-free, run-section-free, numbered-free, pool-free, pool-none}
@@ -17,7 +17,7 @@ use Rattle.types.specs.declared.Pair.{Pair}
 use Rattle.meaning.specs.Meaning.{Machine, Action, Side, Meaning, empty_side}
 use Rattle.meaning.specs.Discrete.{Entry-discrete, cluster-discrete, list-discrete}
 use Rattle.meaning.specs.Limits.{OkEntry, OkMachine, OkMaybe, OkPair, OkCluster, OkAction, OkActions, OkSide, Valid}
-use Rattle.meaning.specs.Wide.{W16, W32, WideSizes, WideEntry, WidePair, WideAction, FewPairs, FewActions}
+use Rattle.meaning.specs.Wide.{W32, WideSizes, WideEntry, WidePair, WideAction, FewPairs, FewActions}
 use Rattle.meaning.specs.Sheet.{sizes_code, entry_code, pair_code, action_code, sizes_of, cells_of, machine_section, class_section, entry_section, cell_section, cluster_section, cluster_run_section, list_section, list_run_section, machine_bytes, cluster_bytes, list_bytes, write_side, write, IsSheet}
 
 -- ---- entries, pairs and actions

@@ -1,14 +1,14 @@
 -- What the first sides of a line get rises with the gap (request 1/14, on sizes): over any list of stages, with going back or without it.
-use mathlib.Core.Path.{◌≡◌, refl, sym, ap, ◌∙◌}
+use mathlib.Core.Path.{◌≡◌, refl}
 use mathlib.Core.List.{List, [], ◌∷◌}
 use mathlib.Core.Bool.{Bool, true, false, cond}
-use Prim.Native.Nat.{ℕ, zero, suc, ◌+◌, ◌-◌, ◌*◌, ◌/◌, ◌≤◌, ◌<◌}
+use Prim.Native.Nat.{ℕ, zero, suc, ◌+◌, ◌-◌, ◌*◌, ◌/◌, ◌≤◌}
 use native.Mathlib.Omega.{arith}
 use native.Mathlib.Nat.{le_refl, mul-le-mul_right, mul_comm, div-zero}
 use lib.Dec.{leb, ltb}
 use lib.ListN.{get_or}
 use borrow.Author.Tests.{leb-true, leb-false}
-use Rattle.share.specs.Share.{total, still, plus, of_stage, shares, stage_moves, stage_left, stages_moves, stages_left, back_moves, back_left, moves_by, stages}
+use Rattle.share.specs.Share.{total, still, plus, of_stage, shares, stage_moves, stage_left, stages_moves, stages_left, back_moves, moves_by, stages}
 use Rattle.share.specs.Line.{Glyph, side_stages, side_factors, side_extras, evens, odds, line_moves}
 use Rattle.share.proofs.Lists.{upto, plus-upto, shares-upto, div_mono, part-le}
 

@@ -8,7 +8,6 @@ use Rattle.share.specs.Share.{share_at, most_total}
 use Rattle.share.specs.Carry.{widest, farthest, Carries, Carriable, CarriedOn}
 use Rattle.share.specs.Inner.{Runs, CanCarry, Stepped}
 use Rattle.share.specs.declared.Running.{Running}
-use Rattle.share.specs.declared.ShareStep.{ShareStep}
 use Rattle.share.proofs.Lists.{share-none, part-le}
 
 -- ---- one side's step over plain numbers

@@ -2,6 +2,7 @@
 // `signed` alone. A line is two slices with an element for each side, in line order, a glyph's before side ahead of its after side:
 // its stage priority, with 16 added for its extra weight (see `side_number`), and its factor. A priority that is no stage takes no part.
 #![tactic(auto)]
+
 ghost use Rattle.std.specs.Prelude.{◌≡◌, ◌*◌, ◌≤◌, ◌<◌, length, replicate, true, cond, map};
 ghost use Rattle.share.specs.Share.{total, most_total, plus, shares, stages, stage_moves, stage_left, stages_moves, stages_left, back_moves, back_left};
 ghost use Rattle.share.specs.Carry.{widest, Carriable, CarriedOn};

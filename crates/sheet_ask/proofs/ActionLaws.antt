@@ -3,8 +3,8 @@ use Prim.Native.Nat.{ℕ, zero, suc, ◌+◌, ◌-◌, ◌*◌, ◌≤◌, ◌<�
 use mathlib.Core.Path.{◌≡◌, refl, sym, ap, ap₂, ◌∙◌, subst}
 use mathlib.Core.List.{List, [], ◌∷◌, ◌++◌, append_assoc}
 use native.Mathlib.Omega.{arith}
-use lib.ListN.{length, get_or, get_elem?, take, drop, replicate, length-append, length-drop, get_or-append}
-use lib.Seq.{get_or-drop, drop-drop, drop-cons, take_all, take-append_seam}
+use lib.ListN.{length, get_or, get_elem?, take, drop, length-append, length-drop, get_or-append}
+use lib.Seq.{get_or-drop, drop-drop, drop-cons, take_all}
 use Rattle.fields.specs.Field.{be16, u16_at, u32_at, Bytes}
 use Rattle.encoding.specs.Codes.{many, counted}
 use Rattle.encoding.specs.Sections.{byte}

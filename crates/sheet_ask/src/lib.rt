@@ -1,6 +1,7 @@
 // The parts of a sheet's meaning (document 01, "The sheet"), asked for one at a time. The calls named `ask_..` take any bytes: they are
 // judged first, and refused with 17 where they are not a sheet. What answers them is asked of bytes that were accepted.
 #![tactic(auto)]
+
 ghost use Rattle.std.specs.Prelude.{◌≡◌, ◌%◌, ◌<◌, ◌≤◌, ◌^◌, length};
 ghost use Rattle.encoding.specs.Tests.{Says};
 ghost use Rattle.sheet_ask.specs.Places.{HasMachine, CellIn, ItemOf, RecordIn, ActionIn};

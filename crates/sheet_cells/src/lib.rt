@@ -1,6 +1,7 @@
 // Sections 3 and 4 of a direction of a sheet (document 01, "The sheet"): the distinct entries of the machine's cells,
 // and each cell as its entry's number. Read out of bytes at a position.
 #![tactic(auto)]
+
 ghost use Rattle.std.specs.Prelude.{◌≡◌, ◌+◌, ◌*◌, ◌≤◌, ◌<◌, ◌^◌, length};
 ghost use Rattle.encoding.specs.Codes.{counted, items_at};
 ghost use Rattle.encoding.specs.Distinct.{index, InOrder};

@@ -1,6 +1,7 @@
 // Whether bytes are a sheet (document 01, "The sheet"; refusal 17 where they are not): N, then the eight sections of
 // each direction, and nothing after them. Bytes of any length may be handed in.
 #![tactic(auto)]
+
 ghost use Rattle.std.specs.Prelude.{◌<◌, ◌^◌};
 ghost use Rattle.meaning.specs.Limits.{OkSide};
 ghost use Rattle.meaning.specs.Sheet.{write_side, IsSheet};

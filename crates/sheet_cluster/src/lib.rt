@@ -1,6 +1,7 @@
 // A cluster of a sheet (document 01, "The sheet", section 5), read out of bytes at a position: the count of its pairs,
 // and the pairs, their classes rising.
 #![tactic(auto)]
+
 ghost use Rattle.std.specs.Prelude.{◌+◌, ◌*◌, ◌≤◌, length};
 ghost use Rattle.fields.specs.Field.{u16_at};
 ghost use Rattle.encoding.specs.Codes.{items_at};

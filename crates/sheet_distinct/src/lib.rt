@@ -4,6 +4,7 @@
 // sorted by content, and neighbours compared. The cost stays near the bytes' and, whatever the items are, not near the
 // square of their count.
 #![tactic(auto)]
+
 ghost use Rattle.std.specs.Prelude.{◌≡◌, ◌+◌, ◌*◌, ◌≤◌, ◌<◌, ◌^◌, min, length, get_or};
 ghost use Rattle.std.proofs.Math.Seq.{slice};
 ghost use Rattle.encoding.specs.Tests.{Says};

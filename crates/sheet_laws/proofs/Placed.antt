@@ -1,6 +1,6 @@
 -- The refusals of the calls that write a sheet, judge it and ask it have offset 0 unless their number is 4 to 8 (document 02, 4/14).
 use Prim.Native.Nat.{ℕ}
-use mathlib.Core.Path.{◌≡◌, refl, sym, ◌∙◌}
+use mathlib.Core.Path.{◌≡◌, refl}
 use mathlib.Core.Bool.{Bool, true, false, cond}
 use mathlib.Core.Logic.{inr}
 use mathlib.Core.List.{List, ◌++◌}
@@ -11,14 +11,14 @@ use Rattle.fields.specs.declared.Fault.{Fault}
 use Rattle.fields.specs.declared.Fault.TheVariants.{Clear, Bad}
 use Rattle.fields.specs.Refusals.{number_of}
 use Rattle.meaning.specs.Sheet.{IsSheet}
-use Rattle.meaning.specs.Ask.{Question, Answer}
-use Rattle.answers.specs.Says.{Judgement, accepted, barred, Reply, given, refused as refusedReply}
+use Rattle.meaning.specs.Ask.{Question}
+use Rattle.answers.specs.Says.{Judgement, accepted, barred, refused as refusedReply}
 use Rattle.table.specs.Table.{table_fault}
 use Rattle.table_laws.specs.Offsets.{Offset, Placed}
 use Rattle.table_laws.proofs.Placed.{placed-bad, placed-table}
 use Rattle.sheet_check.specs.Check.{SheetChecked}
 use Rattle.sheet_ask.specs.Calls.{SheetReply}
-use Rattle.sheet_write.specs.Written.{Said, refused, bytes, SheetOutcome, sheet_of, length_by, sheet_length, stored, written_by, written}
+use Rattle.sheet_write.specs.Written.{refused, bytes, SheetOutcome, sheet_of, length_by, sheet_length, stored, written_by, written}
 
 module _ (t : List ℕ) (n number at : ℕ) where
   pub placed-length : sheet_length t n ≡ refused number at → Offset number at

@@ -22,7 +22,7 @@ use Rattle.sheet_ask.specs.Parts.{Answers}
 use Rattle.sheet_laws.specs.Outcomes.{Outcomes, Parts, reply_to, Alike}
 use Rattle.sheet_write.specs.Written.{sheet_of}
 use Rattle.sheet_laws.specs.Writing.{SheetBy}
-use Rattle.sheet_laws.specs.Demand3.{Sheet, Demand3}
+use Rattle.sheet_laws.specs.Demand3.{Demand3}
 use Rattle.sheet_laws.proofs.Written.{the-sheet, measured, never-refused, a-sheet}
 
 -- an outcome's reply is the part of the meaning that the bytes are written for

@@ -1,7 +1,7 @@
 -- The outcomes of all the calls for a sheet's parts, and what is known of them: no more than the calls promise.
 use Rattle.std.specs.Prelude.{ℕ, ◌<◌, ◌^◌, ◌≡◌, List}
 use Rattle.types.specs.declared.Direction.{Direction}
-use Rattle.meaning.specs.Ask.{Part, sizes, class, cell, width, action, Question, glyph_count, along}
+use Rattle.meaning.specs.Ask.{sizes, class, cell, width, action, Question, glyph_count, along}
 use Rattle.meaning.specs.Same.{Asked}
 use Rattle.answers.specs.declared.CountAnswer.{CountAnswer}
 use Rattle.answers.specs.declared.SizesAnswer.{SizesAnswer}

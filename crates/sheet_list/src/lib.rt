@@ -1,6 +1,7 @@
 // An action and a list of actions of a sheet (document 01, "The sheet", section 7), read out of bytes at a position.
 // Data lengths are exact, and glyphs lie below N.
 #![tactic(auto)]
+
 ghost use Rattle.std.specs.Prelude.{◌≡◌, ◌+◌, ◌*◌, ◌≤◌, length};
 ghost use Rattle.encoding.specs.Codes.{many};
 ghost use Rattle.encoding.specs.Tests.{Says};

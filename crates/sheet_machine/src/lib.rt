@@ -1,6 +1,7 @@
 // Sections 1 to 4 of a direction of a sheet (document 01, "The sheet"): a machine or none. Read out of bytes at a
 // position. S has to be the least number from 2 on such that rows below it lead only below it.
 #![tactic(auto)]
+
 ghost use Rattle.std.specs.Prelude.{◌*◌, ◌<◌, ◌^◌};
 ghost use Rattle.encoding.specs.Sections.{numbered};
 ghost use Rattle.encoding.specs.Tests.{Says};

@@ -1,6 +1,7 @@
 // The clusters and the action lists of a direction of a sheet (document 01, "The sheet", sections 5 and 6, 7 and 8),
 // read out of bytes at a position: the distinct items, and the runs of glyphs that have one of them.
 #![tactic(auto)]
+
 ghost use Rattle.std.specs.Prelude.{◌≤◌, ◌<◌, ◌^◌, min, length};
 ghost use Rattle.fields.specs.Field.{u32_at};
 ghost use Rattle.encoding.specs.Codes.{counted};

@@ -2,6 +2,7 @@
 // input, and prints the table's sheet or its refusal. The text is the work of `sheet_text::print_input`; this reads and writes.
 // Where a read fails it prints nothing, since the bytes before the failure are another input, and says so on standard error.
 #![tactic(auto)]
+
 ghost use Rattle.std.specs.Prelude.{length};
 ghost use Rattle.sheet_print.specs.Within.{Within};
 
@@ -35,21 +36,20 @@ fn read_input(rt: &HostRuntime, input: &mut [u8]) -> Input
     Input::Bytes(at)
 }
 
-// Says on standard error what failed; where that fails too, there is nobody left to tell.
-fn complain(rt: &HostRuntime, message: &[u8]) {
-    let _ = rt.stderr().write_all(message);
-}
-
 fn main(rt: HostRuntime) {
     // one byte more than the longest input, so that a longer one is told from it
     let mut input = [0u8; 65537];
     let Input::Bytes(length) = read_input(&rt, &mut input) else {
-        complain(&rt, b"sheet_print: standard input cannot be read\n");
+        let _ = rt
+            .stderr()
+            .write_all(b"sheet_print: standard input cannot be read\n");
         return;
     };
     let mut out = [0u8; 147456];
     let end = sheet_text::print_input(&input[..length], &mut out);
     if rt.stdout().write_all(&out[..end]).is_err() {
-        complain(&rt, b"sheet_print: standard output cannot be written\n");
+        let _ = rt
+            .stderr()
+            .write_all(b"sheet_print: standard output cannot be written\n");
     }
 }

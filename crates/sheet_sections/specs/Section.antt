@@ -1,6 +1,6 @@
 -- What a reader of a section says (document 01, "The sheet": bytes are a sheet exactly when they are written for some meaning). It finds the bytes of
 -- a valid value, and where they end; or it finds that no valid value's bytes stand there.
-use Rattle.std.specs.Prelude.{ℕ, ◌+◌, ◌*◌, ◌≤◌, Bool, true, false, List, length}
+use Rattle.std.specs.Prelude.{ℕ, ◌+◌, ◌*◌, ◌≤◌, List, length}
 use Rattle.fields.specs.Field.{u32_at}
 use Rattle.encoding.specs.Codes.{Found, Absent}
 use Rattle.sheet_sections.specs.declared.Read.{Read}

@@ -3,6 +3,7 @@
 // come in order of first use, none is left unused; here they count from 1 on, 0 is a glyph with none, and the bytes hold a number
 // less one.
 #![tactic(auto)]
+
 ghost use Rattle.std.specs.Prelude.{◌≡◌, ◌+◌, ◌*◌, ◌≤◌, ◌<◌, ◌^◌, length};
 ghost use Rattle.encoding.specs.Codes.{items_at, counted};
 ghost use Rattle.encoding.specs.Sections.{run_section, run_less_code};

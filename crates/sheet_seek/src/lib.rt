@@ -1,6 +1,7 @@
 // Where the parts of a sheet stand (document 01, "The sheet"): sections are passed over by their counts, clusters and
 // action lists one by one. Any bytes may be handed in; only of a sheet is it known what stands at the place.
 #![tactic(auto)]
+
 ghost use Rattle.std.specs.Prelude.{◌≡◌, [], ◌+◌, ◌*◌, ◌≤◌, ◌^◌, length};
 ghost use Rattle.encoding.specs.Codes.{items_at};
 ghost use Rattle.meaning.specs.Limits.{OkMaybe, Valid};

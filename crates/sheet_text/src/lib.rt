@@ -1,6 +1,7 @@
 // What the printing program writes for what it reads (document 01, "Sample lines and tables", the passage on the program).
 // The text is put at the start of lent bytes, and the rest of them stays as it was.
 #![tactic(auto)]
+
 ghost use Rattle.std.specs.Prelude.{◌≡◌, ◌≤◌, ◌+◌, ◌-◌, ◌<◌, min, length};
 ghost use Rattle.sheet_text.specs.Stored.{Printed, Stored};
 ghost use Rattle.sheet_text.specs.Text.{sheet_room, text_room, table_text, program_text};

@@ -1,6 +1,7 @@
 // The sheet of a table (document 01, "The sheet"): its length, and writing it into lent bytes. Its length is known
 // before a byte is stored into them, so that refusal 16 changes nothing.
 #![tactic(auto)]
+
 ghost use Rattle.std.specs.Prelude.{◌≡◌, ◌++◌, ◌≤◌, ◌<◌, ◌^◌, length, take, drop};
 ghost use Rattle.std.proofs.lemmas.List.Edits.{sets};
 ghost use Rattle.std.proofs.Math.Seq.{slice};

@@ -3,23 +3,21 @@ use Prim.Native.Nat.{ℕ, ◌≤◌}
 use mathlib.Core.Path.{◌≡◌, refl, sym, ap, ◌∙◌}
 use mathlib.Core.Bool.{Bool, true, false, cond}
 use mathlib.Core.List.{List}
-use native.Mathlib.Omega.{arith}
 use native.Mathlib.Decide.{ℕ_discrete}
-use lib.Dec.{leb, eqb}
+use lib.Dec.{eqb}
 use lib.ListN.{length}
 use borrow.Author.Tests.{eq-eqb, ne_eqb, leb-true}
 use Rattle.fields.specs.declared.Fault.{Fault}
-use Rattle.fields.specs.declared.Fault.TheVariants.{Clear, Bad}
+use Rattle.fields.specs.declared.Fault.TheVariants.{Clear}
 use Rattle.fields.specs.declared.Refusal.TheVariants.{TableLength, GlyphCount}
 use Rattle.fields.specs.Laws.{then-first, then-second, rule-holds}
-use Rattle.fields.specs.Faults.{◌then◌, rule}
 use Rattle.types.specs.declared.Direction.{Direction}
 use Rattle.types.specs.declared.Direction.TheVariants.{Horizontal, Vertical}
 use Rattle.lookup_targets.specs.declared.Kind.{Kind}
 use Rattle.lookup_targets.specs.declared.Kind.TheVariants.{Clusters, Lists}
 use Rattle.lookup_targets.specs.declared.Source.TheVariants.{Lookup, Absent}
 use Rattle.lookup_targets.specs.Values.{values_fault, source_fault}
-use Rattle.table.specs.Table.{direction_at, machine_offset, width_offset, action_offset, width_lookup, machine_place, source_there, source_at, present, header_fault, machine_part, action_part, direction_fault, table_fault}
+use Rattle.table.specs.Table.{direction_at, machine_offset, action_offset, machine_place, source_there, source_at, present, header_fault, machine_part, action_part, direction_fault, table_fault}
 
 -- a part that is absent, and one that is there
 pub present-none : (at : ℕ) (f : Fault) → at ≡ 0 → present at f ≡ Clear

@@ -4,7 +4,6 @@ use Rattle.std.proofs.Math.Option.{Option, none, some}
 use Rattle.types.specs.declared.Direction.TheVariants.{Horizontal, Vertical}
 use Rattle.encoding.specs.Upto.{upto}
 use Rattle.types.specs.declared.Entry.{Entry}
-use Rattle.types.specs.declared.Pair.{Pair}
 use Rattle.machine.specs.Cells.{class_count, class_at, entry_at, state_array}
 use Rattle.machine.specs.Rows.{row_count}
 use Rattle.lookup_targets.specs.Values.{cluster_of, list_of}

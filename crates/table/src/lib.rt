@@ -1,6 +1,7 @@
 // A 'just' table read with a glyph count (document 01, "The table" and "Numbers of refusal"): its first fault,
 // refusals 1 to 8 in their order, and whether it is accepted.
 #![tactic(auto)]
+
 ghost use Rattle.std.specs.Prelude.{◌≡◌, ℕ, ◌+◌, ◌≤◌, ◌<◌, ◌^◌, length};
 ghost use Rattle.answers.specs.Says.{judged_by, says_checked};
 ghost use Rattle.fields.specs.Faults.{◌then◌};

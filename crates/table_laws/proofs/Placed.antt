@@ -11,7 +11,7 @@ use Rattle.fields.specs.declared.Fault.TheVariants.{Clear, Bad}
 use Rattle.fields.specs.Refusals.{number_of}
 use Rattle.fields.specs.Faults.{◌then◌, rule}
 use Rattle.meaning.specs.Ask.{Answer}
-use Rattle.answers.specs.Says.{accepted, barred, judged_by, Reply, refused, unless_bad}
+use Rattle.answers.specs.Says.{barred, judged_by, refused, unless_bad}
 use Rattle.table.specs.Table.{table_fault}
 use Rattle.table_laws.specs.Order.{OfTable, of_none, of-header, of_part}
 use Rattle.table_laws.specs.Offsets.{Offset, Placed, nowhere, somewhere}

@@ -2,6 +2,7 @@
 // work stands over plain parameters). Each method takes the reader apart and leaves the work to a function over the
 // table and the place. A place is a 32-bit number, as any place in a table is; past the table's end zeros are read.
 #![tactic(auto)]
+
 ghost use Rattle.std.specs.Prelude.{◌≡◌};
 ghost use Rattle.meaning.specs.Ask.{record_of};
 ghost use Rattle.cluster.specs.Pairs.{cluster_at, sought_pair};

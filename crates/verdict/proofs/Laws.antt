@@ -14,12 +14,11 @@ use lib.Signed.{lt_z, le_z, shr_z}
 use mir.Syntax.{w64}
 use mir.Val.{SFits, to_z, of_z}
 use mir.ValLaws.{to_z-of_z}
-use borrow.Author.Tests.{ltb-true, ltb-false, eq-eqb, ne_eqb}
+use borrow.Author.Tests.{ltb-true, ltb-false, ne_eqb}
 use Rattle.fields.specs.Field.{u16_at, u32_at}
 use Rattle.units.specs.Fixed.{fixed_of, far_out, factor_of}
 use Rattle.units.proofs.Rounding.{turned, above-factor, below-factor, not-below, fixed-near, negative_near}
 use Rattle.verdict.specs.Verdict.{below, above, reaches, lower, upper, threshold, grows, breaks, adds, substitutes, stretches, type_fires}
-use Rattle.verdict.specs.declared.Fires.{Fires}
 use Rattle.verdict.specs.declared.Fires.TheVariants.{No, Plain, Substitutes}
 
 -- ---- sizes

@@ -1,5 +1,6 @@
 // Whether an action fires (document 01, "Verdicts"). A limit in ems and a growth in units meet only through `units::factor`.
 #![tactic(auto)]
+
 ghost use Rattle.std.specs.Prelude.{◌≡◌, ◌≤◌, length, drop};
 ghost use Rattle.fields.specs.Field.{u32_at};
 ghost use Rattle.units.specs.Fixed.{fixed_of};

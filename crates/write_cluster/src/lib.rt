@@ -3,6 +3,7 @@
 // it into lent bytes. Two clusters are the same when they are written alike, whatever their ignored bits and the signs of
 // their shrink limits.
 #![tactic(auto)]
+
 ghost use Rattle.std.specs.Prelude.{◌≡◌, ◌++◌, ◌+◌, ◌*◌, ◌<◌, ◌^◌, length};
 ghost use Rattle.std.proofs.lemmas.List.Edits.{sets};
 ghost use Rattle.fields.specs.Field.{be16, be32};

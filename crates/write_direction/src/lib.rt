@@ -1,6 +1,7 @@
 // One direction of a sheet for a table (document 01, "The sheet", sections 1 to 8), stored. The direction's offset in
 // the table is 0 where it is absent.
 #![tactic(auto)]
+
 ghost use Rattle.std.specs.Prelude.{◌≡◌, ◌+◌, ◌<◌, ◌^◌, length};
 ghost use Rattle.std.proofs.lemmas.List.Edits.{sets};
 ghost use Rattle.write_direction.specs.Side.{side_bytes, ClearSide};

@@ -2,6 +2,7 @@
 // first, maps stored entry numbers to sheet numbers while rows are walked. Entries are distinct by row number and
 // flags, not by stored number.
 #![tactic(auto)]
+
 ghost use Rattle.std.specs.Prelude.{◌≡◌, ◌+◌, ◌*◌, ◌≤◌, ◌<◌, ◌^◌, length};
 ghost use Rattle.std.proofs.lemmas.List.Edits.{sets};
 ghost use Rattle.encoding.specs.Codes.{many};

@@ -1,6 +1,7 @@
 // What the glyphs have, clusters or action lists, numbered in order of first use (document 01, "The sheet", sections 5 to
 // 8), in one pass over the lookup: by stretches of glyphs that have the same.
 #![tactic(auto)]
+
 ghost use Rattle.std.specs.Prelude.{◌≡◌, ◌+◌, ◌*◌, ◌≤◌, ◌<◌, ◌^◌, length};
 ghost use Rattle.fields.specs.declared.Fault.TheVariants.{Clear};
 ghost use Rattle.fields.specs.Field.{u16_at};

@@ -2,6 +2,7 @@
 // bytes one takes in the sheet, whether two positions hold the same one as written and which comes earlier, a number
 // that tells where to look for it, and storing it into lent bytes.
 #![tactic(auto)]
+
 ghost use Rattle.std.specs.Prelude.{◌≡◌, ◌≤◌, ◌<◌, ◌^◌, length};
 ghost use Rattle.std.proofs.lemmas.List.Edits.{sets};
 ghost use Rattle.encoding.specs.Tests.{Says};

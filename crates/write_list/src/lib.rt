@@ -3,6 +3,7 @@
 // it into lent bytes. Two lists are the same when they are written alike, whatever their padding and the flags of their
 // type 5 actions.
 #![tactic(auto)]
+
 ghost use Rattle.std.specs.Prelude.{◌≡◌, ◌+◌, ◌*◌, ◌≤◌, ◌<◌, ◌^◌, length};
 ghost use Rattle.std.proofs.lemmas.List.Edits.{sets};
 ghost use Rattle.encoding.specs.Codes.{many, counted};

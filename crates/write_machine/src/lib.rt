@@ -1,6 +1,7 @@
 // Sections 1 to 4 of a sheet for the machine of a table, or for none (document 01, "The sheet"): sizes, runs of
 // glyphs of one class, distinct entries, and cells.
 #![tactic(auto)]
+
 ghost use Rattle.std.specs.Prelude.{◌≡◌, ◌++◌, ℕ, ◌+◌, ◌*◌, ◌≤◌, ◌<◌, ◌^◌, length, get_or};
 ghost use Rattle.std.proofs.Math.Option.{some};
 ghost use Rattle.std.proofs.Math.Decide.{ℕ_discrete};

@@ -4,6 +4,7 @@
 // of the first item whose slot it is. Those that find their slot taken are listed in `others`, which has how many they are and then
 // their indices, sorted as words in a dictionary, and searched by halves: many items of one slot cost little more.
 #![tactic(auto)]
+
 ghost use Rattle.std.specs.Prelude.{◌≡◌, ◌+◌, ◌%◌, ◌≤◌, ◌<◌, ◌^◌, max, length, get_or, set, replicate};
 ghost use Rattle.fields.specs.Field.{u32_at};
 ghost use Rattle.encoding.specs.Tests.{Says};

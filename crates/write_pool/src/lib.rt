@@ -2,6 +2,7 @@
 // numbered by stretches of glyphs that have the same, and stored from the numbers. What would stand past the end of
 // the lent bytes is dropped, so that the sections are sized by storing them into nothing.
 #![tactic(auto)]
+
 ghost use Rattle.std.specs.Prelude.{◌≡◌, ◌++◌, ◌+◌, ◌*◌, ◌%◌, ◌≤◌, ◌<◌, ◌^◌, length};
 ghost use Rattle.std.proofs.lemmas.List.Edits.{sets};
 ghost use Rattle.fields.specs.Field.{u16_at, be32};

@@ -1,6 +1,7 @@
 // Maximal runs of equal neighbours as a section of the sheet (document 01, "The sheet", sections 2, 6 and 8): found
 // in a list of numbers, which is given by stretches of equal ones, one value left out, and stored.
 #![tactic(auto)]
+
 ghost use Rattle.std.specs.Prelude.{◌≡◌, ℕ, ◌+◌, ◌-◌, ◌*◌, ◌≤◌, ◌<◌, ◌^◌, length, get_or, take};
 ghost use Rattle.std.proofs.Math.Decide.{ℕ_discrete};
 ghost use Rattle.std.proofs.lemmas.List.Edits.{sets};

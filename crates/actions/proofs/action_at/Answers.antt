@@ -3,7 +3,6 @@ use lib.ListN.{length, take}
 use mathlib.Core.Path.{◌∙◌, ap}
 use Prim.Native.Nat.{ℕ}
 use Rattle.actions.specs.Actions.{content_at, action_at, padded}
-use borrow.Author.Rules.{rules}
 use Rattle.actions.proofs.action_at.Goals as goal
 
 pub returns : goal.returns

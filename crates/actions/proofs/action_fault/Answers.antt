@@ -3,7 +3,6 @@ use mathlib.Core.Path.{sym}
 use Rattle.fields.specs.Laws.{then-of}
 use Rattle.actions.proofs.Steps.{action-past}
 use Rattle.actions.specs.Faults.{action_fault}
-use borrow.Author.Rules.{rules}
 use Rattle.actions.proofs.action_fault.Goals as goal
 
 pub returns-then-table-at : goal.returns-then-table-at

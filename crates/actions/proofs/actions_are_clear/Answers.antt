@@ -2,7 +2,6 @@
 use Rattle.actions.proofs.Notes.{both-passing, fewer-clear}
 use mathlib.Core.Bool.{true≢false}
 use mathlib.Core.Path.{sym}
-use borrow.Author.Rules.{rules}
 use Rattle.actions.proofs.actions_are_clear.Goals as goal
 
 pub returns-then-list-count : goal.returns-then-list-count

@@ -1,9 +1,7 @@
-use borrow.Author.Rules.{rules}
-use mathlib.Core.Path.{◌≡◌, refl, sym, ◌∙◌, ap}
+use mathlib.Core.Path.{refl, sym, ◌∙◌, ap}
 use native.Mathlib.Omega.{arith}
 use Prim.Native.Nat.{ℕ, ◌+◌}
 use Rattle.fields.specs.Walk.{walk-stop, walk-next, walk_none}
-use Rattle.actions.specs.Faults.{actions_fault}
 use Rattle.actions.proofs.Steps.{action-begins}
 use Rattle.actions.proofs.actions_fault.Goals as goal
 

@@ -1,11 +1,6 @@
 -- `actions::actions_fault` meets its contract.
-use borrow.Author.Rules.{rules}
-use mathlib.Core.Path.{◌≡◌, refl, sym, ◌∙◌, ap}
-use native.Mathlib.Omega.{arith}
-use Prim.Native.Nat.{ℕ, ◌+◌}
-use Rattle.fields.specs.Walk.{walk-stop, walk-next, walk_none}
+use mathlib.Core.Path.{◌≡◌}
 use Rattle.actions.specs.Faults.{actions_fault}
-use Rattle.actions.proofs.Steps.{action-begins}
 use Rattle.actions.proofs.actions_fault.Given as goal
 
 abbrev pub invariant-loop-left : goal.invariant-loop-left

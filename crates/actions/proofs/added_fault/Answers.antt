@@ -2,7 +2,6 @@
 use mathlib.Core.Path.{sym, ◌∙◌}
 use Rattle.fields.specs.Laws.{then-of}
 use Rattle.actions.proofs.Steps.{added_none, added-some}
-use borrow.Author.Rules.{rules}
 use Rattle.actions.proofs.added_fault.Goals as goal
 
 pub returns-then-glyph-eq65535 : goal.returns-then-glyph-eq65535

@@ -2,9 +2,7 @@
 use mathlib.Core.Path.{ap}
 use Prim.Native.Nat.{ℕ, ◌+◌}
 use native.Mathlib.Omega.{arith}
-use borrow.Author.Tests.{not-false}
 use Rattle.actions.proofs.Clear.{action-clear}
-use borrow.Author.Rules.{rules}
 use Rattle.actions.proofs.clear_end.Goals as goal
 
 pub returns-then-table-at : goal.returns-then-table-at

@@ -1,7 +1,6 @@
 -- `actions::components_at` meets its contract.
 use mathlib.Core.Path.{sym}
 use Rattle.actions.proofs.Steps.{components-none, components-some}
-use borrow.Author.Rules.{rules}
 use Rattle.actions.proofs.components_at.Goals as goal
 
 pub returns-then-u16_at-ne0 : goal.returns-then-u16_at-ne0

@@ -1,6 +1,5 @@
 -- `actions::content_at` meets its contract.
 use Rattle.actions.proofs.Copies.{content-plain, content-five}
-use borrow.Author.Rules.{rules}
 use Rattle.actions.proofs.content_at.Goals as goal
 
 pub returns-then-ty-ne5 : goal.returns-then-ty-ne5

@@ -1,10 +1,6 @@
 use Rattle.encoding.specs.Upto.{from}
-use borrow.Author.Rules.{rules}
 use mathlib.Core.Path.{◌≡◌, refl, ◌∙◌}
 use native.Mathlib.Omega.{arith}
-use lib.ListN.{replicate}
-use mathlib.Core.List.{◌++◌}
-use Prim.Native.Nat.{◌-◌, ◌≤◌}
 use Rattle.actions.specs.Actions.{bytes_at}
 use Rattle.actions.proofs.Copies.{fill-again, fill_end}
 use Rattle.actions.proofs.copied.Goals as goal

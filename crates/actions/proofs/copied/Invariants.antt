@@ -1,13 +1,9 @@
 -- `actions::copied` meets its contract.
-use Rattle.encoding.specs.Upto.{from}
-use borrow.Author.Rules.{rules}
-use mathlib.Core.Path.{◌≡◌, refl, ◌∙◌}
-use native.Mathlib.Omega.{arith}
+use mathlib.Core.Path.{◌≡◌}
 use lib.ListN.{replicate}
 use mathlib.Core.List.{◌++◌}
 use Prim.Native.Nat.{◌-◌, ◌≤◌}
 use Rattle.actions.specs.Actions.{bytes_at}
-use Rattle.actions.proofs.Copies.{fill-again, fill_end}
 use Rattle.actions.proofs.copied.Given as goal
 
 abbrev pub invariant-loop-i : goal.invariant-loop-i

@@ -1,7 +1,6 @@
 -- `actions::count_fault` meets its contract.
 use Rattle.fields.specs.Laws.{then-of}
 use Rattle.actions.specs.Faults.{count_fault}
-use borrow.Author.Rules.{rules}
 use Rattle.actions.proofs.count_fault.Goals as goal
 
 pub returns : goal.returns

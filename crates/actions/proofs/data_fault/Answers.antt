@@ -1,7 +1,6 @@
 -- `actions::data_fault` meets its contract.
 use mathlib.Core.Path.{sym, ◌∙◌}
 use Rattle.actions.proofs.Steps.{data-0, data-1, data-2, data-3, data-4, data-5}
-use borrow.Author.Rules.{rules}
 use Rattle.actions.proofs.data_fault.Goals as goal
 
 pub returns-then-ty-eq0 : goal.returns-then-ty-eq0

@@ -5,7 +5,6 @@ use mathlib.Core.Bool.{true≢false}
 use borrow.Author.Tests.{leb-true}
 use Rattle.actions.proofs.Steps.{data-0, data-1, data-2, data-3, data-4, data-5}
 use Rattle.actions.proofs.Clear.{type4-clear, type5-clear, size-0, size-1, size-2, size-3, size-4, size-5}
-use borrow.Author.Rules.{rules}
 use Rattle.actions.proofs.data_is_clear.Goals as goal
 
 pub returns-then-ty-eq0 : goal.returns-then-ty-eq0

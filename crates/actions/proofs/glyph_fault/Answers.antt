@@ -1,6 +1,5 @@
 -- `actions::glyph_fault` meets its contract.
 use Rattle.actions.specs.Faults.{glyph_fault}
-use borrow.Author.Rules.{rules}
 use Rattle.actions.proofs.glyph_fault.Goals as goal
 
 pub returns : goal.returns

@@ -3,7 +3,6 @@ use mathlib.Core.Path.{sym}
 use mathlib.Core.Bool.{true≢false}
 use borrow.Author.Tests.{ltb-true}
 use Rattle.actions.proofs.Clear.{glyph-clear}
-use borrow.Author.Rules.{rules}
 use Rattle.actions.proofs.glyph_is_clear.Goals as goal
 
 pub returns-then-table-at : goal.returns-then-table-at

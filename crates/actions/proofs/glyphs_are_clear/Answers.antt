@@ -1,13 +1,9 @@
-use mathlib.Core.Path.{◌≡◌, refl, sym, ◌∙◌}
-use lib.ListN.{length}
-use Prim.Native.Nat.{◌≤◌}
+use mathlib.Core.Path.{refl, sym, ◌∙◌}
 use native.Mathlib.Omega.{arith}
 use mathlib.Core.Bool.{true≢false}
-use borrow.Author.Tests.{not-false}
 use borrow.Author.Rules.{rules}
 use Rattle.fields.specs.Walk.{walk-next, walk_none}
 use Rattle.actions.proofs.Steps.{glyph-inside}
-use Rattle.actions.specs.Faults.{glyphs_fault}
 use Rattle.actions.proofs.glyphs_are_clear.Goals as goal
 
 pub loop-left-init : goal.loop-left-init

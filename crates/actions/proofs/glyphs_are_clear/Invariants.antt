@@ -1,13 +1,7 @@
 -- `actions::glyphs_are_clear` meets its contract.
-use mathlib.Core.Path.{◌≡◌, refl, sym, ◌∙◌}
+use mathlib.Core.Path.{◌≡◌}
 use lib.ListN.{length}
 use Prim.Native.Nat.{◌≤◌}
-use native.Mathlib.Omega.{arith}
-use mathlib.Core.Bool.{true≢false}
-use borrow.Author.Tests.{not-false}
-use borrow.Author.Rules.{rules}
-use Rattle.fields.specs.Walk.{walk-next, walk_none}
-use Rattle.actions.proofs.Steps.{glyph-inside}
 use Rattle.actions.specs.Faults.{glyphs_fault}
 use Rattle.actions.proofs.glyphs_are_clear.Given as goal
 

@@ -1,8 +1,6 @@
-use borrow.Author.Rules.{rules}
-use mathlib.Core.Path.{◌≡◌, refl, sym, ◌∙◌}
+use mathlib.Core.Path.{refl, sym, ◌∙◌}
 use native.Mathlib.Omega.{arith}
 use Rattle.fields.specs.Walk.{walk-stop, walk-next, walk_none}
-use Rattle.actions.specs.Faults.{glyphs_fault}
 use Rattle.actions.proofs.Steps.{glyph-inside}
 use Rattle.actions.proofs.glyphs_fault.Goals as goal
 

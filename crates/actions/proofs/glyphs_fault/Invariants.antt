@@ -1,10 +1,6 @@
 -- `actions::glyphs_fault` meets its contract.
-use borrow.Author.Rules.{rules}
-use mathlib.Core.Path.{◌≡◌, refl, sym, ◌∙◌}
-use native.Mathlib.Omega.{arith}
-use Rattle.fields.specs.Walk.{walk-stop, walk-next, walk_none}
+use mathlib.Core.Path.{◌≡◌}
 use Rattle.actions.specs.Faults.{glyphs_fault}
-use Rattle.actions.proofs.Steps.{glyph-inside}
 use Rattle.actions.proofs.glyphs_fault.Given as goal
 
 abbrev pub invariant-loop-left : goal.invariant-loop-left

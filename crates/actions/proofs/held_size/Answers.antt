@@ -1,7 +1,6 @@
 -- `actions::held_size` meets its contract.
 use native.Mathlib.Omega.{arith}
 use Rattle.actions.proofs.Copies.{size-other, size-long, size-some}
-use borrow.Author.Rules.{rules}
 use Rattle.actions.proofs.held_size.Goals as goal
 
 pub returns-then-ty-ne0 : goal.returns-then-ty-ne0

@@ -1,7 +1,6 @@
 -- `actions::length_fault` meets its contract.
 use Rattle.fields.specs.Laws.{then-of}
 use Rattle.actions.specs.Faults.{length_fault}
-use borrow.Author.Rules.{rules}
 use Rattle.actions.proofs.length_fault.Goals as goal
 
 pub returns : goal.returns

@@ -1,12 +1,8 @@
 use Rattle.actions.proofs.Notes.{none-passing, both-passing, ahead-passing, first-clear, rest-clear}
 use Rattle.actions.proofs.Steps.{action-begins}
-use Rattle.actions.specs.Notes.{Passing}
-use Rattle.actions.specs.Faults.{actions_fault}
-use Rattle.fields.specs.declared.Fault.TheVariants.{Clear}
 use native.Mathlib.Omega.{arith}
-use mathlib.Core.Path.{◌≡◌, refl, ap}
+use mathlib.Core.Path.{refl, ap}
 use Prim.Native.Nat.{ℕ, ◌+◌}
-use lib.ListN.{length}
 use borrow.Author.Rules.{rules}
 use Rattle.actions.proofs.note_ahead.Goals as goal
 

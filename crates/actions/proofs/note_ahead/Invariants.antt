@@ -1,14 +1,9 @@
 -- `actions::note_ahead` meets its contract.
-use Rattle.actions.proofs.Notes.{none-passing, both-passing, ahead-passing, first-clear, rest-clear}
-use Rattle.actions.proofs.Steps.{action-begins}
 use Rattle.actions.specs.Notes.{Passing}
 use Rattle.actions.specs.Faults.{actions_fault}
 use Rattle.fields.specs.declared.Fault.TheVariants.{Clear}
-use native.Mathlib.Omega.{arith}
-use mathlib.Core.Path.{◌≡◌, refl, ap}
-use Prim.Native.Nat.{ℕ, ◌+◌}
+use mathlib.Core.Path.{◌≡◌}
 use lib.ListN.{length}
-use borrow.Author.Rules.{rules}
 use Rattle.actions.proofs.note_ahead.Given as goal
 
 abbrev pub invariant-loop-left : goal.invariant-loop-left

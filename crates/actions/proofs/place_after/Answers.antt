@@ -1,8 +1,5 @@
-use borrow.Author.Rules.{rules}
-use mathlib.Core.Path.{◌≡◌, refl, sym, ◌∙◌}
+use mathlib.Core.Path.{refl, sym, ◌∙◌}
 use native.Mathlib.Omega.{arith}
-use Prim.Native.Nat.{◌+◌, ◌*◌, ◌^◌, ◌<◌}
-use Rattle.actions.specs.Actions.{place_after}
 use Rattle.actions.proofs.Steps.{after_next, after_none}
 use Rattle.actions.proofs.place_after.Goals as goal
 

@@ -1,10 +1,7 @@
 -- `actions::place_after` meets its contract.
-use borrow.Author.Rules.{rules}
-use mathlib.Core.Path.{◌≡◌, refl, sym, ◌∙◌}
-use native.Mathlib.Omega.{arith}
+use mathlib.Core.Path.{◌≡◌}
 use Prim.Native.Nat.{◌+◌, ◌*◌, ◌^◌, ◌<◌}
 use Rattle.actions.specs.Actions.{place_after}
-use Rattle.actions.proofs.Steps.{after_next, after_none}
 use Rattle.actions.proofs.place_after.Given as goal
 
 abbrev pub invariant-loop-left : goal.invariant-loop-left

@@ -2,7 +2,6 @@
 use mathlib.Core.Path.{sym, ◌∙◌, ap}
 use Rattle.actions.specs.declared.Spot.TheVariants.{At}
 use Rattle.actions.proofs.Steps.{place-nowhere, place-there}
-use borrow.Author.Rules.{rules}
 use Rattle.actions.proofs.spot_in_list.Goals as goal
 
 pub returns-then-u32_at-number : goal.returns-then-u32_at-number

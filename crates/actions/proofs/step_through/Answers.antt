@@ -1,11 +1,8 @@
 use Rattle.actions.proofs.Notes.{none-passing, both-passing, one-passing, known-clear, known-all, none_yet, passed-all, passed-next}
 use Rattle.actions.proofs.Steps.{action-begins}
-use Rattle.actions.specs.Notes.{Passing}
-use Rattle.actions.specs.Faults.{actions_fault}
 use native.Mathlib.Omega.{arith}
-use mathlib.Core.Path.{◌≡◌, refl, ap, ◌∙◌}
-use Prim.Native.Nat.{ℕ, ◌+◌, ◌-◌, ◌/◌, ◌≤◌, ◌^◌}
-use lib.ListN.{length}
+use mathlib.Core.Path.{refl, ap, ◌∙◌}
+use Prim.Native.Nat.{ℕ, ◌+◌, ◌/◌}
 use borrow.Author.Rules.{rules}
 use Rattle.actions.proofs.step_through.Goals as goal
 

@@ -1,7 +1,6 @@
 -- `actions::type0_fault` meets its contract.
 use Rattle.fields.specs.Laws.{then-of}
 use Rattle.actions.specs.Faults.{type0_fault}
-use borrow.Author.Rules.{rules}
 use Rattle.actions.proofs.type0_fault.Goals as goal
 
 pub returns : goal.returns

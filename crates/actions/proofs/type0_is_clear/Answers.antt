@@ -3,7 +3,6 @@ use mathlib.Core.Path.{sym}
 use native.Mathlib.Omega.{arith}
 use mathlib.Core.Bool.{true≢false}
 use Rattle.actions.proofs.Clear.{type0-clear}
-use borrow.Author.Rules.{rules}
 use Rattle.actions.proofs.type0_is_clear.Goals as goal
 
 pub returns-then-table-at : goal.returns-then-table-at

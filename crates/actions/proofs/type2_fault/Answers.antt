@@ -1,6 +1,5 @@
 -- `actions::type2_fault` meets its contract.
 use Rattle.actions.specs.Faults.{type2_fault}
-use borrow.Author.Rules.{rules}
 use Rattle.actions.proofs.type2_fault.Goals as goal
 
 pub returns : goal.returns

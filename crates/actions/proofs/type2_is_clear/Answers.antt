@@ -2,10 +2,9 @@
 use mathlib.Core.Path.{sym}
 use native.Mathlib.Omega.{arith}
 use mathlib.Core.Bool.{true≢false}
-use borrow.Author.Tests.{not-false, ltb-true}
+use borrow.Author.Tests.{ltb-true}
 use Rattle.actions.proofs.Steps.{glyph-inside}
 use Rattle.actions.proofs.Clear.{no-added-clear, added-clear, type2-clear}
-use borrow.Author.Rules.{rules}
 use Rattle.actions.proofs.type2_is_clear.Goals as goal
 
 pub returns-then-not-glyph_is_clear : goal.returns-then-not-glyph_is_clear

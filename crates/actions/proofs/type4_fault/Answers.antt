@@ -1,6 +1,5 @@
 -- `actions::type4_fault` meets its contract.
 use Rattle.actions.specs.Faults.{type4_fault}
-use borrow.Author.Rules.{rules}
 use Rattle.actions.proofs.type4_fault.Goals as goal
 
 pub returns : goal.returns

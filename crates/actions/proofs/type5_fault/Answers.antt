@@ -1,6 +1,5 @@
 -- `actions::type5_fault` meets its contract.
 use Rattle.actions.specs.Faults.{type5_fault}
-use borrow.Author.Rules.{rules}
 use Rattle.actions.proofs.type5_fault.Goals as goal
 
 pub returns : goal.returns

@@ -1,7 +1,6 @@
 -- `class_walk::column_at` meets its contract. Assumes nothing.
 use mathlib.Core.Bool.{Bool, cond}
 use mathlib.Core.Path.{◌∙◌, sym, ap}
-use borrow.Author.Rules.{rules}
 use Rattle.class_walk.proofs.Line.{column-there, column-end}
 use Rattle.class_walk.proofs.column_at.Goals as goal
 

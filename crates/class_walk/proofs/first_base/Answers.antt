@@ -1,6 +1,5 @@
 -- `class_walk::first_base` meets its contract.
 use native.Mathlib.Omega.{arith}
-use borrow.Author.Rules.{rules}
 use Rattle.class_walk.proofs.first_base.Goals as goal
 
 pub returns-then-starts : goal.returns-then-starts

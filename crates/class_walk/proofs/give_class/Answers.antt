@@ -1,6 +1,5 @@
 -- `class_walk::give_class` meets its contract. Assumes nothing.
 use borrow.Author.Tests.{eq-eqb, ne_eqb, lt-ltb, le-ltb}
-use borrow.Author.Rules.{rules}
 use Rattle.class_walk.proofs.give_class.Goals as goal
 
 pub returns-then-class-ne0 : goal.returns-then-class-ne0

@@ -1,5 +1,4 @@
 -- `class_walk::give_classes` meets its contract. Assumes nothing.
-use borrow.Author.Rules.{rules}
 use Rattle.class_walk.proofs.Theory.{give-then}
 use Rattle.class_walk.proofs.give_classes.Goals as goal
 

@@ -1,6 +1,5 @@
 -- `class_walk::line_column` meets its contract. Assumes nothing.
 use borrow.Author.Tests.{eq-eqb, ne_eqb}
-use borrow.Author.Rules.{rules}
 use Rattle.class_walk.proofs.line_column.Goals as goal
 
 pub returns-then-glyph-eq65535 : goal.returns-then-glyph-eq65535

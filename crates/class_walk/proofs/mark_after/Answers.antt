@@ -2,7 +2,6 @@
 use mathlib.Core.Option.{or_else}
 use mathlib.Core.Path.{◌∙◌, sym}
 use borrow.Author.Tests.{lt-ltb, le-ltb}
-use borrow.Author.Rules.{rules}
 use Rattle.class_walk.proofs.mark_after.Goals as goal
 
 pub returns-then-place-glyphs : goal.returns-then-place-glyphs

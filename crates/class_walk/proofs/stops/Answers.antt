@@ -1,6 +1,5 @@
 -- `class_walk::stops` meets its contract. Assumes nothing.
 use mathlib.Core.Path.{◌∙◌, sym}
-use borrow.Author.Rules.{rules}
 use Rattle.class_walk.proofs.stops.Goals as goal
 
 pub returns-then-stays_put : goal.returns-then-stays_put

@@ -1,19 +1,13 @@
 -- `class_walk::walk_line` meets its contract. Assumes nothing.
-use Prim.Native.Nat.{ℕ, ◌+◌, ◌-◌, ◌*◌, ◌≤◌, ◌<◌, ◌^◌}
-use mathlib.Core.Bool.{Bool, cond}
+use Prim.Native.Nat.{ℕ, ◌+◌, ◌-◌, ◌*◌, ◌<◌, ◌^◌}
+use mathlib.Core.Bool.{Bool}
 use mathlib.Core.List.{List}
-use mathlib.Core.Path.{◌≡◌, refl, sym, ap, ◌∙◌}
-use native.Mathlib.Omega.{arith}
-use lib.ListN.{length, length-map, length-replicate}
-use borrow.Author.Rules.{rules}
-use Rattle.class_walk.proofs.Line.{fits-of}
-use Rattle.class_walk.proofs.Loop.{conf_of, Entered, entered, entered-length, keeps-first, keeps-stays, keeps-moves, keeps-stops, keeps-never, count_small, stops_true, stops_false, met-flags, met-base}
-use Rattle.class_walk.proofs.Theory.{At, column-low}
-use Rattle.types.specs.declared.Entry.{Entry}
-use Rattle.machine.specs.Cells.{cell_at, class_count}
-use Rattle.class_walk.specs.Line.{machine_at, line_of, line_column, line_columns, row_place, SoundMachine, Columns}
-use Rattle.class_walk.specs.Walk.{Machine, Line, Fits, glyphs, column_at}
-use Rattle.units.specs.Flags.{stays}
+use mathlib.Core.Path.{◌≡◌}
+use lib.ListN.{length}
+use Rattle.class_walk.proofs.Loop.{conf_of}
+use Rattle.class_walk.proofs.Theory.{At}
+use Rattle.class_walk.specs.Line.{machine_at, line_of, line_columns, row_place}
+use Rattle.class_walk.specs.Walk.{Line, glyphs, column_at}
 use Rattle.class_walk.proofs.walk_line.Given as goal
 
 -- a line of glyphs, as the machine at `here` has it

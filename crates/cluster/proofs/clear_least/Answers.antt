@@ -1,10 +1,8 @@
 -- `cluster::clear_least` meets its contract.
-use borrow.Author.Tests.{not-false}
 use mathlib.Core.Path.{ap}
 use Prim.Native.Nat.{ℕ, ◌+◌}
 use native.Mathlib.Omega.{arith}
 use Rattle.cluster.proofs.Clear.{pair-clear}
-use borrow.Author.Rules.{rules}
 use Rattle.cluster.proofs.clear_least.Goals as goal
 
 pub returns-then-table-at-lt24 : goal.returns-then-table-at-lt24

@@ -4,7 +4,6 @@ use Rattle.cluster.specs.Faults.{cluster_fault}
 use Rattle.fields.specs.Laws.{then-stop, inside-holds}
 use native.Mathlib.Omega.{arith}
 use mathlib.Core.Path.{sym, ◌∙◌}
-use borrow.Author.Rules.{rules}
 use Rattle.cluster.proofs.cluster_fault.Goals as goal
 
 pub returns-in-Bad : goal.returns-in-Bad

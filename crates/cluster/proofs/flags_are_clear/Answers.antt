@@ -5,11 +5,6 @@ use mathlib.Core.Bool.{true≢false}
 use borrow.Author.Tests.{leb-true}
 use Rattle.units.specs.Flags.{priority_of}
 use Rattle.cluster.proofs.Clear.{flags-clear}
-use borrow.Author.Rules.{rules}
-use Rattle.cluster.proofs.flags_are_clear.Reads as reads
-use Rattle.cluster.proofs.flags_are_clear.Lts as lts
-use Rattle.fields.proofs.u16_in.Reads as u16-in-reads
-use Rattle.units.proofs.priority.Reads as priority-reads
 use Rattle.cluster.proofs.flags_are_clear.Goals as goal
 
 -- src/lib.rt:164:9

@@ -1,6 +1,5 @@
 -- `cluster::flags_fault` meets its contract.
 use Rattle.cluster.specs.Faults.{flags_fault}
-use borrow.Author.Rules.{rules}
 use Rattle.cluster.proofs.flags_fault.Goals as goal
 
 pub returns : goal.returns

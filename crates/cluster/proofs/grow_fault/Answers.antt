@@ -1,6 +1,5 @@
 -- `cluster::grow_fault` meets its contract.
 use Rattle.cluster.specs.Faults.{grow_fault}
-use borrow.Author.Rules.{rules}
 use Rattle.cluster.proofs.grow_fault.Goals as goal
 
 pub returns : goal.returns

@@ -1,5 +1,4 @@
 -- `cluster::kept_at` meets its contract.
-use borrow.Author.Rules.{rules}
 use Rattle.cluster.proofs.kept_at.Goals as goal
 
 pub returns : goal.returns

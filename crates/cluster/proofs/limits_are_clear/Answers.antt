@@ -5,11 +5,6 @@ use mathlib.Core.Bool.{true≢false}
 use borrow.Author.Tests.{leb-true}
 use Rattle.units.specs.Fixed.{fixed_size}
 use Rattle.cluster.proofs.Clear.{grow-clear, shrink-clear}
-use borrow.Author.Rules.{rules}
-use Rattle.cluster.proofs.limits_are_clear.Reads as reads
-use Rattle.cluster.proofs.limits_are_clear.Lts as lts
-use Rattle.fields.proofs.u32_in.Reads as u32-in-reads
-use Rattle.units.proofs.fixed_size.Reads as fixed-size-reads
 use Rattle.cluster.proofs.limits_are_clear.Goals as goal
 
 -- src/lib.rt:153:9

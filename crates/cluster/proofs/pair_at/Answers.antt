@@ -1,6 +1,5 @@
 -- `cluster::pair_at` meets its contract.
 use Rattle.cluster.specs.Pairs.{pair_at}
-use borrow.Author.Rules.{rules}
 use Rattle.cluster.proofs.pair_at.Goals as goal
 
 pub returns : goal.returns

@@ -3,7 +3,6 @@ use Rattle.cluster.specs.Faults.{pair_class}
 use Prim.Native.Nat.{ℕ, ◌%◌}
 use mathlib.Core.Path.{ap}
 use native.Mathlib.Omega.{arith}
-use borrow.Author.Rules.{rules}
 use Rattle.cluster.proofs.pair_class.Goals as goal
 
 pub returns : goal.returns

@@ -1,6 +1,5 @@
 -- `cluster::pair_class_fault` meets its contract.
 use Rattle.cluster.specs.Faults.{pair_class_fault}
-use borrow.Author.Rules.{rules}
 use Rattle.cluster.proofs.pair_class_fault.Goals as goal
 
 pub returns : goal.returns

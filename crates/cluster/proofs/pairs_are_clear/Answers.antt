@@ -1,12 +1,9 @@
-use mathlib.Core.Path.{◌≡◌, refl, sym, ◌∙◌}
-use lib.ListN.{length}
-use Prim.Native.Nat.{◌≤◌}
+use mathlib.Core.Path.{refl, sym, ◌∙◌}
 use native.Mathlib.Omega.{arith}
 use mathlib.Core.Bool.{true≢false}
 use borrow.Author.Rules.{rules}
 use Rattle.fields.specs.Walk.{walk-next, walk_none}
 use Rattle.cluster.proofs.Laws.{pair_inside}
-use Rattle.cluster.specs.Faults.{pairs_fault}
 use Rattle.cluster.proofs.pairs_are_clear.Goals as goal
 
 pub loop-left-init : goal.loop-left-init

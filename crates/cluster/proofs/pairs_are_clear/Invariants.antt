@@ -1,12 +1,7 @@
 -- `cluster::pairs_are_clear` meets its contract.
-use mathlib.Core.Path.{◌≡◌, refl, sym, ◌∙◌}
+use mathlib.Core.Path.{◌≡◌}
 use lib.ListN.{length}
 use Prim.Native.Nat.{◌≤◌}
-use native.Mathlib.Omega.{arith}
-use mathlib.Core.Bool.{true≢false}
-use borrow.Author.Rules.{rules}
-use Rattle.fields.specs.Walk.{walk-next, walk_none}
-use Rattle.cluster.proofs.Laws.{pair_inside}
 use Rattle.cluster.specs.Faults.{pairs_fault}
 use Rattle.cluster.proofs.pairs_are_clear.Given as goal
 

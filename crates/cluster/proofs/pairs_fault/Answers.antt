@@ -1,8 +1,6 @@
 use Prim.Native.Nat.{ℕ, ◌+◌}
-use borrow.Author.Rules.{rules}
-use mathlib.Core.Path.{◌≡◌, refl, sym, ◌∙◌, ap}
+use mathlib.Core.Path.{refl, sym, ◌∙◌, ap}
 use native.Mathlib.Omega.{arith}
-use Rattle.cluster.specs.Faults.{pairs_fault}
 use Rattle.fields.specs.Walk.{walk-stop, walk-next, walk_none}
 use Rattle.cluster.proofs.Steps.{pair-begins}
 use Rattle.cluster.proofs.pairs_fault.Goals as goal

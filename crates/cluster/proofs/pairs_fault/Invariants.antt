@@ -1,11 +1,6 @@
 -- `cluster::pairs_fault` meets its contract.
-use Prim.Native.Nat.{ℕ, ◌+◌}
-use borrow.Author.Rules.{rules}
-use mathlib.Core.Path.{◌≡◌, refl, sym, ◌∙◌, ap}
-use native.Mathlib.Omega.{arith}
+use mathlib.Core.Path.{◌≡◌}
 use Rattle.cluster.specs.Faults.{pairs_fault}
-use Rattle.fields.specs.Walk.{walk-stop, walk-next, walk_none}
-use Rattle.cluster.proofs.Steps.{pair-begins}
 use Rattle.cluster.proofs.pairs_fault.Given as goal
 
 abbrev pub invariant-loop-left : goal.invariant-loop-left

@@ -1,11 +1,7 @@
-use borrow.Author.Rules.{rules}
 use mathlib.Core.Option.{some}
-use mathlib.Core.Path.{◌≡◌, refl, sym, ◌∙◌, ap}
+use mathlib.Core.Path.{refl, sym, ◌∙◌, ap}
 use native.Mathlib.Omega.{arith}
-use Prim.Native.Nat.{◌+◌, ◌*◌, ◌^◌, ◌<◌}
-use Rattle.cluster.specs.Pairs.{pairs_at}
 use Rattle.cluster.proofs.Steps.{record-here, record-next, record-none}
-use Rattle.meaning.specs.Ask.{record_of}
 use Rattle.cluster.proofs.record_from.Goals as goal
 
 pub loop-left-init : goal.loop-left-init

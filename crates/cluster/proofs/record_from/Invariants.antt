@@ -1,11 +1,7 @@
 -- `cluster::record_from` meets its contract.
-use borrow.Author.Rules.{rules}
-use mathlib.Core.Option.{some}
-use mathlib.Core.Path.{◌≡◌, refl, sym, ◌∙◌, ap}
-use native.Mathlib.Omega.{arith}
+use mathlib.Core.Path.{◌≡◌}
 use Prim.Native.Nat.{◌+◌, ◌*◌, ◌^◌, ◌<◌}
 use Rattle.cluster.specs.Pairs.{pairs_at}
-use Rattle.cluster.proofs.Steps.{record-here, record-next, record-none}
 use Rattle.meaning.specs.Ask.{record_of}
 use Rattle.cluster.proofs.record_from.Given as goal
 

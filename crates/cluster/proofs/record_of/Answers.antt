@@ -3,7 +3,6 @@ use mathlib.Core.Path.{◌∙◌, ap}
 use Prim.Native.Nat.{ℕ, ◌+◌}
 use Rattle.cluster.specs.Pairs.{pairs_at, cluster_at}
 use Rattle.meaning.specs.Ask.{record_of}
-use borrow.Author.Rules.{rules}
 use Rattle.cluster.proofs.record_of.Goals as goal
 
 pub returns : goal.returns

@@ -1,6 +1,5 @@
 -- `cluster::shrink_fault` meets its contract.
 use Rattle.cluster.specs.Faults.{shrink_fault}
-use borrow.Author.Rules.{rules}
 use Rattle.cluster.proofs.shrink_fault.Goals as goal
 
 pub returns : goal.returns

@@ -1,5 +1,4 @@
 -- `cluster::size_at` meets its contract.
-use borrow.Author.Rules.{rules}
 use Rattle.cluster.proofs.size_at.Goals as goal
 
 pub returns : goal.returns

@@ -2,7 +2,6 @@
 use Rattle.diff_call.proofs.Laws.{both-clear, count-bad, count-clear}
 use native.Mathlib.Omega.{arith}
 use mathlib.Core.Path.{sym, ◌∙◌}
-use borrow.Author.Rules.{rules}
 use Rattle.diff_call.proofs.difference_count.Goals as goal
 
 pub returns-in-Bad : goal.returns-in-Bad

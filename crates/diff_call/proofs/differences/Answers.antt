@@ -2,7 +2,6 @@
 use Rattle.diff_call.proofs.Laws.{both-clear, list-bad, too_long, none-stored, all-stored}
 use native.Mathlib.Omega.{arith}
 use mathlib.Core.Path.{sym, ◌∙◌}
-use borrow.Author.Rules.{rules}
 use Rattle.diff_call.proofs.differences.Goals as goal
 
 pub returns-in-Bad : goal.returns-in-Bad

@@ -1,7 +1,6 @@
 -- `diff_call::either_fault` meets its contract.
 use Rattle.diff_call.proofs.Laws.{first-bad, first-clear}
 use mathlib.Core.Path.{sym, ◌∙◌}
-use borrow.Author.Rules.{rules}
 use Rattle.diff_call.proofs.either_fault.Goals as goal
 
 pub returns-in-Bad : goal.returns-in-Bad

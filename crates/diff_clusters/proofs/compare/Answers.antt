@@ -5,7 +5,6 @@ use Rattle.cluster.specs.Pairs.{pair_at}
 use Rattle.encoding.specs.Tests.{Says}
 use mathlib.Core.Path.{◌≡◌, subst}
 use mathlib.Core.Bool.{Bool}
-use borrow.Author.Rules.{rules}
 use Rattle.diff_clusters.proofs.compare.Goals as goal
 
 pub returns-then-same_pair : goal.returns-then-same_pair

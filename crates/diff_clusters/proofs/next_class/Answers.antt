@@ -3,7 +3,6 @@ use Rattle.diff_clusters.proofs.Laws.{some_left, both_left, first-steps, second-
 use Prim.Native.Nat.{◌<◌}
 use native.Mathlib.Omega.{arith}
 use mathlib.Core.Path.{◌≡◌}
-use borrow.Author.Rules.{rules}
 use Rattle.diff_clusters.proofs.next_class.Goals as goal
 
 pub after-requires : goal.after-requires

@@ -1,7 +1,6 @@
 -- `diff_clusters::pairs_in` meets its contract.
 use Prim.Native.Nat.{◌+◌}
 use native.Mathlib.Omega.{arith}
-use borrow.Author.Rules.{rules}
 use Rattle.diff_clusters.proofs.pairs_in.Goals as goal
 
 pub returns : goal.returns

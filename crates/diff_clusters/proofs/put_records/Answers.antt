@@ -1,10 +1,8 @@
-use Rattle.diff_clusters.proofs.Laws.{Put, put_all, put-more, put-end}
+use Rattle.diff_clusters.proofs.Laws.{put_all, put-more, put-end}
 use Rattle.diff_rule.specs.Order.{all_numbers}
 use Rattle.fields.specs.Stores.{put-length}
 use native.Mathlib.Omega.{arith}
-use Prim.Native.Nat.{◌+◌, ◌*◌, ◌≤◌, ◌<◌, ◌^◌}
 use mathlib.Core.Path.{refl}
-use borrow.Author.Rules.{rules}
 use Rattle.diff_clusters.proofs.put_records.Goals as goal
 
 pub loop-ones-init : goal.loop-ones-init

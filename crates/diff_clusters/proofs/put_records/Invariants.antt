@@ -1,11 +1,6 @@
 -- `diff_clusters::put_records` meets its contract.
-use Rattle.diff_clusters.proofs.Laws.{Put, put_all, put-more, put-end}
-use Rattle.diff_rule.specs.Order.{all_numbers}
-use Rattle.fields.specs.Stores.{put-length}
-use native.Mathlib.Omega.{arith}
+use Rattle.diff_clusters.proofs.Laws.{Put}
 use Prim.Native.Nat.{◌+◌, ◌*◌, ◌≤◌, ◌<◌, ◌^◌}
-use mathlib.Core.Path.{refl}
-use borrow.Author.Rules.{rules}
 use Rattle.diff_clusters.proofs.put_records.Given as goal
 
 abbrev pub invariant-loop-ones : goal.invariant-loop-ones

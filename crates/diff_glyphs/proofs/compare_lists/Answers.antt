@@ -5,7 +5,6 @@ use Rattle.actions.specs.Actions.{list_at}
 use Rattle.encoding.specs.Tests.{Says}
 use mathlib.Core.Path.{◌≡◌, sym, ◌∙◌, subst}
 use mathlib.Core.Bool.{Bool}
-use borrow.Author.Rules.{rules}
 use Rattle.diff_glyphs.proofs.compare_lists.Goals as goal
 
 pub returns-then-same_list : goal.returns-then-same_list

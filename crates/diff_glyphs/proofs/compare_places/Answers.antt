@@ -3,7 +3,6 @@ use Rattle.diff_glyphs.proofs.Laws.{holds-made, holds_kept, kept_more}
 use Rattle.encoding.specs.Tests.{Says}
 use mathlib.Core.Bool.{Bool}
 use mathlib.Core.Path.{◌≡◌, refl, subst}
-use borrow.Author.Rules.{rules}
 use Rattle.diff_glyphs.proofs.compare_places.Goals as goal
 
 pub returns-then-same_places : goal.returns-then-same_places

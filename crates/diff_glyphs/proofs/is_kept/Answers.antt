@@ -5,7 +5,6 @@ use lib.ListN.{get_or}
 use mathlib.Core.Bool.{Bool, cond}
 use mathlib.Core.Path.{◌≡◌, ap, ◌∙◌}
 use native.Mathlib.Omega.{arith}
-use borrow.Author.Rules.{rules}
 use Rattle.diff_glyphs.proofs.is_kept.Goals as goal
 
 pub offset_bounds-same-slot : goal.offset_bounds-same-slot

@@ -4,7 +4,6 @@ use Prim.Native.Nat.{◌%◌}
 use mathlib.Core.Logic.{inl}
 use mathlib.Core.Path.{refl}
 use native.Mathlib.Omega.{arith}
-use borrow.Author.Rules.{rules}
 use Rattle.diff_glyphs.proofs.keep.Goals as goal
 
 pub returns-then-size-ne0 : goal.returns-then-size-ne0

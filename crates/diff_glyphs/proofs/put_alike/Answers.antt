@@ -1,13 +1,12 @@
 use Rattle.diff_rule.specs.Again.{again, again_through}
 use Rattle.diff_rule.proofs.Again.{again-length, glyphs-next, glyphs-none}
 use Rattle.fields.specs.Stores.{put_next}
-use Prim.Native.Nat.{ℕ, ◌+◌, ◌-◌, ◌*◌, ◌≤◌, ◌<◌}
+use Prim.Native.Nat.{ℕ, ◌+◌, ◌-◌, ◌*◌, ◌<◌}
 use lib.ListN.{length, length-append}
 use lib.Seq.{sets, length-sets}
 use native.Mathlib.Omega.{arith}
 use mathlib.Core.List.{List, ◌++◌}
 use mathlib.Core.Path.{◌≡◌, refl, sym, ap, ◌∙◌}
-use borrow.Author.Rules.{rules}
 use Rattle.diff_glyphs.proofs.put_alike.Goals as goal
 
 pub loop-g-init : goal.loop-g-init

@@ -1,14 +1,9 @@
 -- `diff_glyphs::put_alike` meets its contract.
-use Rattle.diff_rule.specs.Again.{again, again_through}
-use Rattle.diff_rule.proofs.Again.{again-length, glyphs-next, glyphs-none}
-use Rattle.fields.specs.Stores.{put_next}
-use Prim.Native.Nat.{ℕ, ◌+◌, ◌-◌, ◌*◌, ◌≤◌, ◌<◌}
-use lib.ListN.{length, length-append}
-use lib.Seq.{sets, length-sets}
-use native.Mathlib.Omega.{arith}
-use mathlib.Core.List.{List, ◌++◌}
-use mathlib.Core.Path.{◌≡◌, refl, sym, ap, ◌∙◌}
-use borrow.Author.Rules.{rules}
+use Rattle.diff_rule.specs.Again.{again_through}
+use Prim.Native.Nat.{◌+◌, ◌-◌, ◌*◌, ◌≤◌}
+use lib.ListN.{length}
+use lib.Seq.{sets}
+use mathlib.Core.Path.{◌≡◌}
 use Rattle.diff_glyphs.proofs.put_alike.Given as goal
 
 abbrev pub invariant-loop-g : goal.invariant-loop-g

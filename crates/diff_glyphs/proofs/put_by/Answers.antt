@@ -1,15 +1,13 @@
 use Rattle.diff_glyphs.proofs.Laws.{holds-none, kept-blank, first-rises, second-rises, stretch-stored, glyphs-whole}
-use Rattle.diff_glyphs.specs.Glyphs.{glyph_differs, LastCompared, SamePairs}
-use Rattle.diff_rule.proofs.Filled.{Filled, filled_none, filled_more, filled-all, filled-length}
+use Rattle.diff_glyphs.specs.Glyphs.{glyph_differs}
+use Rattle.diff_rule.proofs.Filled.{filled_none, filled_more, filled-all, filled-length}
 use Rattle.diff_rule.specs.declared.Difference.{Difference}
-use Rattle.diff_stretches.specs.Stretches.{BothTell}
-use Prim.Native.Nat.{ℕ, ◌+◌, ◌-◌, ◌*◌, ◌≤◌}
+use Prim.Native.Nat.{ℕ, ◌+◌}
 use lib.Seq.{sets}
 use lib.ListN.{length}
 use native.Mathlib.Omega.{arith}
 use mathlib.Core.List.{List}
 use mathlib.Core.Path.{◌≡◌, refl, ap, ◌∙◌}
-use borrow.Author.Rules.{rules}
 use Rattle.diff_glyphs.proofs.put_by.Goals as goal
 
 pub begin_both-runs-requires : goal.begin_both-runs-requires

@@ -5,7 +5,6 @@ use Rattle.diff_rule.specs.Differences.{noted}
 use Rattle.diff_rule.proofs.Stored.{stores-other}
 use mathlib.Core.Option.{Option}
 use mathlib.Core.Path.{ap}
-use borrow.Author.Rules.{rules}
 use Rattle.diff_glyphs.proofs.put_changed_list.Goals as goal
 
 pub returns : goal.returns

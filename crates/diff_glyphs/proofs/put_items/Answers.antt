@@ -1,7 +1,6 @@
 -- `diff_glyphs::put_items` meets its contract.
 use native.Mathlib.Omega.{arith}
 use mathlib.Core.Path.{refl}
-use borrow.Author.Rules.{rules}
 use Rattle.diff_glyphs.proofs.put_items.Goals as goal
 
 pub put_by-requires : goal.put_by-requires

@@ -2,7 +2,6 @@
 use Rattle.diff_glyphs.proofs.Laws.{its-rising, its-clusters, its-lists}
 use Rattle.diff_rule.proofs.Stored.{stores-other}
 use native.Mathlib.Omega.{arith}
-use borrow.Author.Rules.{rules}
 use Rattle.diff_glyphs.proofs.put_places.Goals as goal
 
 pub put_records-requires : goal.put_records-requires

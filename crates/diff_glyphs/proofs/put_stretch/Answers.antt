@@ -8,7 +8,6 @@ use lib.Seq.{sets}
 use native.Mathlib.Nat.{mul-le-mul_left}
 use native.Mathlib.Omega.{arith}
 use mathlib.Core.Path.{sym, ap}
-use borrow.Author.Rules.{rules}
 use Rattle.diff_glyphs.proofs.put_stretch.Goals as goal
 
 pub returns-then-count-eq0 : goal.returns-then-count-eq0

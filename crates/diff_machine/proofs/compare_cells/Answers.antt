@@ -4,7 +4,6 @@ use Rattle.machine.specs.Cells.{cell_at}
 use Rattle.meaning.specs.Discrete.{Entry-discrete}
 use Rattle.types.specs.declared.Entry.{Entry}
 use mathlib.Core.Path.{◌≡◌, sym, ap, ◌∙◌}
-use borrow.Author.Rules.{rules}
 use Rattle.diff_machine.proofs.compare_cells.Goals as goal
 
 pub returns-then-a-b : goal.returns-then-a-b

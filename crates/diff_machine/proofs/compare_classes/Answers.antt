@@ -3,7 +3,6 @@ use Rattle.diff_rule.proofs.Marks.{mark-same, mark-apart}
 use Rattle.machine.specs.Cells.{class_at}
 use native.Mathlib.Decide.{ℕ_discrete}
 use mathlib.Core.Path.{sym, ◌∙◌}
-use borrow.Author.Rules.{rules}
 use Rattle.diff_machine.proofs.compare_classes.Goals as goal
 
 pub returns-then-class_by : goal.returns-then-class_by

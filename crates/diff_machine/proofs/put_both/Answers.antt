@@ -4,7 +4,6 @@ use Rattle.diff_rule.proofs.Stored.{stores-other}
 use Rattle.machine.proofs.Laws.{rows-most, classes-least, classes-most}
 use native.Mathlib.Omega.{arith}
 use mathlib.Core.Path.{sym, ◌∙◌}
-use borrow.Author.Rules.{rules}
 use Rattle.diff_machine.proofs.put_both.Goals as goal
 
 pub returns-then-machines-row_count : goal.returns-then-machines-row_count

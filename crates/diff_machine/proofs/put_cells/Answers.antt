@@ -1,10 +1,8 @@
 use Rattle.diff_machine.proofs.Laws.{cells_whole}
 use Rattle.diff_machine.specs.Machines.{row_by}
-use Rattle.diff_rule.proofs.Filled.{Filled, filled_none, filled_next, filled-all, filled-length}
-use Prim.Native.Nat.{◌+◌, ◌-◌, ◌*◌, ◌≤◌, ◌^◌}
+use Rattle.diff_rule.proofs.Filled.{filled_none, filled_next, filled-all, filled-length}
 use native.Mathlib.Omega.{arith}
 use mathlib.Core.Path.{◌≡◌}
-use borrow.Author.Rules.{rules}
 use Rattle.diff_machine.proofs.put_cells.Goals as goal
 
 pub loop-row-init : goal.loop-row-init

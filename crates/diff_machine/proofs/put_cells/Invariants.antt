@@ -1,11 +1,7 @@
 -- `diff_machine::put_cells` meets its contract.
-use Rattle.diff_machine.proofs.Laws.{cells_whole}
 use Rattle.diff_machine.specs.Machines.{row_by}
-use Rattle.diff_rule.proofs.Filled.{Filled, filled_none, filled_next, filled-all, filled-length}
+use Rattle.diff_rule.proofs.Filled.{Filled}
 use Prim.Native.Nat.{◌+◌, ◌-◌, ◌*◌, ◌≤◌, ◌^◌}
-use native.Mathlib.Omega.{arith}
-use mathlib.Core.Path.{◌≡◌}
-use borrow.Author.Rules.{rules}
 use Rattle.diff_machine.proofs.put_cells.Given as goal
 
 abbrev pub invariant-loop-row : goal.invariant-loop-row

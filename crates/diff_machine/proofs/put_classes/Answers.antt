@@ -1,12 +1,12 @@
 use Rattle.diff_machine.proofs.Laws.{classes-whole}
 use Rattle.diff_machine.specs.Machines.{class_differs}
 use Rattle.diff_rule.specs.declared.Aspect.TheVariants.{Class}
-use Rattle.diff_rule.proofs.Filled.{Filled, filled_none, filled_next, filled-all, filled-length}
+use Rattle.diff_rule.proofs.Filled.{filled_none, filled_next, filled-all, filled-length}
 use Rattle.diff_rule.proofs.Stored.{stores-other}
 use Rattle.diff_rule.specs.Differences.{noted}
 use Rattle.diff_rule.specs.declared.Difference.{Difference}
 use Rattle.diff_rule.specs.declared.Mark.{Mark}
-use Prim.Native.Nat.{ℕ, ◌+◌, ◌-◌, ◌*◌, ◌≤◌, ◌<◌}
+use Prim.Native.Nat.{ℕ, ◌<◌}
 use native.Mathlib.Omega.{arith}
 use mathlib.Core.Option.{Option}
 use mathlib.Core.List.{List}

@@ -6,7 +6,6 @@ use Rattle.meaning.specs.Meaning.{Machine}
 use native.Mathlib.Omega.{arith}
 use mathlib.Core.Option.{Option}
 use mathlib.Core.Path.{ap₂}
-use borrow.Author.Rules.{rules}
 use Rattle.diff_machine.proofs.put_machines.Goals as goal
 
 pub returns-then-second-eq0 : goal.returns-then-second-eq0

@@ -2,7 +2,6 @@
 use Rattle.diff_rule.proofs.Stored.{stores-two}
 use Rattle.diff_machine.specs.Machines.{classes_by, cells_by}
 use native.Mathlib.Omega.{arith}
-use borrow.Author.Rules.{rules}
 use Rattle.diff_machine.proofs.put_parts.Goals as goal
 
 pub put_classes-middle-requires : goal.put_classes-middle-requires

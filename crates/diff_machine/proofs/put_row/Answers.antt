@@ -1,15 +1,13 @@
 use Rattle.diff_machine.proofs.Laws.{row-whole}
 use Rattle.diff_machine.specs.Machines.{cell_differs}
 use Rattle.diff_rule.specs.declared.Aspect.TheVariants.{Cell}
-use Rattle.diff_rule.proofs.Filled.{Filled, filled_none, filled_next, filled-all, filled-length}
+use Rattle.diff_rule.proofs.Filled.{filled_none, filled_next, filled-all, filled-length}
 use Rattle.diff_rule.proofs.Stored.{stores-other}
 use Rattle.diff_rule.specs.Differences.{noted}
 use Rattle.diff_rule.specs.declared.Mark.{Mark}
-use Prim.Native.Nat.{◌+◌, ◌-◌, ◌*◌, ◌≤◌}
 use native.Mathlib.Omega.{arith}
 use mathlib.Core.Option.{Option}
 use mathlib.Core.Path.{◌≡◌, ap}
-use borrow.Author.Rules.{rules}
 use Rattle.diff_machine.proofs.put_row.Goals as goal
 
 pub loop-class-init : goal.loop-class-init

@@ -1,7 +1,6 @@
 -- `diff_rule::put` meets its contract.
 use lib.Seq.{set_out}
 use mathlib.Core.Path.{sym}
-use borrow.Author.Rules.{rules}
 use Rattle.diff_rule.proofs.put.Goals as goal
 
 pub returns-else-at-list : goal.returns-else-at-list

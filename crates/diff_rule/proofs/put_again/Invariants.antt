@@ -1,13 +1,7 @@
 -- `diff_rule::put_again` meets its contract.
-use Prim.Native.Nat.{◌+◌, ◌-◌, ◌*◌, ◌<◌}
-use native.Mathlib.Omega.{arith}
-use lib.ListN.{length, get_or}
-use lib.Seq.{sets, length-sets}
-use mathlib.Core.List.{[], ◌∷◌}
-use mathlib.Core.Path.{◌≡◌, refl, sym, ap, ◌∙◌}
-use Rattle.fields.specs.Stores.{put_next}
-use Rattle.diff_rule.proofs.Again.{again-next, again-none}
-use borrow.Author.Rules.{rules}
+use Prim.Native.Nat.{◌+◌, ◌*◌}
+use lib.Seq.{sets}
+use mathlib.Core.Path.{◌≡◌}
 use Rattle.diff_rule.specs.Again.{again}
 use Rattle.diff_rule.proofs.put_again.Given as goal
 

@@ -3,7 +3,6 @@ use Rattle.diff_rule.specs.Order.{numbers_of}
 use lib.Seq.{sets}
 use mathlib.Core.List.{[], ◌∷◌}
 use mathlib.Core.Path.{◌∙◌}
-use borrow.Author.Rules.{rules}
 use Rattle.diff_rule.proofs.put_difference.Goals as goal
 
 pub returns : goal.returns

@@ -1,6 +1,5 @@
 -- `diff_rule::put_noted` meets its contract.
 use Rattle.diff_rule.proofs.Stored.{put_same, put-differs}
-use borrow.Author.Rules.{rules}
 use Rattle.diff_rule.proofs.put_noted.Goals as goal
 
 pub returns-in_default : goal.returns-in_default

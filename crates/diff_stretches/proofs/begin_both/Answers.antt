@@ -1,5 +1,4 @@
 -- `diff_stretches::begin_both` meets its contract.
-use borrow.Author.Rules.{rules}
 use Rattle.diff_stretches.proofs.begin_both.Goals as goal
 
 pub returns : goal.returns

@@ -3,7 +3,6 @@ use Rattle.diff_stretches.proofs.Laws.{even-before, even-array, even-one}
 use Prim.Native.Nat.{◌+◌}
 use native.Mathlib.Omega.{arith}
 use mathlib.Core.Path.{refl}
-use borrow.Author.Rules.{rules}
 use Rattle.diff_stretches.proofs.even_end.Goals as goal
 
 pub returns-then-glyph-run : goal.returns-then-glyph-run

@@ -5,7 +5,6 @@ use Rattle.write_glyphs.specs.Places.{SoundSource}
 use Rattle.lookup_targets.specs.declared.Source.{Source}
 use Rattle.lookup.specs.declared.Cursor.{Cursor}
 use mathlib.Core.Path.{sym, subst}
-use borrow.Author.Rules.{rules}
 use Rattle.diff_stretches.proofs.first_run.Goals as goal
 
 pub begin-requires : goal.begin-requires

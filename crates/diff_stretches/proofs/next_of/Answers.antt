@@ -8,7 +8,6 @@ use Prim.Native.Nat.{◌<◌}
 use native.Mathlib.Omega.{arith}
 use mathlib.Core.Path.{refl, sym, subst}
 use mathlib.Core.Bool.{false}
-use borrow.Author.Rules.{rules}
 use Rattle.diff_stretches.proofs.next_of.Goals as goal
 
 pub next_run-requires : goal.next_run-requires

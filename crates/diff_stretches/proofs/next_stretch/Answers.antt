@@ -4,7 +4,6 @@ use Rattle.diff_stretches.specs.declared.GlyphStretch.{GlyphStretch}
 use Prim.Native.Nat.{ℕ, min}
 use native.Mathlib.Omega.{arith}
 use mathlib.Core.Path.{ap, ◌∙◌}
-use borrow.Author.Rules.{rules}
 use Rattle.diff_stretches.proofs.next_stretch.Goals as goal
 
 pub place_by_run-requires : goal.place_by_run-requires

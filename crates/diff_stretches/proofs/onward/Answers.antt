@@ -3,7 +3,6 @@ use Rattle.diff_stretches.specs.Stretches.{ServesBy}
 use Prim.Native.Nat.{ℕ}
 use native.Mathlib.Omega.{arith}
 use mathlib.Core.Path.{◌≡◌, subst}
-use borrow.Author.Rules.{rules}
 use Rattle.diff_stretches.proofs.onward.Goals as goal
 
 pub next_of-requires : goal.next_of-requires

@@ -2,7 +2,6 @@
 use Rattle.write_glyphs.specs.Places.{run_place}
 use Prim.Native.Nat.{ℕ}
 use mathlib.Core.Path.{ap, ◌∙◌}
-use borrow.Author.Rules.{rules}
 use Rattle.diff_stretches.proofs.place_by_run.Goals as goal
 
 pub returns : goal.returns

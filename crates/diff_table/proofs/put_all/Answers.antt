@@ -2,7 +2,6 @@
 use Rattle.diff_table.proofs.Laws.{both-sides}
 use Rattle.diff_table.specs.Sides.{sides_in}
 use Rattle.diff_rule.proofs.Stored.{stores-two, stores-other}
-use borrow.Author.Rules.{rules}
 use Rattle.diff_table.proofs.put_all.Goals as goal
 
 pub returns : goal.returns

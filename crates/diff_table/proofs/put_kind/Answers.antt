@@ -3,7 +3,6 @@ use Rattle.diff_glyphs.specs.Glyphs.{glyphs_differ}
 use Rattle.diff_stretches.specs.declared.Sources.{Sources}
 use Rattle.diff_rule.proofs.Stored.{stores-other}
 use mathlib.Core.Path.{ap}
-use borrow.Author.Rules.{rules}
 use Rattle.diff_table.proofs.put_kind.Goals as goal
 
 pub returns : goal.returns

@@ -6,7 +6,6 @@ use Rattle.diff_rule.specs.declared.Difference.{Difference}
 use Rattle.lookup_targets.specs.declared.Kind.TheVariants.{Clusters, Lists}
 use native.Mathlib.Omega.{arith}
 use mathlib.Core.List.{List, ◌++◌}
-use borrow.Author.Rules.{rules}
 use Rattle.diff_table.proofs.put_side.Goals as goal
 
 pub returns : goal.returns

@@ -5,7 +5,6 @@ use Rattle.diff_rule.specs.Differences.{machines_differ}
 use Rattle.table.specs.Means.{machine_of}
 use Prim.Native.Nat.{ℕ}
 use mathlib.Core.Path.{ap₂}
-use borrow.Author.Rules.{rules}
 use Rattle.diff_table.proofs.put_side_machines.Goals as goal
 
 pub put_machines-requires : goal.put_machines-requires

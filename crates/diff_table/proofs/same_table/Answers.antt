@@ -1,10 +1,8 @@
 use Rattle.diff_table.proofs.Laws.{bytes-more, bytes-all}
-use Prim.Native.Nat.{ℕ, ◌-◌, ◌≤◌}
-use lib.ListN.{take}
+use Prim.Native.Nat.{ℕ}
 use native.Mathlib.Omega.{arith}
 use mathlib.Core.Bool.{Bool, cond}
 use mathlib.Core.Path.{◌≡◌, refl, ap}
-use borrow.Author.Rules.{rules}
 use Rattle.diff_table.proofs.same_table.Goals as goal
 
 pub returns-then-count-other : goal.returns-then-count-other

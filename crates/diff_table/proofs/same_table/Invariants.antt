@@ -1,11 +1,7 @@
 -- `diff_table::same_table` meets its contract.
-use Rattle.diff_table.proofs.Laws.{bytes-more, bytes-all}
-use Prim.Native.Nat.{ℕ, ◌-◌, ◌≤◌}
+use Prim.Native.Nat.{◌-◌, ◌≤◌}
 use lib.ListN.{take}
-use native.Mathlib.Omega.{arith}
-use mathlib.Core.Bool.{Bool, cond}
-use mathlib.Core.Path.{◌≡◌, refl, ap}
-use borrow.Author.Rules.{rules}
+use mathlib.Core.Path.{◌≡◌}
 use Rattle.diff_table.proofs.same_table.Given as goal
 
 abbrev pub invariant-loop-i : goal.invariant-loop-i

@@ -1,6 +1,5 @@
 -- `diff_table::sides_of` meets its contract.
 use Rattle.diff_table.proofs.Laws.{side-good}
-use borrow.Author.Rules.{rules}
 use Rattle.diff_table.proofs.sides_of.Goals as goal
 
 pub returns : goal.returns

@@ -1,7 +1,6 @@
 -- `diff_table::size_all` meets its contract.
 use Rattle.diff_table.proofs.Laws.{size_few, same_size}
 use native.Mathlib.Omega.{arith}
-use borrow.Author.Rules.{rules}
 use Rattle.diff_table.proofs.size_all.Goals as goal
 
 pub returns-then-same_table : goal.returns-then-same_table

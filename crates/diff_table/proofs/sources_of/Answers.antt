@@ -1,6 +1,5 @@
 -- `diff_table::sources_of` meets its contract.
 use Rattle.diff_table.proofs.Laws.{comparable}
-use borrow.Author.Rules.{rules}
 use Rattle.diff_table.proofs.sources_of.Goals as goal
 
 pub returns : goal.returns

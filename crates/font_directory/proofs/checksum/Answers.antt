@@ -1,6 +1,5 @@
-use Rattle.std.proofs.Common.{◌≡◌, ◌+◌, ◌-◌, ◌*◌, ◌%◌, ◌^◌, ◌<◌, arith, rules}
+use Rattle.std.proofs.Common.{arith}
 use Rattle.font_directory.proofs.Laws.{sum-begin, sum-next, sum-end}
-use Rattle.font_directory.specs.Sum.{word_sum, checksum_of}
 use Rattle.font_directory.proofs.checksum.Goals as goal
 
 pub loop-k-init : goal.loop-k-init

@@ -1,6 +1,5 @@
 -- `font_directory::checksum` meets its contract.
-use Rattle.std.proofs.Common.{◌≡◌, ◌+◌, ◌-◌, ◌*◌, ◌%◌, ◌^◌, ◌<◌, arith, rules}
-use Rattle.font_directory.proofs.Laws.{sum-begin, sum-next, sum-end}
+use Rattle.std.proofs.Common.{◌≡◌, ◌+◌, ◌-◌, ◌*◌, ◌%◌, ◌^◌, ◌<◌}
 use Rattle.font_directory.specs.Sum.{word_sum, checksum_of}
 use Rattle.font_directory.proofs.checksum.Given as goal
 

@@ -1,6 +1,5 @@
-use Rattle.std.proofs.Common.{◌≡◌, ◌+◌, ◌*◌, ◌^◌, ◌<◌, sym, ◌∙◌, arith, rules}
+use Rattle.std.proofs.Common.{sym, ◌∙◌, arith}
 use Rattle.font_directory.proofs.Laws.{listed-all, listed_here, listed_next, listed-none}
-use Rattle.font_directory.specs.Directory.{first_from, first_listed}
 use Rattle.font_directory.proofs.find_record.Goals as goal
 
 pub loop-left-init : goal.loop-left-init

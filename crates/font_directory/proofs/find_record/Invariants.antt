@@ -1,6 +1,5 @@
 -- `font_directory::find_record` meets its contract.
-use Rattle.std.proofs.Common.{◌≡◌, ◌+◌, ◌*◌, ◌^◌, ◌<◌, sym, ◌∙◌, arith, rules}
-use Rattle.font_directory.proofs.Laws.{listed-all, listed_here, listed_next, listed-none}
+use Rattle.std.proofs.Common.{◌≡◌, ◌+◌, ◌*◌, ◌^◌, ◌<◌}
 use Rattle.font_directory.specs.Directory.{first_from, first_listed}
 use Rattle.font_directory.proofs.find_record.Given as goal
 

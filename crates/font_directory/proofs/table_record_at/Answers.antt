@@ -1,6 +1,5 @@
 -- `font_directory::table_record_at` meets its contract.
 use Rattle.font_directory.proofs.Laws.{record-as}
-use Rattle.std.proofs.Common.{rules}
 use Rattle.font_directory.proofs.table_record_at.Goals as goal
 
 pub returns : goal.returns

@@ -1,6 +1,6 @@
 -- `font_directory::table_sum` meets its contract.
 use Rattle.font_directory.proofs.Laws.{named-bytes}
-use Rattle.std.proofs.Common.{ap, ◌∙◌, rules}
+use Rattle.std.proofs.Common.{ap, ◌∙◌}
 use Rattle.font_directory.specs.Sum.{checksum_of}
 use Rattle.font_directory.proofs.table_sum.Goals as goal
 

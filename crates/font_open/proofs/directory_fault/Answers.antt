@@ -1,6 +1,5 @@
 -- `font_open::directory_fault` meets its contract.
 use Rattle.font_open.proofs.Laws.{directory-as}
-use borrow.Author.Rules.{rules}
 use Rattle.font_open.proofs.directory_fault.Goals as goal
 
 pub returns : goal.returns

@@ -1,6 +1,5 @@
 -- `font_open::extents_fault` meets its contract.
 use Rattle.font_open.proofs.Laws.{places-as}
-use borrow.Author.Rules.{rules}
 use Rattle.font_open.proofs.extents_fault.Goals as goal
 
 pub returns : goal.returns

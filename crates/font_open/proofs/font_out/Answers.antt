@@ -5,7 +5,6 @@ use Rattle.font_open.specs.declared.JustFont.{JustFont}
 use Rattle.font_open.specs.OpenedInC.{font_in}
 use Rattle.font_open.specs.declared.FontAnswer.{FontAnswer}
 use Rattle.font_open.specs.Opened.{says_font}
-use borrow.Author.Rules.{rules}
 use Rattle.font_open.proofs.font_out.Goals as goal
 
 abbrev refused_by : ℕ → ℕ → JustFont

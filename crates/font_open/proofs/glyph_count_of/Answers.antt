@@ -5,7 +5,6 @@ use mathlib.Core.Path.{ap, ◌∙◌}
 use Rattle.fields.specs.Field.{u16_at}
 use Rattle.font_directory.proofs.Laws.{named-bytes}
 use Rattle.font_open.specs.Opened.{count_offset}
-use borrow.Author.Rules.{rules}
 use Rattle.font_open.proofs.glyph_count_of.Goals as goal
 
 pub returns : goal.returns

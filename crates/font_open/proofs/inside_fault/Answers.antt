@@ -1,6 +1,5 @@
 -- `font_open::inside_fault` meets its contract.
 use Rattle.font_open.proofs.Laws.{inside-as}
-use borrow.Author.Rules.{rules}
 use Rattle.font_open.proofs.inside_fault.Goals as goal
 
 pub returns : goal.returns

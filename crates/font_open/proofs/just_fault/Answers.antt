@@ -4,7 +4,6 @@ use mathlib.Core.List.{List}
 use mathlib.Core.Path.{ap, ◌∙◌}
 use Rattle.table.specs.Table.{table_fault}
 use Rattle.font_directory.proofs.Laws.{named-bytes}
-use borrow.Author.Rules.{rules}
 use Rattle.font_open.proofs.just_fault.Goals as goal
 
 pub returns : goal.returns

@@ -1,6 +1,5 @@
 -- `font_open::open_font` meets its contract.
 use Rattle.font_open.proofs.Laws.{no-directory, no-just, no-maxp, both-there}
-use borrow.Author.Rules.{rules}
 use Rattle.font_open.proofs.open_font.Goals as goal
 
 pub returns-in-Bad : goal.returns-in-Bad

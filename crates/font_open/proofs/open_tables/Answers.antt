@@ -1,7 +1,6 @@
 -- `font_open::open_tables` meets its contract.
 use Rattle.font_open.proofs.Laws.{tables-clear, both-opened, both-refused}
 use mathlib.Core.Path.{sym, ◌∙◌}
-use borrow.Author.Rules.{rules}
 use Rattle.font_open.proofs.open_tables.Goals as goal
 
 pub glyph_count_of-requires : goal.glyph_count_of-requires

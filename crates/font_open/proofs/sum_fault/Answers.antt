@@ -1,6 +1,5 @@
 -- `font_open::sum_fault` meets its contract.
 use Rattle.font_open.proofs.Laws.{sum-as}
-use borrow.Author.Rules.{rules}
 use Rattle.font_open.proofs.sum_fault.Goals as goal
 
 pub returns : goal.returns

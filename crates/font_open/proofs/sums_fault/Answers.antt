@@ -1,6 +1,5 @@
 -- `font_open::sums_fault` meets its contract.
 use Rattle.font_open.proofs.Laws.{sums-as}
-use borrow.Author.Rules.{rules}
 use Rattle.font_open.proofs.sums_fault.Goals as goal
 
 pub returns : goal.returns

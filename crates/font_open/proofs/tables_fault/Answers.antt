@@ -1,7 +1,6 @@
 -- `font_open::tables_fault` meets its contract.
 use Rattle.font_open.proofs.Laws.{places-clear, places-stop, sums-stop, reader-last}
 use mathlib.Core.Path.{sym, ◌∙◌}
-use borrow.Author.Rules.{rules}
 use Rattle.font_open.proofs.tables_fault.Goals as goal
 
 pub returns-in-Bad : goal.returns-in-Bad

@@ -1,8 +1,5 @@
 use native.Mathlib.Omega.{arith}
-use lib.ListN.{length, drop}
-use Prim.Native.Nat.{◌-◌, ◌≤◌}
-use mathlib.Core.Path.{◌≡◌, refl, sym, ◌∙◌}
-use Rattle.line_input.specs.Input.{all_known}
+use mathlib.Core.Path.{refl, sym, ◌∙◌}
 use Rattle.line_input.proofs.Tests.{each-known, each_on, each-not, each-end}
 use Rattle.line_input.proofs.all_known.Goals as goal
 

@@ -1,7 +1,6 @@
 -- `line_input::gap_of` meets its contract.
 use mathlib.Core.Path.{sym, ◌∙◌}
 use Rattle.line_input.proofs.Gaps.{plain, wide, as_read, gap-unsummed, gap-negative, gap-far, gap-fits, gap-there}
-use borrow.Author.Rules.{rules}
 use Rattle.line_input.proofs.gap_of.Goals as goal
 
 pub returns-in_default : goal.returns-in_default

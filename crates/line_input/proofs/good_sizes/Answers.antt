@@ -1,8 +1,5 @@
 use native.Mathlib.Omega.{arith}
-use lib.ListN.{length, drop}
-use Prim.Native.Nat.{◌-◌, ◌≤◌}
-use mathlib.Core.Path.{◌≡◌, refl, sym, ◌∙◌}
-use Rattle.line_input.specs.Input.{good_sizes}
+use mathlib.Core.Path.{refl, sym, ◌∙◌}
 use Rattle.line_input.proofs.Tests.{each-size, each_on, each-not, each-end}
 use Rattle.line_input.proofs.good_sizes.Goals as goal
 

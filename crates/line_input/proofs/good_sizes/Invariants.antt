@@ -1,10 +1,8 @@
 -- `line_input::good_sizes` meets its contract.
-use native.Mathlib.Omega.{arith}
 use lib.ListN.{length, drop}
 use Prim.Native.Nat.{◌-◌, ◌≤◌}
-use mathlib.Core.Path.{◌≡◌, refl, sym, ◌∙◌}
+use mathlib.Core.Path.{◌≡◌}
 use Rattle.line_input.specs.Input.{good_sizes}
-use Rattle.line_input.proofs.Tests.{each-size, each_on, each-not, each-end}
 use Rattle.line_input.proofs.good_sizes.Given as goal
 
 abbrev pub invariant-loop-i : goal.invariant-loop-i

@@ -5,7 +5,6 @@ use mathlib.Core.Path.{ap, ◌∙◌}
 use Rattle.fields.specs.declared.Refusal.TheVariants.{UnequalLengths, UnknownEdition, PointSize}
 use Rattle.fields.specs.Faults.{rule}
 use Rattle.fields.specs.Laws.{then-of}
-use borrow.Author.Rules.{rules}
 use Rattle.line_input.proofs.input_fault.Goals as goal
 
 pub returns : goal.returns

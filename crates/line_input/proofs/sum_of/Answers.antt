@@ -1,14 +1,12 @@
 use lib.IntN.{ℤ, pos}
 use mir.Syntax.{w64}
 use mir.ValLaws.{to_z_pos}
-use lib.ListN.{get_or, length, drop}
-use Rattle.line_input.proofs.Gaps.{plain, as_read, added-negative, added-over, added-on, added-end, added, added-start}
+use lib.ListN.{get_or}
+use Rattle.line_input.proofs.Gaps.{plain, as_read, added-negative, added-over, added-on, added-end, added-start}
 use native.Mathlib.Omega.{arith}
-use Prim.Native.Nat.{◌-◌, ◌≤◌}
-use mathlib.Core.Path.{◌≡◌, sym, ap, ◌∙◌}
+use mathlib.Core.Path.{sym, ap, ◌∙◌}
 use Rattle.units.specs.Fixed.{in_units}
 use Rattle.line_input.specs.declared.Sum.TheVariants.{Total}
-use Rattle.line_input.specs.Steps.{sum_in}
 use Rattle.line_input.proofs.sum_of.Goals as goal
 
 pub loop-i-init : goal.loop-i-init

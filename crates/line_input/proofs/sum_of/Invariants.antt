@@ -1,14 +1,8 @@
 -- `line_input::sum_of` meets its contract.
-use lib.IntN.{ℤ, pos}
-use mir.Syntax.{w64}
-use mir.ValLaws.{to_z_pos}
-use lib.ListN.{get_or, length, drop}
-use Rattle.line_input.proofs.Gaps.{plain, as_read, added-negative, added-over, added-on, added-end, added, added-start}
-use native.Mathlib.Omega.{arith}
+use lib.ListN.{length, drop}
+use Rattle.line_input.proofs.Gaps.{added}
 use Prim.Native.Nat.{◌-◌, ◌≤◌}
-use mathlib.Core.Path.{◌≡◌, sym, ap, ◌∙◌}
-use Rattle.units.specs.Fixed.{in_units}
-use Rattle.line_input.specs.declared.Sum.TheVariants.{Total}
+use mathlib.Core.Path.{◌≡◌}
 use Rattle.line_input.specs.Steps.{sum_in}
 use Rattle.line_input.proofs.sum_of.Given as goal
 

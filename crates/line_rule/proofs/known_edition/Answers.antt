@@ -2,7 +2,6 @@
 use mathlib.Core.Path.{sym, ap, ◌∙◌}
 use mathlib.Core.Bool.{Bool, ◌||◌}
 use lib.Dec.{eqb}
-use borrow.Author.Rules.{rules}
 use Rattle.line_rule.proofs.known_edition.Goals as goal
 
 pub returns-then-goes_back : goal.returns-then-goes_back

@@ -1,7 +1,6 @@
 -- `lookup::array_fault` meets its contract.
 use mathlib.Core.Path.{sym, ◌∙◌}
 use Rattle.lookup.proofs.Laws.{array-room}
-use borrow.Author.Rules.{rules}
 use Rattle.lookup.proofs.array_fault.Goals as goal
 
 pub returns : goal.returns

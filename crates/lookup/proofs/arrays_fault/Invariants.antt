@@ -1,8 +1,6 @@
 -- `lookup::arrays_fault` meets its contract.
-use borrow.Author.Rules.{rules}
-use mathlib.Core.Path.{◌≡◌, refl, sym, ◌∙◌}
+use mathlib.Core.Path.{◌≡◌}
 use Prim.Native.Nat.{◌+◌, ◌*◌, ◌<◌, ◌^◌}
-use Rattle.fields.specs.Walk.{walk-stop, walk-next, walk_none}
 use Rattle.lookup.specs.Units.{arrays_fault}
 use Rattle.lookup.proofs.arrays_fault.Given as goal
 

@@ -3,7 +3,6 @@ use native.Mathlib.Omega.{arith}
 use mathlib.Core.Path.{refl, ap}
 use Prim.Native.Nat.{ℕ, ◌+◌}
 use Rattle.lookup.proofs.Pass.{serves-begin}
-use borrow.Author.Rules.{rules}
 use Rattle.lookup.proofs.begin.Goals as goal
 
 pub returns : goal.returns

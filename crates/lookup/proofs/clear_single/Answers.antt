@@ -3,7 +3,6 @@ use Rattle.lookup.proofs.Laws.{single-clear}
 use Prim.Native.Nat.{ℕ, ◌+◌}
 use native.Mathlib.Omega.{arith}
 use mathlib.Core.Path.{ap}
-use borrow.Author.Rules.{rules}
 use Rattle.lookup.proofs.clear_single.Goals as goal
 
 pub returns-then-table-p : goal.returns-then-table-p

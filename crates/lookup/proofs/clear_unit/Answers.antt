@@ -1,7 +1,6 @@
 -- `lookup::clear_unit` meets its contract.
 use mathlib.Core.Path.{◌∙◌}
 use Rattle.lookup.proofs.Laws.{unit-single, unit-range}
-use borrow.Author.Rules.{rules}
 use Rattle.lookup.proofs.clear_unit.Goals as goal
 
 pub returns-then-format-eq6 : goal.returns-then-format-eq6

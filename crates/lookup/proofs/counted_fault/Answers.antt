@@ -1,5 +1,4 @@
 -- `lookup::counted_fault` meets its contract.
-use borrow.Author.Rules.{rules}
 use Rattle.lookup.specs.Lookup.{counted_fault}
 use Rattle.fields.specs.Laws.{then-of}
 use Rattle.lookup.proofs.counted_fault.Goals as goal

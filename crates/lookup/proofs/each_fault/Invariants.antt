@@ -1,8 +1,6 @@
 -- `lookup::each_fault` meets its contract.
-use borrow.Author.Rules.{rules}
-use mathlib.Core.Path.{◌≡◌, refl, sym, ◌∙◌, ap}
-use Prim.Native.Nat.{ℕ, ◌+◌, ◌*◌, ◌<◌, ◌^◌}
-use Rattle.fields.specs.Walk.{walk-stop, walk-next, walk_none}
+use mathlib.Core.Path.{◌≡◌}
+use Prim.Native.Nat.{◌+◌, ◌*◌, ◌<◌, ◌^◌}
 use Rattle.lookup.specs.Units.{units_fault}
 use Rattle.lookup.proofs.each_fault.Given as goal
 

@@ -2,7 +2,6 @@
 use mathlib.Core.Path.{sym, ◌∙◌}
 use native.Mathlib.Omega.{arith}
 use Rattle.lookup.proofs.Laws.{size-single, size-range, first-single, first_range}
-use borrow.Author.Rules.{rules}
 use Rattle.lookup.proofs.first_of.Goals as goal
 
 pub u16_in-requires : goal.u16_in-requires

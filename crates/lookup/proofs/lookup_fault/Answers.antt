@@ -1,5 +1,4 @@
 -- `lookup::lookup_fault` meets its contract.
-use borrow.Author.Rules.{rules}
 use mathlib.Core.Path.{sym, ◌∙◌}
 use Rattle.fields.specs.Laws.{then-stop}
 use Rattle.lookup.specs.Lookup.{lookup_fault}

@@ -2,7 +2,6 @@
 use mathlib.Core.Path.{sym, ◌∙◌}
 use Rattle.fields.specs.Laws.{then-stop, then-go}
 use Rattle.lookup.specs.Lookup.{segments_fault}
-use borrow.Author.Rules.{rules}
 use Rattle.lookup.proofs.segments_fault.Goals as goal
 
 pub returns-in-Bad : goal.returns-in-Bad

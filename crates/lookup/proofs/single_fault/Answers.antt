@@ -1,6 +1,5 @@
 -- `lookup::single_fault` meets its contract.
 use Rattle.lookup.specs.Units.{single_fault}
-use borrow.Author.Rules.{rules}
 use Rattle.lookup.proofs.single_fault.Goals as goal
 
 pub returns : goal.returns

@@ -1,6 +1,5 @@
 -- `lookup::trimmed_fault` meets its contract.
 use Rattle.lookup.specs.Lookup.{trimmed_fault}
-use borrow.Author.Rules.{rules}
 use Rattle.lookup.proofs.trimmed_fault.Goals as goal
 
 pub returns : goal.returns

@@ -1,6 +1,5 @@
 -- `lookup::unit_array_fault` meets its contract.
 use Rattle.lookup.specs.Units.{unit_array_fault}
-use borrow.Author.Rules.{rules}
 use Rattle.lookup.proofs.unit_array_fault.Goals as goal
 
 pub returns : goal.returns

@@ -1,7 +1,6 @@
 -- `lookup::unit_fault` meets its contract.
 use mathlib.Core.Path.{sym, ◌∙◌}
 use Rattle.lookup.proofs.Laws.{unit-single, unit-range}
-use borrow.Author.Rules.{rules}
 use Rattle.lookup.proofs.unit_fault.Goals as goal
 
 pub returns-then-format-eq6 : goal.returns-then-format-eq6

@@ -1,9 +1,8 @@
 use borrow.Author.Rules.{rules}
-use mathlib.Core.Path.{◌≡◌, refl, sym, ◌∙◌, ap}
-use Prim.Native.Nat.{ℕ, ◌+◌, ◌*◌, ◌<◌, ◌^◌}
+use mathlib.Core.Path.{refl, sym, ◌∙◌, ap}
+use Prim.Native.Nat.{ℕ, ◌+◌}
 use native.Mathlib.Omega.{arith}
 use Rattle.fields.specs.Walk.{walk-next, walk_none}
-use Rattle.lookup.specs.Units.{units_fault}
 use Rattle.lookup.proofs.units_fault.Goals as goal
 
 pub loop-left-init : goal.loop-left-init

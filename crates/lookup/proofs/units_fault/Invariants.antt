@@ -1,9 +1,6 @@
 -- `lookup::units_fault` meets its contract.
-use borrow.Author.Rules.{rules}
-use mathlib.Core.Path.{◌≡◌, refl, sym, ◌∙◌, ap}
-use Prim.Native.Nat.{ℕ, ◌+◌, ◌*◌, ◌<◌, ◌^◌}
-use native.Mathlib.Omega.{arith}
-use Rattle.fields.specs.Walk.{walk-next, walk_none}
+use mathlib.Core.Path.{◌≡◌}
+use Prim.Native.Nat.{◌+◌, ◌*◌, ◌<◌, ◌^◌}
 use Rattle.lookup.specs.Units.{units_fault}
 use Rattle.lookup.proofs.units_fault.Given as goal
 

@@ -1,7 +1,6 @@
 -- `lookup_find::find_by` meets its contract.
 use Rattle.lookup_find.proofs.Laws.{head-format, find-0, find-8}
 use mathlib.Core.Path.{sym, ◌∙◌}
-use borrow.Author.Rules.{rules}
 use Rattle.lookup_find.proofs.find_by.Goals as goal
 
 pub array_value-requires : goal.array_value-requires

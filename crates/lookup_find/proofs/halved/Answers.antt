@@ -1,8 +1,7 @@
-use Rattle.lookup_find.proofs.Laws.{Halving, halving-begin, halving-none, halving-inside, halving-low, halving-high, halving-here}
+use Rattle.lookup_find.proofs.Laws.{halving-begin, halving-none, halving-inside, halving-low, halving-high, halving-here}
 use Rattle.lookup.proofs.Laws.{size-least}
 use borrow.Author.Rules.{rules}
 use mathlib.Core.Path.{refl}
-use Prim.Native.Nat.{◌+◌, ◌*◌, ◌≤◌, ◌<◌, ◌^◌}
 use native.Mathlib.Omega.{arith}
 use Rattle.lookup_find.proofs.halved.Goals as goal
 

@@ -1,10 +1,6 @@
 -- `lookup_find::halved` meets its contract.
-use Rattle.lookup_find.proofs.Laws.{Halving, halving-begin, halving-none, halving-inside, halving-low, halving-high, halving-here}
-use Rattle.lookup.proofs.Laws.{size-least}
-use borrow.Author.Rules.{rules}
-use mathlib.Core.Path.{refl}
+use Rattle.lookup_find.proofs.Laws.{Halving}
 use Prim.Native.Nat.{◌+◌, ◌*◌, ◌≤◌, ◌<◌, ◌^◌}
-use native.Mathlib.Omega.{arith}
 use Rattle.lookup_find.proofs.halved.Given as goal
 
 abbrev pub invariant-loop-left : goal.invariant-loop-left

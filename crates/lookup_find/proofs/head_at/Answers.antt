@@ -1,6 +1,5 @@
 -- `lookup_find::head_at` meets its contract.
 use Rattle.lookup_find.proofs.Laws.{head-is}
-use borrow.Author.Rules.{rules}
 use Rattle.lookup_find.proofs.head_at.Goals as goal
 
 pub returns : goal.returns

@@ -1,6 +1,5 @@
 -- `lookup_find::is_closing` meets its contract.
 use Rattle.lookup_find.proofs.Laws.{closing-single, closing-range, closing-not}
-use borrow.Author.Rules.{rules}
 use Rattle.lookup_find.proofs.is_closing.Goals as goal
 
 pub returns-then-format-eq6 : goal.returns-then-format-eq6

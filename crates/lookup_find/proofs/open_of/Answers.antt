@@ -2,7 +2,6 @@
 use native.Mathlib.Omega.{arith}
 use Rattle.lookup_find.proofs.Laws.{open-closed, open-all}
 use mathlib.Core.Path.{sym, ◌∙◌}
-use borrow.Author.Rules.{rules}
 use Rattle.lookup_find.proofs.open_of.Goals as goal
 
 pub returns-then-is_closing : goal.returns-then-is_closing

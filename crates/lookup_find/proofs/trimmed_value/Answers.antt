@@ -3,7 +3,6 @@ use Rattle.lookup_find.proofs.Laws.{value-8}
 use Rattle.lookup.proofs.Laws.{value_none, trimmed-low, trimmed-high, trimmed-in}
 use Rattle.lookup.specs.declared.Found.TheVariants.{Value}
 use mathlib.Core.Path.{sym, ◌∙◌, ap}
-use borrow.Author.Rules.{rules}
 use Rattle.lookup_find.proofs.trimmed_value.Goals as goal
 
 pub returns-then-glyphs-glyph : goal.returns-then-glyphs-glyph

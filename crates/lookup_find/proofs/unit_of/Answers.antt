@@ -1,6 +1,5 @@
 -- `lookup_find::unit_of` meets its contract.
 use Rattle.lookup_find.proofs.Laws.{unit-of-single, unit-of-range}
-use borrow.Author.Rules.{rules}
 use Rattle.lookup_find.proofs.unit_of.Goals as goal
 
 pub returns-then-format-eq6 : goal.returns-then-format-eq6

@@ -2,7 +2,6 @@
 use Rattle.lookup.proofs.Laws.{size-least, size-range, value-2, value-4, value-6}
 use mathlib.Core.Path.{sym, ◌∙◌}
 use native.Mathlib.Omega.{arith}
-use borrow.Author.Rules.{rules}
 use Rattle.lookup_find.proofs.unit_value.Goals as goal
 
 pub u16_in-requires : goal.u16_in-requires

@@ -2,7 +2,6 @@
 use mathlib.Core.Path.{sym, ◌∙◌}
 use Rattle.lookup.proofs.Pass.{serves-inside}
 use Rattle.lookup_runs.proofs.Laws.{next-every, next-trimmed, next-units, every-follows}
-use borrow.Author.Rules.{rules}
 use Rattle.lookup_runs.proofs.next_run.Goals as goal
 
 pub returns-then-format-eq0 : goal.returns-then-format-eq0
@@ -19,7 +18,7 @@ pub units_run-requires : goal.units_run-requires
 units_run-requires c =
     let k = c.requires in
     let s = k.1.1.1 in
-    record { at_bound = (k.0, (k.1.1.0, s.near));  fact = (c.if-format-eq0.false, (c.if-format-eq8.false, serves-inside _ _ _ k.1.1.0 s)) }
+    record { at_bound = (k.0, (k.1.1.0, s.near)); fact = (c.if-format-eq0.false, (c.if-format-eq8.false, serves-inside _ _ _ k.1.1.0 s)) }
 
 pub returns : goal.returns
 returns c =

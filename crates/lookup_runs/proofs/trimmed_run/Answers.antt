@@ -4,7 +4,6 @@ use mathlib.Core.Path.{sym, subst, ◌∙◌}
 use Rattle.lookup_runs.specs.Runs.{Follows}
 use Rattle.lookup_runs.specs.declared.Run.{Run}
 use Rattle.lookup_runs.proofs.Laws.{trimmed-end, trimmed-some, trimmed-ends, trimmed-follows}
-use borrow.Author.Rules.{rules}
 use Rattle.lookup_runs.proofs.trimmed_run.Goals as goal
 
 pub u16_in-first-requires : goal.u16_in-first-requires

@@ -3,7 +3,6 @@ use mathlib.Core.Path.{sym}
 use native.Mathlib.Omega.{arith}
 use Rattle.lookup_runs.proofs.Laws.{place-2, place-4, place-6, is-4}
 use Rattle.lookup.proofs.Laws.{size-range}
-use borrow.Author.Rules.{rules}
 use Rattle.lookup_runs.proofs.unit_place.Goals as goal
 
 pub returns-then-format-eq2 : goal.returns-then-format-eq2

@@ -7,7 +7,6 @@ use Rattle.lookup.proofs.Pass.{some_left}
 use Rattle.lookup_runs.specs.Runs.{Follows}
 use Rattle.lookup_runs.specs.declared.Run.{Run}
 use Rattle.lookup_runs.proofs.Laws.{units-over, unit-is, units-end, unit-follows}
-use borrow.Author.Rules.{rules}
 use Rattle.lookup_runs.proofs.units_run.Goals as goal
 
 pub returns-then-left-eq0 : goal.returns-then-left-eq0

@@ -2,7 +2,6 @@
 use Rattle.lookup_targets.proofs.Laws.{told_at_lem, told-nowhere}
 use Rattle.lookup_targets.specs.Values.{NoteTells}
 use mathlib.Core.Path.{◌∙◌, sym, subst}
-use borrow.Author.Rules.{rules}
 use Rattle.lookup_targets.proofs.is_judged.Goals as goal
 
 pub returns-in-At : goal.returns-in-At

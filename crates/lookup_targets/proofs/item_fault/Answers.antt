@@ -3,7 +3,6 @@ use mathlib.Core.Path.{◌∙◌, ap, sym}
 use Rattle.lookup_targets.proofs.Laws.{actions-judged}
 use Rattle.lookup_targets.specs.Values.{item_fault}
 use Rattle.lookup_targets.specs.declared.Kind.{Kind}
-use borrow.Author.Rules.{rules}
 use Rattle.lookup_targets.proofs.item_fault.Goals as goal
 
 pub returns-in-Clusters : goal.returns-in-Clusters

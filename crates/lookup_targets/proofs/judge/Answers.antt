@@ -2,8 +2,6 @@
 use Rattle.lookup_targets.proofs.Laws.{item-judged}
 use Rattle.lookup_targets.specs.Values.{besides}
 use mathlib.Core.Path.{◌∙◌, sym, ap}
-use Prim.Native.Nat.{ℕ}
-use borrow.Author.Rules.{rules}
 use Rattle.lookup_targets.proofs.judge.Goals as goal
 
 pub returns : goal.returns

@@ -1,7 +1,6 @@
 -- `lookup_targets::judge_value` meets its contract.
 use mathlib.Core.Path.{refl, ◌∙◌, sym}
 use Rattle.lookup_targets.proofs.Laws.{place_of}
-use borrow.Author.Rules.{rules}
 use Rattle.lookup_targets.proofs.judge_value.Goals as goal
 
 pub returns-in-At : goal.returns-in-At

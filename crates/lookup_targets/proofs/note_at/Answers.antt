@@ -2,7 +2,6 @@
 use Rattle.lookup_targets.proofs.Laws.{note-kept, note-made}
 use native.Mathlib.Omega.{arith}
 use mathlib.Core.Path.{◌∙◌}
-use borrow.Author.Rules.{rules}
 use Rattle.lookup_targets.proofs.note_at.Goals as goal
 
 pub returns-then-told-u8_at : goal.returns-then-told-u8_at

@@ -1,9 +1,6 @@
 use Rattle.lookup_targets.proofs.Laws.{each_turn, each_over}
-use Rattle.lookup_targets.specs.Values.{note_each}
 use native.Mathlib.Omega.{arith}
-use mathlib.Core.Path.{◌≡◌, refl, sym, ◌∙◌}
-use Prim.Native.Nat.{◌+◌, ◌*◌, ◌≤◌}
-use lib.ListN.{length}
+use mathlib.Core.Path.{refl, sym, ◌∙◌}
 use borrow.Author.Rules.{rules}
 use Rattle.lookup_targets.proofs.note_each.Goals as goal
 

@@ -1,11 +1,8 @@
 -- `lookup_targets::note_each` meets its contract.
-use Rattle.lookup_targets.proofs.Laws.{each_turn, each_over}
 use Rattle.lookup_targets.specs.Values.{note_each}
-use native.Mathlib.Omega.{arith}
-use mathlib.Core.Path.{◌≡◌, refl, sym, ◌∙◌}
+use mathlib.Core.Path.{◌≡◌}
 use Prim.Native.Nat.{◌+◌, ◌*◌, ◌≤◌}
 use lib.ListN.{length}
-use borrow.Author.Rules.{rules}
 use Rattle.lookup_targets.proofs.note_each.Given as goal
 
 abbrev pub invariant-loop-left : goal.invariant-loop-left

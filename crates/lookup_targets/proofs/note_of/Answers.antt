@@ -2,7 +2,6 @@
 use Rattle.lookup_targets.specs.declared.Kind.{Kind}
 use Rattle.lookup_targets.specs.Values.{besides}
 use mathlib.Core.Path.{ap, sym}
-use borrow.Author.Rules.{rules}
 use Rattle.lookup_targets.proofs.note_of.Goals as goal
 
 pub returns-in-Clusters : goal.returns-in-Clusters

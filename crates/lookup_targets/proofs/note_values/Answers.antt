@@ -1,9 +1,7 @@
 use Rattle.lookup_targets.proofs.Laws.{along-turn, along-over}
-use Rattle.lookup_targets.specs.Values.{note_along}
 use native.Mathlib.Omega.{arith}
-use mathlib.Core.Path.{◌≡◌, refl, sym, ap, ◌∙◌}
-use Prim.Native.Nat.{ℕ, ◌+◌, ◌-◌, ◌*◌, ◌≤◌, max}
-use lib.ListN.{length}
+use mathlib.Core.Path.{refl, sym, ap, ◌∙◌}
+use Prim.Native.Nat.{◌-◌, max}
 use borrow.Author.Rules.{rules}
 use Rattle.lookup_targets.proofs.note_values.Goals as goal
 

@@ -1,11 +1,8 @@
 -- `lookup_targets::note_values` meets its contract.
-use Rattle.lookup_targets.proofs.Laws.{along-turn, along-over}
 use Rattle.lookup_targets.specs.Values.{note_along}
-use native.Mathlib.Omega.{arith}
-use mathlib.Core.Path.{◌≡◌, refl, sym, ap, ◌∙◌}
-use Prim.Native.Nat.{ℕ, ◌+◌, ◌-◌, ◌*◌, ◌≤◌, max}
+use mathlib.Core.Path.{◌≡◌}
+use Prim.Native.Nat.{ℕ, ◌+◌, ◌*◌, ◌≤◌}
 use lib.ListN.{length}
-use borrow.Author.Rules.{rules}
 use Rattle.lookup_targets.proofs.note_values.Given as goal
 
 abbrev pub invariant-loop-left : goal.invariant-loop-left

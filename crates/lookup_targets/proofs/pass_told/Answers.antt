@@ -1,10 +1,5 @@
-use borrow.Author.Rules.{rules}
-use borrow.Author.Tests.{not-false}
 use native.Mathlib.Omega.{arith}
-use Prim.Native.Nat.{◌-◌, ◌≤◌}
 use mathlib.Core.Path.{◌≡◌, refl, ◌∙◌}
-use Rattle.lookup.specs.Pass.{Serves}
-use Rattle.lookup_targets.specs.Values.{from_glyph}
 use Rattle.lookup_targets.proofs.Laws.{run-told}
 use Rattle.lookup_targets.proofs.pass_told.Goals as goal
 

@@ -1,12 +1,8 @@
 -- `lookup_targets::pass_told` meets its contract.
-use borrow.Author.Rules.{rules}
-use borrow.Author.Tests.{not-false}
-use native.Mathlib.Omega.{arith}
 use Prim.Native.Nat.{◌-◌, ◌≤◌}
-use mathlib.Core.Path.{◌≡◌, refl, ◌∙◌}
+use mathlib.Core.Path.{◌≡◌}
 use Rattle.lookup.specs.Pass.{Serves}
 use Rattle.lookup_targets.specs.Values.{from_glyph}
-use Rattle.lookup_targets.proofs.Laws.{run-told}
 use Rattle.lookup_targets.proofs.pass_told.Given as goal
 
 abbrev pub invariant-loop-glyph : goal.invariant-loop-glyph

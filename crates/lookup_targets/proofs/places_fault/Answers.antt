@@ -1,10 +1,9 @@
 use Rattle.lookup_targets.proofs.Laws.{part-passed, part-known, part-stops, each-noted, along-noted, noted-ahead}
-use Rattle.lookup_targets.specs.Values.{place_fault, Judged, Ahead}
-use Rattle.fields.specs.Walk.{each, walk_none}
+use Rattle.lookup_targets.specs.Values.{place_fault}
+use Rattle.fields.specs.Walk.{walk_none}
 use native.Mathlib.Omega.{arith}
-use mathlib.Core.Path.{◌≡◌, refl, sym, ◌∙◌}
-use Prim.Native.Nat.{◌+◌, ◌*◌}
-use lib.ListN.{length}
+use mathlib.Core.Path.{refl, sym, ◌∙◌}
+use Prim.Native.Nat.{◌+◌}
 use borrow.Author.Rules.{rules}
 use Rattle.lookup_targets.proofs.places_fault.Goals as goal
 

@@ -1,12 +1,9 @@
 -- `lookup_targets::places_fault` meets its contract.
-use Rattle.lookup_targets.proofs.Laws.{part-passed, part-known, part-stops, each-noted, along-noted, noted-ahead}
 use Rattle.lookup_targets.specs.Values.{place_fault, Judged, Ahead}
-use Rattle.fields.specs.Walk.{each, walk_none}
-use native.Mathlib.Omega.{arith}
-use mathlib.Core.Path.{◌≡◌, refl, sym, ◌∙◌}
+use Rattle.fields.specs.Walk.{each}
+use mathlib.Core.Path.{◌≡◌}
 use Prim.Native.Nat.{◌+◌, ◌*◌}
 use lib.ListN.{length}
-use borrow.Author.Rules.{rules}
 use Rattle.lookup_targets.proofs.places_fault.Given as goal
 
 abbrev pub invariant-loop-left : goal.invariant-loop-left

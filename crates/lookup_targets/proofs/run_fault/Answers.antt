@@ -3,7 +3,6 @@ use Rattle.lookup_targets.proofs.Laws.{one_value, array-values}
 use Rattle.lookup_targets.specs.Values.{place_fault}
 use borrow.Author.Tests.{not-true, not-false}
 use mathlib.Core.Path.{◌∙◌}
-use borrow.Author.Rules.{rules}
 use Rattle.lookup_targets.proofs.run_fault.Goals as goal
 
 pub returns-then-format-eq2 : goal.returns-then-format-eq2

@@ -3,7 +3,6 @@ use Prim.Native.Nat.{ℕ}
 use mathlib.Core.Path.{◌∙◌, ap}
 use Rattle.lookup_targets.specs.Values.{spot_of}
 use Rattle.lookup.specs.declared.Found.TheVariants.{Value}
-use borrow.Author.Rules.{rules}
 use Rattle.lookup_targets.proofs.spot_at.Goals as goal
 
 pub returns : goal.returns

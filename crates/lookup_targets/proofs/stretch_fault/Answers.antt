@@ -1,11 +1,10 @@
 use borrow.Author.Rules.{rules}
-use lib.ListN.{length}
 use native.Mathlib.Omega.{arith}
-use Rattle.fields.specs.Walk.{each, walk-stop, walk-next, walk_none}
-use Prim.Native.Nat.{◌+◌, ◌*◌, ◌<◌, ◌^◌}
-use Rattle.lookup_targets.specs.Values.{place_fault, Judged}
+use Rattle.fields.specs.Walk.{walk-stop, walk-next, walk_none}
+use Prim.Native.Nat.{◌+◌}
+use Rattle.lookup_targets.specs.Values.{place_fault}
 use Rattle.lookup_targets.proofs.Laws.{each-told}
-use mathlib.Core.Path.{◌≡◌, refl, sym, ◌∙◌}
+use mathlib.Core.Path.{refl, sym, ◌∙◌}
 use Rattle.lookup_targets.proofs.stretch_fault.Goals as goal
 
 pub loop-left-init : goal.loop-left-init

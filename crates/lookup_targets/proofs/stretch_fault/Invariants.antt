@@ -1,12 +1,9 @@
 -- `lookup_targets::stretch_fault` meets its contract.
-use borrow.Author.Rules.{rules}
 use lib.ListN.{length}
-use native.Mathlib.Omega.{arith}
-use Rattle.fields.specs.Walk.{each, walk-stop, walk-next, walk_none}
+use Rattle.fields.specs.Walk.{each}
 use Prim.Native.Nat.{◌+◌, ◌*◌, ◌<◌, ◌^◌}
 use Rattle.lookup_targets.specs.Values.{place_fault, Judged}
-use Rattle.lookup_targets.proofs.Laws.{each-told}
-use mathlib.Core.Path.{◌≡◌, refl, sym, ◌∙◌}
+use mathlib.Core.Path.{◌≡◌}
 use Rattle.lookup_targets.proofs.stretch_fault.Given as goal
 
 abbrev pub invariant-loop-left : goal.invariant-loop-left

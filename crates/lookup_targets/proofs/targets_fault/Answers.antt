@@ -1,13 +1,11 @@
 use borrow.Author.Rules.{rules}
-use lib.ListN.{length}
 use native.Mathlib.Omega.{arith}
-use Rattle.lookup.specs.Pass.{Serves}
 use Rattle.fields.specs.Laws.{then-stop, then-go}
-use Rattle.fields.specs.Walk.{each, walk_none}
-use Prim.Native.Nat.{◌+◌, ◌-◌}
-use Rattle.lookup_targets.specs.Values.{target_fault, Judged, Ahead}
+use Rattle.fields.specs.Walk.{walk_none}
+use Prim.Native.Nat.{◌+◌}
+use Rattle.lookup_targets.specs.Values.{target_fault}
 use Rattle.lookup_targets.proofs.Laws.{run_end, run-judged, all_left}
-use mathlib.Core.Path.{◌≡◌, refl, sym, ◌∙◌}
+use mathlib.Core.Path.{refl, sym, ◌∙◌}
 use Rattle.lookup_targets.proofs.targets_fault.Goals as goal
 
 pub loop-glyph-init : goal.loop-glyph-init
@@ -24,7 +22,7 @@ returns-then-glyphs-run c =
 pub run_fault-fault-requires : goal.run_fault-fault-requires
 run_fault-fault-requires c =
     let w = c.next_run-run.ensures.1 in
-    record { base_bound = (c.requires.at_bound.1.0, (c.requires.at_bound.1.1.0, (w.more, (c.if-glyphs-run.false, w.near))));  judged = c.loop-glyph.invariant.2 }
+    record { base_bound = (c.requires.at_bound.1.0, (c.requires.at_bound.1.1.0, (w.more, (c.if-glyphs-run.false, w.near)))); judged = c.loop-glyph.invariant.2 }
 
 pub returns-in-Bad : goal.returns-in-Bad
 returns-in-Bad c =
@@ -40,7 +38,7 @@ returns-in-Bad c =
 pub pass_told-passed-requires : goal.pass_told-passed-requires
 pass_told-passed-requires c =
     let q = c.requires.at_bound in
-    record { at_bound = (q.0, (q.1.0, (q.1.1.0, c.u16_at-format.ensures.0)));  judged = (c.run_fault-fault.ensures.1.0, c.next_run-run.ensures.1.serves) }
+    record { at_bound = (q.0, (q.1.0, (q.1.1.0, c.u16_at-format.ensures.0))); judged = (c.run_fault-fault.ensures.1.0, c.next_run-run.ensures.1.serves) }
 
 pub loop-glyph-smaller : goal.loop-glyph-smaller
 loop-glyph-smaller c = let w = c.next_run-run.ensures.1 in omega (arith, w.begins, w.more, c.pass_told-passed.ensures.0)

@@ -1,14 +1,10 @@
 -- `lookup_targets::targets_fault` meets its contract.
-use borrow.Author.Rules.{rules}
 use lib.ListN.{length}
-use native.Mathlib.Omega.{arith}
 use Rattle.lookup.specs.Pass.{Serves}
-use Rattle.fields.specs.Laws.{then-stop, then-go}
-use Rattle.fields.specs.Walk.{each, walk_none}
+use Rattle.fields.specs.Walk.{each}
 use Prim.Native.Nat.{◌+◌, ◌-◌}
 use Rattle.lookup_targets.specs.Values.{target_fault, Judged, Ahead}
-use Rattle.lookup_targets.proofs.Laws.{run_end, run-judged, all_left}
-use mathlib.Core.Path.{◌≡◌, refl, sym, ◌∙◌}
+use mathlib.Core.Path.{◌≡◌}
 use Rattle.lookup_targets.proofs.targets_fault.Given as goal
 
 abbrev pub invariant-loop-glyph : goal.invariant-loop-glyph

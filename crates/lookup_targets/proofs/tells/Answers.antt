@@ -3,7 +3,6 @@ use borrow.Author.Tests.{eqb-true}
 use mathlib.Core.Path.{subst, sym}
 use Rattle.lookup_targets.specs.Values.{NoteTells}
 use Rattle.lookup_targets.specs.declared.Kind.{Kind}
-use borrow.Author.Rules.{rules}
 use Rattle.lookup_targets.proofs.tells.Goals as goal
 
 pub returns-in-Clusters : goal.returns-in-Clusters

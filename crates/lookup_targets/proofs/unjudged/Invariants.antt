@@ -1,10 +1,6 @@
 -- `lookup_targets::unjudged` meets its contract.
-use borrow.Author.Rules.{rules}
-use borrow.Author.Tests.{not-false}
-use native.Mathlib.Omega.{arith}
 use Prim.Native.Nat.{ℕ, ◌+◌, ◌-◌, ◌*◌, ◌≤◌, ◌<◌}
 use mathlib.Core.Path.{◌≡◌}
-use Rattle.lookup_targets.proofs.Laws.{told-next}
 use Rattle.lookup_targets.specs.Values.{Told}
 use Rattle.lookup_targets.proofs.unjudged.Given as goal
 

@@ -1,8 +1,6 @@
 -- `lookup_targets::untold` meets its contract.
-use native.Mathlib.Omega.{arith}
 use mathlib.Core.Path.{◌≡◌}
 use Prim.Native.Nat.{◌+◌, ◌-◌, ◌*◌, ◌≤◌, ◌<◌}
-use borrow.Author.Rules.{rules}
 use Rattle.lookup_targets.proofs.untold.Given as goal
 
 abbrev pub invariant-loop-passed : goal.invariant-loop-passed

@@ -1,6 +1,5 @@
 -- `lookup_targets::value_fault` meets its contract.
 use mathlib.Core.Path.{sym}
-use borrow.Author.Rules.{rules}
 use Rattle.lookup_targets.proofs.value_fault.Goals as goal
 
 pub returns-then-is_judged : goal.returns-then-is_judged

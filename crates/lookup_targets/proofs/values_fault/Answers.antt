@@ -3,7 +3,6 @@ use Rattle.lookup_targets.proofs.Laws.{none_ahead}
 use Rattle.lookup_targets.specs.Values.{values_fault}
 use Rattle.fields.specs.Laws.{then-stop, then-go}
 use mathlib.Core.Path.{sym, ◌∙◌}
-use borrow.Author.Rules.{rules}
 use Rattle.lookup_targets.proofs.values_fault.Goals as goal
 
 pub returns-in-Bad : goal.returns-in-Bad
@@ -14,14 +13,14 @@ returns-in-Bad c =
     (sym b ∙ f ∙ sym (then-stop _ (sym f ∙ b)), c.requires.judged)
 
 pub targets_fault-requires : goal.targets_fault-requires
-targets_fault-requires c = record { at_bound = (c.requires.at_bound.0, (c.requires.at_bound.1.0, (c.requires.at_bound.1.1, sym c.lookup_fault-fault.ensures ∙ c.in_default.is)));  judged = (c.requires.judged, none_ahead _ _ _ _ 0) }
+targets_fault-requires c = record { at_bound = (c.requires.at_bound.0, (c.requires.at_bound.1.0, (c.requires.at_bound.1.1, sym c.lookup_fault-fault.ensures ∙ c.in_default.is))); judged = (c.requires.judged, none_ahead _ _ _ _ 0) }
 
 pub returns-then-u16_at-ne4 : goal.returns-then-u16_at-ne4
 unfolding values_fault
 returns-then-u16_at-ne4 c = (c.targets_fault.ensures.0 ∙ sym (then-go _ (sym c.lookup_fault-fault.ensures ∙ c.in_default.is)), c.targets_fault.ensures.1)
 
 pub shared_fault-requires : goal.shared_fault-requires
-shared_fault-requires c = record { at_bound = (c.requires.at_bound.0, (c.requires.at_bound.1.0, (c.requires.at_bound.1.1, sym c.lookup_fault-fault.ensures ∙ c.in_default.is)));  judged = c.requires.judged }
+shared_fault-requires c = record { at_bound = (c.requires.at_bound.0, (c.requires.at_bound.1.0, (c.requires.at_bound.1.1, sym c.lookup_fault-fault.ensures ∙ c.in_default.is))); judged = c.requires.judged }
 
 pub returns : goal.returns
 unfolding values_fault

@@ -1,6 +1,5 @@
 -- `machine::cell` meets its contract.
 use Rattle.machine.specs.Cells.{cell_at}
-use borrow.Author.Rules.{rules}
 use Rattle.machine.proofs.cell.Goals as goal
 
 pub returns : goal.returns

@@ -1,7 +1,6 @@
 -- `machine::cell_fault` meets its contract.
 use Rattle.machine.specs.Rows.{cell_fault}
 use Rattle.fields.specs.Laws.{then-of}
-use borrow.Author.Rules.{rules}
 use Rattle.machine.proofs.cell_fault.Goals as goal
 
 pub returns : goal.returns

@@ -1,7 +1,6 @@
 -- `machine::cell_place` meets its contract.
 use native.Mathlib.Omega.{arith}
 use Rattle.machine.proofs.Steps.{place-fits}
-use borrow.Author.Rules.{rules}
 use Rattle.machine.proofs.cell_place.Goals as goal
 
 pub overflow_mul-result : goal.overflow_mul-result

@@ -4,7 +4,6 @@ use Prim.Native.Nat.{ℕ, ◌+◌, ◌-◌}
 use native.Mathlib.Omega.{arith}
 use lib.ListN.{get_or}
 use Rattle.machine.proofs.Steps.{class-before, class-after, class-among}
-use borrow.Author.Rules.{rules}
 use Rattle.machine.proofs.class_by.Goals as goal
 
 pub returns-then-asked-first : goal.returns-then-asked-first

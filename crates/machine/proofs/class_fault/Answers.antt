@@ -1,7 +1,6 @@
 -- `machine::class_fault` meets its contract.
 use Rattle.machine.specs.Machine.{class_fault}
 use Rattle.fields.specs.Laws.{then-of}
-use borrow.Author.Rules.{rules}
 use Rattle.machine.proofs.class_fault.Goals as goal
 
 pub returns : goal.returns

@@ -1,5 +1,4 @@
 -- `machine::class_of` meets its contract.
-use borrow.Author.Rules.{rules}
 use Rattle.machine.proofs.class_of.Goals as goal
 
 pub class_by-requires : goal.class_by-requires

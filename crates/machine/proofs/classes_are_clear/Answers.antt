@@ -1,10 +1,7 @@
-use mathlib.Core.Path.{◌≡◌, sym, ◌∙◌}
-use Prim.Native.Nat.{◌-◌, ◌≤◌}
+use mathlib.Core.Path.{sym, ◌∙◌}
 use native.Mathlib.Omega.{arith}
 use mathlib.Core.Bool.{true≢false}
-use borrow.Author.Rules.{rules}
 use Rattle.machine.proofs.Steps.{class-clear, classes-start, classes-next, classes-none}
-use Rattle.machine.specs.Machine.{classes_fault}
 use Rattle.machine.proofs.classes_are_clear.Goals as goal
 
 pub returns-then-table-end : goal.returns-then-table-end

@@ -1,10 +1,6 @@
 -- `machine::classes_are_clear` meets its contract.
-use mathlib.Core.Path.{◌≡◌, sym, ◌∙◌}
+use mathlib.Core.Path.{◌≡◌}
 use Prim.Native.Nat.{◌-◌, ◌≤◌}
-use native.Mathlib.Omega.{arith}
-use mathlib.Core.Bool.{true≢false}
-use borrow.Author.Rules.{rules}
-use Rattle.machine.proofs.Steps.{class-clear, classes-start, classes-next, classes-none}
 use Rattle.machine.specs.Machine.{classes_fault}
 use Rattle.machine.proofs.classes_are_clear.Given as goal
 

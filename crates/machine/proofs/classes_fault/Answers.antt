@@ -1,9 +1,7 @@
-use borrow.Author.Rules.{rules}
-use mathlib.Core.Path.{◌≡◌, refl, sym, ◌∙◌}
+use mathlib.Core.Path.{refl, sym, ◌∙◌}
 use native.Mathlib.Omega.{arith}
 use Rattle.fields.specs.Walk.{walk-stop, walk-next, walk_none}
 use Rattle.machine.proofs.Steps.{class-inside}
-use Rattle.machine.specs.Machine.{classes_fault}
 use Rattle.machine.proofs.classes_fault.Goals as goal
 
 pub returns-then-classes_are_clear : goal.returns-then-classes_are_clear

@@ -1,9 +1,5 @@
 -- `machine::classes_fault` meets its contract.
-use borrow.Author.Rules.{rules}
-use mathlib.Core.Path.{◌≡◌, refl, sym, ◌∙◌}
-use native.Mathlib.Omega.{arith}
-use Rattle.fields.specs.Walk.{walk-stop, walk-next, walk_none}
-use Rattle.machine.proofs.Steps.{class-inside}
+use mathlib.Core.Path.{◌≡◌}
 use Rattle.machine.specs.Machine.{classes_fault}
 use Rattle.machine.proofs.classes_fault.Given as goal
 

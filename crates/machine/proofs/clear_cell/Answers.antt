@@ -4,7 +4,6 @@ use lib.ListN.{get_or}
 use native.Mathlib.Omega.{arith}
 use Prim.Native.Nat.{ℕ}
 use mathlib.Core.Path.{◌∙◌, ap}
-use borrow.Author.Rules.{rules}
 use Rattle.machine.proofs.clear_cell.Goals as goal
 
 pub returns-then-table-at : goal.returns-then-table-at

@@ -1,7 +1,6 @@
-use Rattle.machine.specs.Rows.{cell_place, cells_fault, row_fault, raised, raised_by, unless, Met}
-use Rattle.machine.specs.Cells.{class_count, entry_table}
+use Rattle.machine.specs.Rows.{cell_place, row_fault, raised_by}
+use Rattle.machine.specs.Cells.{entry_table}
 use Rattle.machine.proofs.Steps.{cells-next, cells-none, raised-next, raised-none, met_next}
-use lib.ListN.{length}
 use native.Mathlib.Omega.{arith}
 use Prim.Native.Nat.{◌+◌}
 use mathlib.Core.Path.{◌≡◌, refl, sym, ◌∙◌}

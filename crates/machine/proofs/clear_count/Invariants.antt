@@ -1,12 +1,9 @@
 -- `machine::clear_count` meets its contract.
-use Rattle.machine.specs.Rows.{cell_place, cells_fault, row_fault, raised, raised_by, unless, Met}
-use Rattle.machine.specs.Cells.{class_count, entry_table}
-use Rattle.machine.proofs.Steps.{cells-next, cells-none, raised-next, raised-none, met_next}
+use Rattle.machine.specs.Rows.{cells_fault, row_fault, raised, raised_by, unless, Met}
+use Rattle.machine.specs.Cells.{class_count}
 use lib.ListN.{length}
-use native.Mathlib.Omega.{arith}
 use Prim.Native.Nat.{◌+◌}
-use mathlib.Core.Path.{◌≡◌, refl, sym, ◌∙◌}
-use borrow.Author.Rules.{rules}
+use mathlib.Core.Path.{◌≡◌}
 use Rattle.machine.proofs.clear_count.Given as goal
 
 abbrev pub invariant-loop-left : goal.invariant-loop-left

@@ -4,7 +4,6 @@ use Prim.Native.Nat.{ℕ, ◌+◌, ◌*◌}
 use native.Mathlib.Omega.{arith}
 use lib.ListN.{get_or}
 use Rattle.machine.proofs.Steps.{cell-leads, cell-clear}
-use borrow.Author.Rules.{rules}
 use Rattle.machine.proofs.clear_row.Goals as goal
 
 pub returns-then-table-at : goal.returns-then-table-at

@@ -2,7 +2,6 @@
 use Rattle.machine.specs.Cells.{entry_at}
 use native.Mathlib.Nat.{div-le_self}
 use native.Mathlib.Omega.{arith}
-use borrow.Author.Rules.{rules}
 use Rattle.machine.proofs.entry_at.Goals as goal
 
 pub overflow_cast-result : goal.overflow_cast-result

@@ -1,7 +1,6 @@
 -- `machine::entry_fault` meets its contract.
 use Rattle.machine.specs.Rows.{entry_fault}
 use Rattle.fields.specs.Laws.{then-of}
-use borrow.Author.Rules.{rules}
 use Rattle.machine.proofs.entry_fault.Goals as goal
 
 pub returns : goal.returns

@@ -1,7 +1,6 @@
 -- `machine::head_fault` meets its contract.
 use Rattle.machine.specs.Machine.{head_fault}
 use Rattle.fields.specs.Laws.{then-of}
-use borrow.Author.Rules.{rules}
 use Rattle.machine.proofs.head_fault.Goals as goal
 
 pub returns : goal.returns

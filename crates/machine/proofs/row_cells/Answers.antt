@@ -1,10 +1,7 @@
-use borrow.Author.Rules.{rules}
-use mathlib.Core.Path.{◌≡◌, sym, ◌∙◌, ap}
-use Prim.Native.Nat.{◌+◌}
+use mathlib.Core.Path.{sym, ◌∙◌, ap}
 use native.Mathlib.Omega.{arith}
 use Rattle.machine.proofs.Steps.{cells-stop, cells-next, cells-none}
-use Rattle.machine.specs.Rows.{cells_fault, row_fault, raised, raised_by, unless}
-use Rattle.machine.specs.Cells.{class_count}
+use Rattle.machine.specs.Rows.{row_fault, raised_by}
 use Rattle.machine.specs.declared.Scan.TheVariants.{Broken}
 use Rattle.machine.proofs.row_cells.Goals as goal
 

@@ -1,12 +1,8 @@
 -- `machine::row_cells` meets its contract.
-use borrow.Author.Rules.{rules}
-use mathlib.Core.Path.{◌≡◌, sym, ◌∙◌, ap}
+use mathlib.Core.Path.{◌≡◌}
 use Prim.Native.Nat.{◌+◌}
-use native.Mathlib.Omega.{arith}
-use Rattle.machine.proofs.Steps.{cells-stop, cells-next, cells-none}
 use Rattle.machine.specs.Rows.{cells_fault, row_fault, raised, raised_by, unless}
 use Rattle.machine.specs.Cells.{class_count}
-use Rattle.machine.specs.declared.Scan.TheVariants.{Broken}
 use Rattle.machine.proofs.row_cells.Given as goal
 
 abbrev pub invariant-loop-left : goal.invariant-loop-left

@@ -1,7 +1,6 @@
 -- `machine::row_count` meets its contract.
 use mathlib.Core.Path.{◌∙◌, ap}
 use Rattle.machine.specs.Rows.{count_of, row_count}
-use borrow.Author.Rules.{rules}
 use Rattle.machine.proofs.row_count.Goals as goal
 
 pub returns : goal.returns

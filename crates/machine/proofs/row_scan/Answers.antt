@@ -1,5 +1,4 @@
 -- `machine::row_scan` meets its contract.
-use borrow.Author.Rules.{rules}
 use Rattle.machine.proofs.row_scan.Goals as goal
 
 pub returns-then-count-gt0 : goal.returns-then-count-gt0

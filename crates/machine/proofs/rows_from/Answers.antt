@@ -1,9 +1,7 @@
-use Rattle.machine.specs.Rows.{fault_from, count_from, unless, count_of, rows_of, Met}
+use Rattle.machine.specs.Rows.{count_of}
 use Rattle.machine.proofs.Steps.{unless-count, rows-stop, rows_next, rows_none, rows-within}
-use lib.ListN.{length}
 use native.Mathlib.Omega.{arith}
-use Prim.Native.Nat.{◌-◌, ◌≤◌}
-use mathlib.Core.Path.{◌≡◌, refl, sym, ◌∙◌, ap}
+use mathlib.Core.Path.{refl, sym, ◌∙◌, ap}
 use borrow.Author.Rules.{rules}
 use Rattle.machine.proofs.rows_from.Goals as goal
 

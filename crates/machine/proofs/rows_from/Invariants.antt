@@ -1,11 +1,8 @@
 -- `machine::rows_from` meets its contract.
-use Rattle.machine.specs.Rows.{fault_from, count_from, unless, count_of, rows_of, Met}
-use Rattle.machine.proofs.Steps.{unless-count, rows-stop, rows_next, rows_none, rows-within}
+use Rattle.machine.specs.Rows.{fault_from, count_from, unless, rows_of, Met}
 use lib.ListN.{length}
-use native.Mathlib.Omega.{arith}
 use Prim.Native.Nat.{◌-◌, ◌≤◌}
-use mathlib.Core.Path.{◌≡◌, refl, sym, ◌∙◌, ap}
-use borrow.Author.Rules.{rules}
+use mathlib.Core.Path.{◌≡◌}
 use Rattle.machine.proofs.rows_from.Given as goal
 
 abbrev pub invariant-loop-row : goal.invariant-loop-row

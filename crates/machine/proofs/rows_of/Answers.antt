@@ -1,7 +1,6 @@
 -- `machine::rows_of` meets its contract.
-use borrow.Author.Rules.{rules}
 use Rattle.machine.proofs.Steps.{met-none}
 use Rattle.machine.proofs.rows_of.Goals as goal
 
 pub rows_from-requires : goal.rows_from-requires
-rows_from-requires c = record { here_bound = c.requires;  met = met-none _ _ 2 }
+rows_from-requires c = record { here_bound = c.requires; met = met-none _ _ 2 }

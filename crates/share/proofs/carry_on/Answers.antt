@@ -1,7 +1,6 @@
 -- `share::carry_on` meets its contract.
 use native.Mathlib.Omega.{arith}
 use native.Mathlib.Nat.{div-le_self, mod-lt}
-use borrow.Author.Rules.{rules}
 use Rattle.share.proofs.Runs.{narrow, stays, reaches}
 use Rattle.share.proofs.carry_on.Goals as goal
 

@@ -1,16 +1,9 @@
 -- `share::copy_signed` meets its contract.
-use Prim.Native.Nat.{◌+◌, ◌-◌, ◌≤◌}
-use mathlib.Core.List.{map, ◌∷◌, ◌++◌}
-use mathlib.Core.Path.{◌≡◌, refl, sym, ap, ◌∙◌}
-use native.Mathlib.Omega.{arith}
-use lib.IntN.{ℤ}
-use lib.ListN.{length, take, drop, length-set}
-use mir.Syntax.{w32}
-use mir.ValLaws.{to_z-of_z}
+use Prim.Native.Nat.{◌-◌, ◌≤◌}
+use mathlib.Core.List.{map, ◌++◌}
+use mathlib.Core.Path.{◌≡◌}
+use lib.ListN.{length, take, drop}
 use Rattle.share.specs.Line.{evens, odds, signed_of}
-use Rattle.share.proofs.Fill.{fill-again, fill_end}
-use Rattle.share.proofs.Halves.{evens-step, odds-step, evens-past, odds-past}
-use Rattle.share.proofs.Lists.{get_or-le-total}
 use Rattle.share.proofs.copy_signed.Given as goal
 
 abbrev pub invariant-loop-i : goal.invariant-loop-i

@@ -1,10 +1,8 @@
 -- `share::give` meets its contract.
 use Prim.Native.Nat.{◌-◌, ◌≤◌}
-use mathlib.Core.Path.{sym, ◌∙◌}
-use native.Mathlib.Omega.{arith}
 use lib.ListN.{length}
 use Rattle.share.specs.Sides.{weights_at}
-use Rattle.share.proofs.Giving.{length-weights_at, weight-hit, weight-miss, weight-low, Giving, giving-start, giving-ready, giving-fits, giving-on, giving-none, giving-end}
+use Rattle.share.proofs.Giving.{Giving}
 use Rattle.share.proofs.give.Given as goal
 
 abbrev pub invariant-loop-i : goal.invariant-loop-i

@@ -1,10 +1,8 @@
-use Prim.Native.Nat.{◌*◌, ◌-◌, ◌≤◌}
-use mathlib.Core.Path.{◌≡◌, refl, sym}
+use mathlib.Core.Path.{refl, sym}
 use native.Mathlib.Omega.{arith}
-use lib.ListN.{length}
 use Rattle.share.specs.Sides.{factors_at, extras_at}
-use Rattle.share.proofs.Giving.{length-factors_at, length-extras_at, extra-hit, extra-miss, factor-hit, factor-miss, Added, added-start, added-on, added_none, added-end, added-fits}
-use Rattle.share.proofs.Lists.{upto, upto_next, upto-end}
+use Rattle.share.proofs.Giving.{length-factors_at, length-extras_at, extra-hit, extra-miss, factor-hit, factor-miss, added-start, added-on, added_none, added-end, added-fits}
+use Rattle.share.proofs.Lists.{upto_next, upto-end}
 use Rattle.share.proofs.give_all.Goals as goal
 
 pub loop-i-init : goal.loop-i-init
@@ -89,4 +87,4 @@ returns c = let a = c.args in
     let p = c.requires in
     let l = c.loop-i in
     let e = upto-end l.i (extras_at a.stage a.sides.now) (omega (arith, length-extras_at a.stage a.sides.now)) in
-    record { value = (omega arith, omega (arith, l.invariant.3));  moves_after = added-end l.invariant.1 (omega (arith, length-factors_at a.stage p.0)) }
+    record { value = (omega arith, omega (arith, l.invariant.3)); moves_after = added-end l.invariant.1 (omega (arith, length-factors_at a.stage p.0)) }

@@ -1,11 +1,10 @@
 -- `share::give_all` meets its contract.
 use Prim.Native.Nat.{◌*◌, ◌-◌, ◌≤◌}
-use mathlib.Core.Path.{◌≡◌, refl, sym}
-use native.Mathlib.Omega.{arith}
+use mathlib.Core.Path.{◌≡◌}
 use lib.ListN.{length}
 use Rattle.share.specs.Sides.{factors_at, extras_at}
-use Rattle.share.proofs.Giving.{length-factors_at, length-extras_at, extra-hit, extra-miss, factor-hit, factor-miss, Added, added-start, added-on, added_none, added-end, added-fits}
-use Rattle.share.proofs.Lists.{upto, upto_next, upto-end}
+use Rattle.share.proofs.Giving.{Added}
+use Rattle.share.proofs.Lists.{upto}
 use Rattle.share.proofs.give_all.Given as goal
 
 abbrev pub invariant-loop-i : goal.invariant-loop-i

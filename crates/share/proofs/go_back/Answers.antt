@@ -1,10 +1,9 @@
-use Prim.Native.Nat.{◌-◌, ◌≤◌}
 use mathlib.Core.Path.{sym, ap, ◌∙◌}
 use native.Mathlib.Omega.{arith}
 use lib.ListN.{length, length-map}
 use Rattle.share.specs.Share.{total}
-use Rattle.share.specs.Sides.{stage_in, stages_in, stage_count}
-use Rattle.share.proofs.Stages.{Backing, backing-start, backing-on, backing-found, backing-end, back_none}
+use Rattle.share.specs.Sides.{stage_in, stages_in}
+use Rattle.share.proofs.Stages.{backing-start, backing-on, backing-found, backing-end, back_none}
 use Rattle.share.proofs.go_back.Goals as goal
 
 pub returns-then-left-eq0 : goal.returns-then-left-eq0
@@ -25,7 +24,7 @@ give-requires c = let p = c.requires in
     let l = c.loop-stage in
     let s = l.invariant.1.same in
     let h = c.loop-stage-test.true in
-    let e = c.total_of-over.ensures in record { sides = (p.0, record { equal = ap length s ∙ p.1.equal; small = p.1.small; room = omega (arith, ap total s, p.1.room) });  over_value = (e ∙ p.2.totals.at l.stage (omega (arith, h)), omega (arith, e, p.2.low l.stage (omega (arith, h))), c.if-over-gt0.true) }
+    let e = c.total_of-over.ensures in record { sides = (p.0, record { equal = ap length s ∙ p.1.equal; small = p.1.small; room = omega (arith, ap total s, p.1.room) }); over_value = (e ∙ p.2.totals.at l.stage (omega (arith, h)), omega (arith, e, p.2.low l.stage (omega (arith, h))), c.if-over-gt0.true) }
 
 pub shape_of-moves-then-over-gt0 : goal.shape_of-moves-then-over-gt0
 shape_of-moves-then-over-gt0 c = omega (arith, ap length c.loop-stage.invariant.1.same, c.give.auto)

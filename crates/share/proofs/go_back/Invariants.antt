@@ -1,11 +1,7 @@
 -- `share::go_back` meets its contract.
 use Prim.Native.Nat.{◌-◌, ◌≤◌}
-use mathlib.Core.Path.{sym, ap, ◌∙◌}
-use native.Mathlib.Omega.{arith}
-use lib.ListN.{length, length-map}
-use Rattle.share.specs.Share.{total}
-use Rattle.share.specs.Sides.{stage_in, stages_in, stage_count}
-use Rattle.share.proofs.Stages.{Backing, backing-start, backing-on, backing-found, backing-end, back_none}
+use Rattle.share.specs.Sides.{stages_in, stage_count}
+use Rattle.share.proofs.Stages.{Backing}
 use Rattle.share.proofs.go_back.Given as goal
 
 abbrev pub invariant-loop-stage : goal.invariant-loop-stage

@@ -1,5 +1,4 @@
 -- `share::next_share` meets its contract.
-use borrow.Author.Rules.{rules}
 use Rattle.share.proofs.Runs.{stepped-none, stepped}
 use Rattle.share.proofs.next_share.Goals as goal
 

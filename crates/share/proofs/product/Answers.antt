@@ -1,6 +1,5 @@
 -- `share::product` meets its contract.
 use native.Mathlib.Omega.{arith}
-use borrow.Author.Rules.{rules}
 use Rattle.share.proofs.Runs.{narrow}
 use Rattle.share.proofs.product.Goals as goal
 

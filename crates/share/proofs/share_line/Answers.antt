@@ -1,6 +1,5 @@
 -- `share::share_line` meets its contract.
 use native.Mathlib.Omega.{arith}
-use borrow.Author.Rules.{rules}
 use Rattle.share.proofs.Stages.{zeros-hold, staged-holds, whole, whole-limits}
 use Rattle.share.proofs.Sums.{fit}
 use Rattle.share.proofs.share_line.Goals as goal

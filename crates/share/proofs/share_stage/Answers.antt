@@ -1,6 +1,5 @@
 -- `share::share_stage` meets its contract.
 use native.Mathlib.Omega.{arith}
-use borrow.Author.Rules.{rules}
 use Rattle.share.specs.Sides.{factors_at, extras_at}
 use Rattle.share.proofs.Giving.{length-factors_at, length-extras_at}
 use Rattle.share.proofs.Stages.{past-holds, stage-none, stage-within, stage-free, stage-past}
@@ -30,7 +29,7 @@ pub give-requires-2 : goal.give-requires-2
 give-requires-2 c = let a = c.args in
     let p = c.requires in
     let g = c.give_all-unlimited in
-    let f = factors_at a.stage a.sides.now a.factors.now in record { sides = (p.sides.0, past-holds f a.moves.now p.over_value.0 c.if-left-over.false p.sides.1 (omega (arith, g.auto)) g.ensures.moves_after);  over_value = (g.ensures.value.0, g.ensures.value.1, omega (arith, c.if-unlimited-eq0.false)) }
+    let f = factors_at a.stage a.sides.now a.factors.now in record { sides = (p.sides.0, past-holds f a.moves.now p.over_value.0 c.if-left-over.false p.sides.1 (omega (arith, g.auto)) g.ensures.moves_after); over_value = (g.ensures.value.0, g.ensures.value.1, omega (arith, c.if-unlimited-eq0.false)) }
 
 pub returns : goal.returns
 returns c = let a = c.args in

@@ -1,9 +1,8 @@
-use Prim.Native.Nat.{◌-◌, ◌≤◌}
 use mathlib.Core.Path.{sym, ◌∙◌}
 use native.Mathlib.Omega.{arith}
 use lib.ListN.{length-map}
-use Rattle.share.specs.Sides.{stage_in, stages_in, extras_in, stage_count}
-use Rattle.share.proofs.Stages.{Staging, staging-start, staging-on, staging-end}
+use Rattle.share.specs.Sides.{stage_in, stages_in, extras_in}
+use Rattle.share.proofs.Stages.{staging-start, staging-on, staging-end}
 use Rattle.share.proofs.share_stages.Goals as goal
 
 pub loop-stage-init : goal.loop-stage-init
@@ -18,7 +17,7 @@ share_stage-left-requires c = let l = c.loop-stage in
     let p = c.requires in
     let g = l.invariant.1 in
     let h = c.loop-stage-test.true in
-    let e = c.total_of-over.ensures in record { sides = (p.0, record { equal = g.same ∙ p.1.equal; small = omega (arith, g.less, p.1.small); room = omega (arith, g.room, p.1.room) });  over_value = (e ∙ p.2.totals.at l.stage (omega (arith, h)), omega (arith, e, p.2.low l.stage (omega (arith, h)))) }
+    let e = c.total_of-over.ensures in record { sides = (p.0, record { equal = g.same ∙ p.1.equal; small = omega (arith, g.less, p.1.small); room = omega (arith, g.room, p.1.room) }); over_value = (e ∙ p.2.totals.at l.stage (omega (arith, h)), omega (arith, e, p.2.low l.stage (omega (arith, h)))) }
 
 pub overflow_add-stage : goal.overflow_add-stage
 overflow_add-stage c = omega arith

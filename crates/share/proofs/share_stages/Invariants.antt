@@ -1,10 +1,7 @@
 -- `share::share_stages` meets its contract.
 use Prim.Native.Nat.{◌-◌, ◌≤◌}
-use mathlib.Core.Path.{sym, ◌∙◌}
-use native.Mathlib.Omega.{arith}
-use lib.ListN.{length-map}
-use Rattle.share.specs.Sides.{stage_in, stages_in, extras_in, stage_count}
-use Rattle.share.proofs.Stages.{Staging, staging-start, staging-on, staging-end}
+use Rattle.share.specs.Sides.{stages_in, extras_in, stage_count}
+use Rattle.share.proofs.Stages.{Staging}
 use Rattle.share.proofs.share_stages.Given as goal
 
 abbrev pub invariant-loop-stage : goal.invariant-loop-stage

@@ -1,9 +1,5 @@
-use Prim.Native.Nat.{◌-◌, ◌≤◌}
-use mathlib.Core.Path.{◌≡◌, refl}
+use mathlib.Core.Path.{refl}
 use native.Mathlib.Omega.{arith}
-use lib.ListN.{drop}
-use Rattle.share.specs.Share.{stages}
-use Rattle.share.specs.Sides.{stage_count, totals_fit}
 use Rattle.share.proofs.Sums.{totals-on, totals-over, totals-end}
 use Rattle.share.proofs.totals_fit.Goals as goal
 

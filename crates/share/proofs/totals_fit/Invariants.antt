@@ -1,11 +1,9 @@
 -- `share::totals_fit` meets its contract.
 use Prim.Native.Nat.{◌-◌, ◌≤◌}
-use mathlib.Core.Path.{◌≡◌, refl}
-use native.Mathlib.Omega.{arith}
+use mathlib.Core.Path.{◌≡◌}
 use lib.ListN.{drop}
 use Rattle.share.specs.Share.{stages}
 use Rattle.share.specs.Sides.{stage_count, totals_fit}
-use Rattle.share.proofs.Sums.{totals-on, totals-over, totals-end}
 use Rattle.share.proofs.totals_fit.Given as goal
 
 abbrev pub invariant-loop-stage : goal.invariant-loop-stage

@@ -1,7 +1,6 @@
 -- `share::weight_of` meets its contract.
 use mathlib.Core.Bool.{Bool, cond}
 use mathlib.Core.Path.{sym, ap, ◌∙◌}
-use borrow.Author.Rules.{rules}
 use Rattle.share.specs.Sides.{extra_in}
 use Rattle.share.proofs.weight_of.Goals as goal
 

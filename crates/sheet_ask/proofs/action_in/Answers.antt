@@ -8,7 +8,6 @@ use Rattle.meaning.specs.Ask.{held}
 use Rattle.fields.specs.Field.{Bytes}
 use mathlib.Core.Path.{sym, ap, ◌∙◌}
 use native.Mathlib.Omega.{arith}
-use borrow.Author.Rules.{rules}
 use Rattle.sheet_ask.proofs.action_in.Goals as goal
 
 pub returns-then-u32_at-number : goal.returns-then-u32_at-number

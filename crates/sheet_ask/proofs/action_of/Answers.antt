@@ -6,7 +6,6 @@ use Rattle.actions.specs.declared.Spot.{Spot}
 use Rattle.sheet_ask.proofs.ActionLaws.{nothing-room}
 use Rattle.answers.specs.Says.{says_action}
 use mathlib.Core.Path.{ap, ◌∙◌, subst}
-use borrow.Author.Rules.{rules}
 use Rattle.sheet_ask.proofs.action_of.Goals as goal
 
 pub returns-in_default : goal.returns-in_default

@@ -2,7 +2,6 @@
 use Rattle.sheet_ask.proofs.ReplyLaws.{action-given, action-refused}
 use Rattle.sheet_sections.proofs.SectionLaws.{failed, passed}
 use Rattle.meaning.specs.Sheet.{IsSheet}
-use borrow.Author.Rules.{rules}
 use Rattle.sheet_ask.proofs.ask_action.Goals as goal
 
 pub returns-then-not-is_sheet : goal.returns-then-not-is_sheet

@@ -5,7 +5,6 @@ use Rattle.answers.specs.Says.{refused, says_count}
 use Rattle.meaning.specs.Sheet.{IsSheet}
 use Rattle.meaning.specs.Ask.{glyph_count}
 use mathlib.Core.Path.{refl}
-use borrow.Author.Rules.{rules}
 use Rattle.sheet_ask.proofs.ask_count.Goals as goal
 
 pub returns-then-not-is_sheet : goal.returns-then-not-is_sheet

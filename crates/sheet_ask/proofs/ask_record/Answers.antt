@@ -5,7 +5,6 @@ use Rattle.answers.specs.Says.{refused, says_record}
 use Rattle.meaning.specs.Sheet.{IsSheet}
 use Rattle.meaning.specs.Ask.{along, width}
 use mathlib.Core.Path.{refl}
-use borrow.Author.Rules.{rules}
 use Rattle.sheet_ask.proofs.ask_record.Goals as goal
 
 pub returns-then-not-is_sheet : goal.returns-then-not-is_sheet

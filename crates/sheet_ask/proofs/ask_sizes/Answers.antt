@@ -5,7 +5,6 @@ use Rattle.answers.specs.Says.{refused, says_sizes}
 use Rattle.meaning.specs.Sheet.{IsSheet}
 use Rattle.meaning.specs.Ask.{along, sizes}
 use mathlib.Core.Path.{refl}
-use borrow.Author.Rules.{rules}
 use Rattle.sheet_ask.proofs.ask_sizes.Goals as goal
 
 pub returns-then-not-is_sheet : goal.returns-then-not-is_sheet

@@ -6,7 +6,6 @@ use Rattle.fields.specs.Field.{u32_at, Bytes}
 use mathlib.Core.Path.{◌≡◌}
 use Prim.Native.Nat.{ℕ, ◌+◌, ◌*◌}
 use native.Mathlib.Omega.{arith}
-use borrow.Author.Rules.{rules}
 use Rattle.sheet_ask.proofs.cell_in.Goals as goal
 
 pub returns-then-not-has_items : goal.returns-then-not-has_items

@@ -6,7 +6,6 @@ use Rattle.fields.specs.Field.{Bytes}
 use mathlib.Core.Path.{refl}
 use Prim.Native.Nat.{◌%◌}
 use native.Mathlib.Omega.{arith}
-use borrow.Author.Rules.{rules}
 use Rattle.sheet_ask.proofs.class_of.Goals as goal
 
 pub returns-then-u32_at-glyph : goal.returns-then-u32_at-glyph

@@ -2,7 +2,6 @@
 use Rattle.sheet_ask.proofs.MachineLaws.{count-answer}
 use Rattle.fields.specs.Field.{Bytes}
 use native.Mathlib.Omega.{arith}
-use borrow.Author.Rules.{rules}
 use Rattle.sheet_ask.proofs.glyph_count.Goals as goal
 
 pub returns : goal.returns

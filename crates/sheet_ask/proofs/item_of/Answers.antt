@@ -3,7 +3,6 @@ use Rattle.sheet_ask.proofs.PoolLaws.{item-nowhere, item-stands}
 use Rattle.fields.specs.Field.{Bytes}
 use Prim.Native.Nat.{◌-◌}
 use native.Mathlib.Omega.{arith}
-use borrow.Author.Rules.{rules}
 use Rattle.sheet_ask.proofs.item_of.Goals as goal
 
 pub returns-then-number-eq0 : goal.returns-then-number-eq0

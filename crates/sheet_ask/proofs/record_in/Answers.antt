@@ -8,7 +8,6 @@ use Rattle.fields.specs.Field.{Bytes}
 use mathlib.Core.Path.{sym, ap, ◌∙◌}
 use mathlib.Core.Option.{Option}
 use native.Mathlib.Omega.{arith}
-use borrow.Author.Rules.{rules}
 use Rattle.sheet_ask.proofs.record_in.Goals as goal
 
 pub returns-then-bytes-at : goal.returns-then-bytes-at

@@ -4,7 +4,6 @@ use Rattle.sheet_ask.specs.Places.{ItemOf}
 use Rattle.sheet_items.specs.declared.Sort.TheVariants.{Clusters}
 use Rattle.actions.specs.declared.Spot.{Spot}
 use mathlib.Core.Path.{subst}
-use borrow.Author.Rules.{rules}
 use Rattle.sheet_ask.proofs.record_of.Goals as goal
 
 pub returns-in_default : goal.returns-in_default

@@ -6,7 +6,6 @@ use Rattle.fields.specs.Field.{Bytes}
 use mathlib.Core.Path.{ap, ◌∙◌}
 use Prim.Native.Nat.{ℕ, ◌%◌, ◌^◌}
 use native.Mathlib.Omega.{arith}
-use borrow.Author.Rules.{rules}
 use Rattle.sheet_ask.proofs.sizes_of.Goals as goal
 
 pub returns-then-not-has_machine : goal.returns-then-not-has_machine

@@ -1,4 +1,4 @@
-use Prim.Native.Nat.{ℕ, ◌+◌, ◌-◌, ◌*◌, ◌≤◌}
+use Prim.Native.Nat.{ℕ}
 use mathlib.Core.Path.{◌≡◌, subst}
 use native.Mathlib.Omega.{arith}
 use Rattle.encoding.specs.Codes.{items_at}
@@ -7,7 +7,6 @@ use Rattle.encoding.proofs.ReadLaws.{items-length}
 use Rattle.meaning.specs.Discrete.{Entry-discrete}
 use Rattle.sheet_cells.specs.Cells.{entry_at, OkEntries}
 use Rattle.sheet_cells.proofs.TurnLaws.{index_read, entries-more, entry-far, entry-twice}
-use borrow.Author.Rules.{rules}
 use mathlib.Core.Path.{◌≡◌, subst}
 use Rattle.sheet_cells.proofs.TurnLaws.{entries-more, entry-far, entry-twice}
 use Rattle.sheet_cells.proofs.good_entries.Goals as goal

@@ -1,11 +1,10 @@
-use Prim.Native.Nat.{ℕ, suc, ◌+◌, ◌-◌, ◌≤◌}
+use Prim.Native.Nat.{ℕ, suc, ◌-◌}
 use mathlib.Core.Path.{◌≡◌, refl, sym, ◌∙◌, subst}
 use native.Mathlib.Omega.{arith}
 use Rattle.encoding.specs.Codes.{items_at}
 use Rattle.encoding.specs.Distinct.{InOrder}
 use Rattle.sheet_cells.specs.Cells.{byte_at}
 use Rattle.sheet_cells.proofs.TurnLaws.{number-le, number-new, number-new⁻, number-old, number-old⁻}
-use borrow.Author.Rules.{rules}
 use Rattle.sheet_cells.proofs.in_order.Goals as goal
 
 pub loop-left-init : goal.loop-left-init

@@ -1,12 +1,9 @@
 -- `sheet_cells::in_order` meets its contract. The loop's invariant: the numbers that are left come in order after those that were used exactly when all of them do. Assumes nothing.
-use Prim.Native.Nat.{ℕ, suc, ◌+◌, ◌-◌, ◌≤◌}
-use mathlib.Core.Path.{◌≡◌, refl, sym, ◌∙◌, subst}
-use native.Mathlib.Omega.{arith}
+use Prim.Native.Nat.{◌+◌, ◌≤◌}
+use mathlib.Core.Path.{◌≡◌}
 use Rattle.encoding.specs.Codes.{items_at}
 use Rattle.encoding.specs.Distinct.{InOrder}
 use Rattle.sheet_cells.specs.Cells.{byte_at}
-use Rattle.sheet_cells.proofs.TurnLaws.{number-le, number-new, number-new⁻, number-old, number-old⁻}
-use borrow.Author.Rules.{rules}
 use Rattle.sheet_cells.proofs.in_order.Given as goal
 
 abbrev pub invariant-loop-left : goal.invariant-loop-left

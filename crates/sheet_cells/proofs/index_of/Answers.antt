@@ -1,4 +1,4 @@
-use Prim.Native.Nat.{ℕ, suc, ◌+◌, ◌-◌, ◌*◌, ◌≤◌}
+use Prim.Native.Nat.{ℕ, suc, ◌-◌}
 use mathlib.Core.Path.{◌≡◌, refl, ap}
 use native.Mathlib.Omega.{arith}
 use Rattle.encoding.specs.Codes.{items_at}
@@ -8,7 +8,6 @@ use Rattle.types.specs.declared.Entry.{Entry}
 use Rattle.meaning.specs.Discrete.{Entry-discrete}
 use Rattle.sheet_cells.specs.Cells.{entry_at}
 use Rattle.sheet_cells.proofs.TurnLaws.{index-here, index-next}
-use borrow.Author.Rules.{rules}
 use Rattle.sheet_cells.proofs.index_of.Goals as goal
 
 pub loop-left-init : goal.loop-left-init

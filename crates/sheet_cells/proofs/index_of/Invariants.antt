@@ -1,15 +1,10 @@
 -- `sheet_cells::index_of` meets its contract. The loop's invariant: the index among all entries is what was passed and the index among those that are left. Assumes nothing.
-use Prim.Native.Nat.{ℕ, suc, ◌+◌, ◌-◌, ◌*◌, ◌≤◌}
-use mathlib.Core.Path.{◌≡◌, refl, ap}
-use native.Mathlib.Omega.{arith}
+use Prim.Native.Nat.{◌+◌, ◌-◌, ◌*◌, ◌≤◌}
+use mathlib.Core.Path.{◌≡◌}
 use Rattle.encoding.specs.Codes.{items_at}
 use Rattle.encoding.specs.Distinct.{index}
-use Rattle.sheet_sections.proofs.SectionLaws.{says-yes, says-no}
-use Rattle.types.specs.declared.Entry.{Entry}
 use Rattle.meaning.specs.Discrete.{Entry-discrete}
 use Rattle.sheet_cells.specs.Cells.{entry_at}
-use Rattle.sheet_cells.proofs.TurnLaws.{index-here, index-next}
-use borrow.Author.Rules.{rules}
 use Rattle.sheet_cells.proofs.index_of.Given as goal
 
 abbrev pub invariant-loop-left : goal.invariant-loop-left

@@ -3,7 +3,6 @@ use mathlib.Core.Path.{ap, ◌∙◌}
 use native.Mathlib.Omega.{arith}
 use Rattle.types.specs.declared.Entry.{Entry}
 use Rattle.sheet_cells.proofs.TurnLaws.{same-entry}
-use borrow.Author.Rules.{rules}
 use Rattle.sheet_cells.proofs.is_entry.Goals as goal
 
 pub returns-then-u16_at-row : goal.returns-then-u16_at-row

@@ -9,7 +9,6 @@ use Rattle.sheet_sections.specs.Section.{Parses}
 use Rattle.meaning.specs.Sheet.{entry_code}
 use Rattle.sheet_cells.specs.Cells.{OkEntries, OkNumbers}
 use Rattle.sheet_cells.proofs.CellLaws.{cells-none, cells-parse}
-use borrow.Author.Rules.{rules}
 use Rattle.sheet_cells.proofs.read_cells.Goals as goal
 
 pub returns-in-Upto : goal.returns-in-Upto

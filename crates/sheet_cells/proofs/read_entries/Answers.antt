@@ -9,7 +9,6 @@ use Rattle.sheet_sections.proofs.SectionLaws.{failed, passed}
 use Rattle.meaning.specs.Sheet.{entry_code}
 use Rattle.sheet_cells.specs.Cells.{entry_at, OkEntries}
 use Rattle.sheet_cells.proofs.CellLaws.{entries-outside, entries-many, entries-good, entries-bad}
-use borrow.Author.Rules.{rules}
 use Rattle.sheet_cells.proofs.read_entries.Goals as goal
 
 pub returns-then-not-has_items : goal.returns-then-not-has_items

@@ -9,7 +9,6 @@ use Rattle.sheet_sections.specs.Section.{HasItems}
 use Rattle.sheet_sections.proofs.SectionLaws.{failed, passed}
 use Rattle.sheet_cells.specs.Cells.{byte_at}
 use Rattle.sheet_cells.proofs.CellLaws.{numbers-outside, numbers-other, numbers-wrong, numbers-good}
-use borrow.Author.Rules.{rules}
 use Rattle.sheet_cells.proofs.read_numbers.Goals as goal
 
 pub returns-then-not-has_items : goal.returns-then-not-has_items

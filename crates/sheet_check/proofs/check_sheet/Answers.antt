@@ -2,7 +2,6 @@
 use Rattle.sheet_sections.proofs.SectionLaws.{says-yes, says-no}
 use Rattle.meaning.specs.Sheet.{IsSheet}
 use mathlib.Core.Path.{refl}
-use borrow.Author.Rules.{rules}
 use Rattle.sheet_check.proofs.check_sheet.Goals as goal
 
 pub returns-then-is_sheet : goal.returns-then-is_sheet

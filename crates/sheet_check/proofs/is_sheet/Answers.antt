@@ -6,7 +6,6 @@ use Rattle.encoding.specs.Codes.{Found}
 use Rattle.fields.specs.Field.{u32_at, Bytes}
 use mathlib.Core.Path.{◌≡◌, subst}
 use native.Mathlib.Omega.{arith}
-use borrow.Author.Rules.{rules}
 use Rattle.sheet_check.proofs.is_sheet.Goals as goal
 
 pub returns-then-bytes-lt4 : goal.returns-then-bytes-lt4

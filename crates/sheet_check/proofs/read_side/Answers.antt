@@ -5,7 +5,6 @@ use mathlib.Core.Path.{subst}
 use Rattle.sheet_check.proofs.SideLaws.{side-none, side-parse}
 use Rattle.meaning.specs.Limits.{OkMaybe}
 use Rattle.meaning.specs.Sheet.{machine_bytes}
-use borrow.Author.Rules.{rules}
 use Rattle.sheet_check.proofs.read_side.Goals as goal
 
 pub returns-in-Upto : goal.returns-in-Upto

@@ -5,7 +5,6 @@ use mathlib.Core.Path.{subst}
 use Rattle.sheet_check.proofs.WholeLaws.{sides-none, sides-parse}
 use Rattle.meaning.specs.Limits.{OkSide}
 use Rattle.meaning.specs.Sheet.{write_side}
-use borrow.Author.Rules.{rules}
 use Rattle.sheet_check.proofs.read_sides.Goals as goal
 
 pub returns-in-Upto : goal.returns-in-Upto

@@ -6,7 +6,6 @@ use Rattle.sheet_check.proofs.SideLaws.{values-none, values-parse}
 use Rattle.sheet_items.specs.declared.Sort.TheVariants.{Clusters}
 use Rattle.sheet_items.specs.Items.{OkPool}
 use Rattle.meaning.specs.Sheet.{cluster_bytes}
-use borrow.Author.Rules.{rules}
 use Rattle.sheet_check.proofs.read_values.Goals as goal
 
 pub returns-in-Upto : goal.returns-in-Upto

@@ -1,7 +1,6 @@
 -- `sheet_cluster::good_pair` meets its contract. Each test is one of the limits. Assumes nothing.
 use Prim.Native.Nat.{◌+◌}
 use native.Mathlib.Omega.{arith}
-use borrow.Author.Rules.{rules}
 use Rattle.fields.specs.Field.{u16_at}
 use Rattle.meaning.specs.Limits.{OkLimits, OkFlags}
 use Rattle.sheet_sections.proofs.SectionLaws.{failed, passed}

@@ -1,8 +1,6 @@
-use Prim.Native.Nat.{ℕ, suc, ◌+◌, ◌-◌, ◌*◌, ◌≤◌}
+use Prim.Native.Nat.{ℕ, suc, ◌+◌, ◌-◌}
 use mathlib.Core.Path.{◌≡◌, sym, ap, subst}
 use native.Mathlib.Omega.{arith}
-use lib.ListN.{length}
-use borrow.Author.Rules.{rules}
 use Rattle.fields.specs.Field.{u32_at}
 use Rattle.encoding.specs.Codes.{items_at}
 use Rattle.sheet_sections.proofs.SectionLaws.{says-yes, says-no}

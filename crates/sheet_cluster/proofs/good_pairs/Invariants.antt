@@ -1,14 +1,8 @@
 -- `sheet_cluster::good_pairs` meets its contract. The loop's invariant: the pairs that are left rise from the last class on exactly when all do. Assumes nothing.
-use Prim.Native.Nat.{ℕ, suc, ◌+◌, ◌-◌, ◌*◌, ◌≤◌}
-use mathlib.Core.Path.{◌≡◌, sym, ap, subst}
-use native.Mathlib.Omega.{arith}
+use Prim.Native.Nat.{◌+◌, ◌*◌, ◌≤◌}
 use lib.ListN.{length}
-use borrow.Author.Rules.{rules}
-use Rattle.fields.specs.Field.{u32_at}
 use Rattle.encoding.specs.Codes.{items_at}
-use Rattle.sheet_sections.proofs.SectionLaws.{says-yes, says-no}
-use Rattle.sheet_cluster.proofs.ClusterLaws.{pair-good, pairs-on, pairs-back}
-use Rattle.sheet_cluster.specs.Clusters.{pair_at, GoodPair, GoodPairs}
+use Rattle.sheet_cluster.specs.Clusters.{pair_at, GoodPairs}
 use Rattle.sheet_cluster.proofs.good_pairs.Given as goal
 
 abbrev pub invariant-loop-left : goal.invariant-loop-left

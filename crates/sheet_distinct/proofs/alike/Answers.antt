@@ -1,6 +1,5 @@
 -- `sheet_distinct::alike` meets its contract. Two that come no later than each other are alike. Assumes nothing.
 use mathlib.Core.Path.{sym}
-use borrow.Author.Rules.{rules}
 use Rattle.sheet_sections.proofs.SectionLaws.{says-yes, says-no}
 use Rattle.sheet_distinct.specs.Order.{NoLater}
 use Rattle.sheet_distinct.proofs.OrderLaws.{later-anti, later_same}

@@ -1,5 +1,4 @@
 -- `sheet_distinct::apart` meets its contract. Sorted numbers have the answer of the unsorted ones. Assumes nothing.
-use borrow.Author.Rules.{rules}
 use Rattle.sheet_distinct.proofs.HalvesLaws.{says-apart}
 use Rattle.sheet_distinct.proofs.apart.Goals as goal
 

@@ -1,5 +1,4 @@
 -- `sheet_distinct::before` meets its contract. Slices that end with the bytes are the stretches. Assumes nothing.
-use borrow.Author.Rules.{rules}
 use Rattle.sheet_distinct.proofs.OffsetLaws.{before_of_lem}
 use Rattle.sheet_distinct.proofs.before.Goals as goal
 

@@ -1,8 +1,6 @@
-use Prim.Native.Nat.{◌-◌, ◌≤◌}
-use mathlib.Core.Path.{◌≡◌, refl, sym, ◌∙◌}
-use mathlib.Core.List.{◌++◌}
+use mathlib.Core.Path.{refl, sym, ◌∙◌}
 use native.Mathlib.Omega.{arith}
-use lib.ListN.{length, take, drop, length-set, drop_of_length-le}
+use lib.ListN.{length-set, drop_of_length-le}
 use Rattle.sheet_distinct.proofs.MergeLaws.{fill-again, fill_end}
 use Rattle.sheet_distinct.proofs.RisingLaws.{copy-next}
 use Rattle.sheet_distinct.proofs.copy.Goals as goal

@@ -1,11 +1,8 @@
 -- `sheet_distinct::copy` meets its contract. The loop's invariant: what is filled, and what is left of the source, is the source. Assumes nothing.
 use Prim.Native.Nat.{◌-◌, ◌≤◌}
-use mathlib.Core.Path.{◌≡◌, refl, sym, ◌∙◌}
+use mathlib.Core.Path.{◌≡◌}
 use mathlib.Core.List.{◌++◌}
-use native.Mathlib.Omega.{arith}
-use lib.ListN.{length, take, drop, length-set, drop_of_length-le}
-use Rattle.sheet_distinct.proofs.MergeLaws.{fill-again, fill_end}
-use Rattle.sheet_distinct.proofs.RisingLaws.{copy-next}
+use lib.ListN.{length, take, drop}
 use Rattle.sheet_distinct.proofs.copy.Given as goal
 
 abbrev pub invariant-loop-k : goal.invariant-loop-k

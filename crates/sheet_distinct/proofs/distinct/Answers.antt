@@ -2,7 +2,6 @@
 use mathlib.Core.Path.{sym, ◌∙◌}
 use native.Mathlib.Omega.{arith}
 use lib.Seq.{length-take-le}
-use borrow.Author.Rules.{rules}
 use Rattle.sheet_distinct.proofs.ThinLaws.{apart-one, says-thinned}
 use Rattle.sheet_distinct.specs.Order.{stretch}
 use Rattle.sheet_distinct.proofs.distinct.Goals as goal

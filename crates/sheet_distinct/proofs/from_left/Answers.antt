@@ -3,7 +3,6 @@ use mathlib.Core.Path.{subst}
 use mathlib.Core.Bool.{Bool}
 use native.Mathlib.Omega.{arith}
 use lib.ListN.{get_or}
-use borrow.Author.Rules.{rules}
 use Rattle.encoding.specs.Tests.{Says}
 use Rattle.sheet_distinct.specs.Order.{NoLater}
 use Rattle.sheet_distinct.proofs.MergeLaws.{left-done, right-done, next-left, next-right}

@@ -1,11 +1,7 @@
-use Prim.Native.Nat.{◌+◌, ◌-◌, ◌≤◌}
-use mathlib.Core.Path.{◌≡◌, refl, sym, ◌∙◌}
-use mathlib.Core.List.{◌++◌}
+use mathlib.Core.Path.{refl, sym, ◌∙◌}
 use mathlib.Core.Bool.{true, false}
 use native.Mathlib.Omega.{arith}
-use lib.ListN.{length, take, length-set}
-use borrow.Author.Rules.{rules}
-use Rattle.sheet_distinct.specs.Order.{merged_from}
+use lib.ListN.{length-set}
 use Rattle.sheet_distinct.proofs.MergeLaws.{next-is, both-done, fill-again, fill_end}
 use Rattle.sheet_distinct.proofs.merge.Goals as goal
 

@@ -1,13 +1,9 @@
 -- `sheet_distinct::merge` meets its contract. The loop's invariant: what is filled, and what is left to merge, is the whole merged. Assumes nothing.
 use Prim.Native.Nat.{◌+◌, ◌-◌, ◌≤◌}
-use mathlib.Core.Path.{◌≡◌, refl, sym, ◌∙◌}
+use mathlib.Core.Path.{◌≡◌}
 use mathlib.Core.List.{◌++◌}
-use mathlib.Core.Bool.{true, false}
-use native.Mathlib.Omega.{arith}
-use lib.ListN.{length, take, length-set}
-use borrow.Author.Rules.{rules}
+use lib.ListN.{length, take}
 use Rattle.sheet_distinct.specs.Order.{merged_from}
-use Rattle.sheet_distinct.proofs.MergeLaws.{next-is, both-done, fill-again, fill_end}
 use Rattle.sheet_distinct.proofs.merge.Given as goal
 
 abbrev pub invariant-loop-k : goal.invariant-loop-k

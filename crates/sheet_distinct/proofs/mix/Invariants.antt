@@ -1,11 +1,8 @@
 -- `sheet_distinct::mix` meets its contract. The loop's invariant: what is left to mix in, with what was, gives the whole mixed. Assumes nothing.
-use Prim.Native.Nat.{ℕ, ◌+◌, ◌-◌, ◌*◌, ◌%◌, ◌≤◌, ◌<◌, ◌^◌}
-use mathlib.Core.Path.{◌≡◌, refl, sym, ap, ◌∙◌}
-use native.Mathlib.Omega.{arith}
+use Prim.Native.Nat.{◌+◌, ◌*◌, ◌≤◌, ◌<◌, ◌^◌}
+use mathlib.Core.Path.{◌≡◌}
 use lib.ListN.{length}
-use borrow.Author.Rules.{rules}
 use Rattle.sheet_distinct.specs.Slots.{mixed}
-use Rattle.sheet_distinct.proofs.SlotLaws.{mixed-next, mixed-end}
 use Rattle.sheet_distinct.proofs.mix.Given as goal
 
 abbrev pub invariant-loop-left : goal.invariant-loop-left

@@ -1,10 +1,9 @@
-use Prim.Native.Nat.{ℕ, ◌-◌}
+use Prim.Native.Nat.{ℕ}
 use mathlib.Core.Path.{◌≡◌, sym, subst}
 use mathlib.Core.List.{List}
 use native.Mathlib.Omega.{arith}
 use lib.ListN.{get_or}
 use lib.Seq.{slice}
-use borrow.Author.Rules.{rules}
 use Rattle.encoding.specs.Dictionary.{Le}
 use Rattle.sheet_distinct.proofs.OrderLaws.{slice-done, turn-ended, turn-less, turn_more, turn_on, turn-back}
 use Rattle.sheet_distinct.proofs.no_later.Goals as goal

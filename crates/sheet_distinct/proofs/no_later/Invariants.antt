@@ -1,13 +1,7 @@
 -- `sheet_distinct::no_later` meets its contract. What is shared at the beginning tells nothing. The loop's invariant: what is left of the one comes no later than what is left of the other exactly when the whole does. Assumes nothing.
-use Prim.Native.Nat.{ℕ, ◌-◌}
-use mathlib.Core.Path.{◌≡◌, sym, subst}
-use mathlib.Core.List.{List}
-use native.Mathlib.Omega.{arith}
-use lib.ListN.{get_or}
+use Prim.Native.Nat.{◌-◌}
 use lib.Seq.{slice}
-use borrow.Author.Rules.{rules}
 use Rattle.encoding.specs.Dictionary.{Le}
-use Rattle.sheet_distinct.proofs.OrderLaws.{slice-done, turn-ended, turn-less, turn_more, turn_on, turn-back}
 use Rattle.sheet_distinct.proofs.no_later.Given as goal
 
 abbrev pub invariant-loop-i : goal.invariant-loop-i

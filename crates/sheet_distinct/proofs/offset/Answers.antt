@@ -1,7 +1,6 @@
 -- `sheet_distinct::offset` meets its contract. Assumes nothing.
 use mathlib.Core.Path.{sym}
 use native.Mathlib.Omega.{arith}
-use borrow.Author.Rules.{rules}
 use Rattle.sheet_distinct.proofs.OffsetLaws.{offset-none}
 use Rattle.sheet_distinct.proofs.offset.Goals as goal
 

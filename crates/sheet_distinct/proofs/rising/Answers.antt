@@ -1,11 +1,10 @@
-use Prim.Native.Nat.{◌-◌, ◌≤◌}
+use Prim.Native.Nat.{◌-◌}
 use mathlib.Core.Path.{subst}
 use mathlib.Core.Bool.{Bool}
 use native.Mathlib.Omega.{arith}
-use lib.ListN.{length, get_or, drop}
-use borrow.Author.Rules.{rules}
+use lib.ListN.{get_or}
 use Rattle.encoding.specs.Tests.{Says}
-use Rattle.sheet_distinct.specs.Order.{NoLater, stretch, Adjacent}
+use Rattle.sheet_distinct.specs.Order.{NoLater, stretch}
 use Rattle.sheet_distinct.proofs.RisingLaws.{rising-bad, rising-on, rising-back, rising-end}
 use Rattle.sheet_distinct.proofs.rising.Goals as goal
 

@@ -1,10 +1,7 @@
-use Prim.Native.Nat.{ℕ, ◌+◌, ◌-◌, ◌≤◌}
 use mathlib.Core.Path.{◌≡◌, sym, ◌∙◌}
 use native.Mathlib.Omega.{arith}
-use lib.ListN.{length}
-use borrow.Author.Rules.{rules}
 use Rattle.fields.specs.Field.{u32_at, Bytes}
-use Rattle.sheet_distinct.proofs.WordLaws.{Alike, word, shared-is}
+use Rattle.sheet_distinct.proofs.WordLaws.{word, shared-is}
 use Rattle.sheet_distinct.proofs.shared.Goals as goal
 
 pub loop-i-init : goal.loop-i-init

@@ -1,11 +1,8 @@
 -- `sheet_distinct::shared` meets its contract. The loop's invariant: what is left has the answer of the whole. Assumes nothing.
-use Prim.Native.Nat.{ℕ, ◌+◌, ◌-◌, ◌≤◌}
-use mathlib.Core.Path.{◌≡◌, sym, ◌∙◌}
-use native.Mathlib.Omega.{arith}
+use Prim.Native.Nat.{◌+◌, ◌-◌, ◌≤◌}
+use mathlib.Core.Path.{◌≡◌}
 use lib.ListN.{length}
-use borrow.Author.Rules.{rules}
-use Rattle.fields.specs.Field.{u32_at, Bytes}
-use Rattle.sheet_distinct.proofs.WordLaws.{Alike, word, shared-is}
+use Rattle.sheet_distinct.proofs.WordLaws.{Alike}
 use Rattle.sheet_distinct.proofs.shared.Given as goal
 
 abbrev pub invariant-loop-i : goal.invariant-loop-i

@@ -1,6 +1,5 @@
 -- `sheet_distinct::slot_of` meets its contract. The slot is the upper part of a product below `slots` times 2 ^ 32. Assumes nothing.
 use native.Mathlib.Omega.{arith}
-use borrow.Author.Rules.{rules}
 use Rattle.sheet_distinct.proofs.SlotLaws.{few-slots, slot-none, slot_is}
 use Rattle.sheet_distinct.proofs.slot_of.Goals as goal
 

@@ -1,17 +1,10 @@
 -- `sheet_distinct::thin` meets its contract. The loop's invariant: each number so far is the first of its slot, or set aside. Assumes nothing.
-use Prim.Native.Nat.{ℕ, suc, ◌+◌, ◌-◌, ◌≤◌, ◌<◌}
-use mathlib.Core.Path.{◌≡◌, refl, sym, ap, ◌∙◌, subst}
-use mathlib.Core.List.{List}
-use native.Mathlib.Omega.{arith}
-use native.Mathlib.Numerals.{add-one}
-use lib.ListN.{length, get_or, take, set, length-set}
-use lib.Seq.{take-suc-set}
-use borrow.Author.Rules.{rules}
-use Rattle.sheet_sections.proofs.SectionLaws.{says-yes, says-no}
+use Prim.Native.Nat.{◌-◌, ◌≤◌}
+use mathlib.Core.Path.{◌≡◌}
+use lib.ListN.{length, take}
 use Rattle.sheet_distinct.specs.Order.{stretch}
 use Rattle.sheet_distinct.specs.Slots.{slot_of}
-use Rattle.sheet_distinct.proofs.SlotLaws.{slot-alike}
-use Rattle.sheet_distinct.proofs.ThinLaws.{Kept, kept-none, kept-first, kept-aside, early, thinned-two, thinned}
+use Rattle.sheet_distinct.proofs.ThinLaws.{Kept}
 use Rattle.sheet_distinct.proofs.thin.Given as goal
 
 abbrev pub invariant-loop-k : goal.invariant-loop-k

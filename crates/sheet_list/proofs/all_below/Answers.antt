@@ -1,8 +1,5 @@
-use Prim.Native.Nat.{◌-◌, ◌≤◌}
 use native.Mathlib.Omega.{arith}
-use Rattle.sheet_list.specs.Action.{AllBelow}
 use Rattle.sheet_list.proofs.ContentLaws.{below_more}
-use borrow.Author.Rules.{rules}
 use Rattle.sheet_list.proofs.all_below.Goals as goal
 
 pub loop-k-init : goal.loop-k-init

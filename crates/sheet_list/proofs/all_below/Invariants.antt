@@ -1,9 +1,6 @@
 -- `sheet_list::all_below` meets its contract. The loop's invariant: the glyphs that were passed are below. Assumes nothing.
 use Prim.Native.Nat.{◌-◌, ◌≤◌}
-use native.Mathlib.Omega.{arith}
 use Rattle.sheet_list.specs.Action.{AllBelow}
-use Rattle.sheet_list.proofs.ContentLaws.{below_more}
-use borrow.Author.Rules.{rules}
 use Rattle.sheet_list.proofs.all_below.Given as goal
 
 abbrev pub invariant-loop-k : goal.invariant-loop-k

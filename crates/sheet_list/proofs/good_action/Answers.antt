@@ -4,7 +4,6 @@ use native.Mathlib.Omega.{arith}
 use lib.ListN.{length}
 use Rattle.sheet_sections.proofs.SectionLaws.{failed, passed}
 use Rattle.sheet_list.proofs.ActionLaws.{action-says}
-use borrow.Author.Rules.{rules}
 use Rattle.sheet_list.proofs.good_action.Goals as goal
 
 pub returns-then-not-has_bytes : goal.returns-then-not-has_bytes

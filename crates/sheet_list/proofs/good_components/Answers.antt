@@ -1,7 +1,6 @@
 -- `sheet_list::good_components` meets its contract, test by test. Assumes nothing.
 use native.Mathlib.Omega.{arith}
 use Rattle.sheet_list.proofs.ContentLaws.{components-short, components-few, components-many, components-size, components-say}
-use borrow.Author.Rules.{rules}
 use Rattle.sheet_list.proofs.good_components.Goals as goal
 
 pub returns-then-size-lt14 : goal.returns-then-size-lt14

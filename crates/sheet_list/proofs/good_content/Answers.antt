@@ -2,7 +2,6 @@
 use native.Mathlib.Omega.{arith}
 use Rattle.sheet_list.specs.Action.{bytes_at}
 use Rattle.sheet_list.proofs.ContentLaws.{ty-says}
-use borrow.Author.Rules.{rules}
 use Rattle.sheet_list.proofs.good_content.Goals as goal
 
 pub returns-then-ty-eq0 : goal.returns-then-ty-eq0

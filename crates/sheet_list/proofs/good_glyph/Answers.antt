@@ -1,7 +1,6 @@
 -- `sheet_list::good_glyph` meets its contract, test by test. Assumes nothing.
 use native.Mathlib.Omega.{arith}
 use Rattle.sheet_list.proofs.ContentLaws.{bytes-length, field_in}
-use borrow.Author.Rules.{rules}
 use Rattle.sheet_list.proofs.good_glyph.Goals as goal
 
 pub returns-then-size-ne2 : goal.returns-then-size-ne2

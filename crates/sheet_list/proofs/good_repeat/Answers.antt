@@ -3,7 +3,6 @@ use Prim.Native.Nat.{◌+◌}
 use mathlib.Core.Path.{refl}
 use native.Mathlib.Omega.{arith}
 use Rattle.sheet_list.proofs.ContentLaws.{bytes-length, field_in}
-use borrow.Author.Rules.{rules}
 use Rattle.sheet_list.proofs.good_repeat.Goals as goal
 
 pub returns-then-size-ne4 : goal.returns-then-size-ne4

@@ -4,7 +4,6 @@ use mathlib.Core.Logic.{inl, inr, ⊎_elim}
 use mathlib.Core.Path.{refl}
 use native.Mathlib.Omega.{arith}
 use Rattle.sheet_list.proofs.ContentLaws.{bytes-length, field_in}
-use borrow.Author.Rules.{rules}
 use Rattle.sheet_list.proofs.good_substitute.Goals as goal
 
 pub returns-then-size-ne8 : goal.returns-then-size-ne8

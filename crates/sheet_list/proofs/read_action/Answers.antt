@@ -10,7 +10,6 @@ use Rattle.meaning.specs.Limits.{OkAction}
 use Rattle.meaning.specs.Sheet.{action_code}
 use Rattle.sheet_list.specs.Action.{GoodAction}
 use Rattle.sheet_list.proofs.ActionLaws.{action-short, action-bad, action-good}
-use borrow.Author.Rules.{rules}
 use Rattle.sheet_list.proofs.read_action.Goals as goal
 
 pub returns-then-not-has_bytes : goal.returns-then-not-has_bytes

@@ -1,16 +1,12 @@
-use Prim.Native.Nat.{suc, ◌-◌, ◌≤◌}
+use Prim.Native.Nat.{suc, ◌-◌}
 use mathlib.Core.Path.{◌≡◌, subst}
 use native.Mathlib.Omega.{arith}
-use lib.ListN.{length}
-use Rattle.encoding.specs.Codes.{many, Found}
+use Rattle.encoding.specs.Codes.{Found}
 use Rattle.sheet_sections.specs.Section.{Parses}
-use Rattle.sheet_sections.specs.declared.Read.{Read}
 use Rattle.sheet_sections.specs.declared.Read.TheVariants.{Upto, Absent as Nothing}
 use Rattle.meaning.specs.Limits.{OkAction}
 use Rattle.meaning.specs.Sheet.{action_code}
-use Rattle.sheet_list.specs.Action.{Exactly}
 use Rattle.sheet_list.proofs.ListLaws.{items-end, items-stop, items-next, ok-free}
-use borrow.Author.Rules.{rules}
 use Rattle.sheet_list.proofs.read_actions.Goals as goal
 
 pub loop-left-init : goal.loop-left-init

@@ -1,17 +1,12 @@
 -- `sheet_list::read_actions` meets its contract. The loop's invariant: what stands of the actions that are left is what stands of all of them. Assumes nothing.
-use Prim.Native.Nat.{suc, ◌-◌, ◌≤◌}
-use mathlib.Core.Path.{◌≡◌, subst}
-use native.Mathlib.Omega.{arith}
+use Prim.Native.Nat.{◌≤◌}
 use lib.ListN.{length}
-use Rattle.encoding.specs.Codes.{many, Found}
+use Rattle.encoding.specs.Codes.{many}
 use Rattle.sheet_sections.specs.Section.{Parses}
 use Rattle.sheet_sections.specs.declared.Read.{Read}
-use Rattle.sheet_sections.specs.declared.Read.TheVariants.{Upto, Absent as Nothing}
 use Rattle.meaning.specs.Limits.{OkAction}
 use Rattle.meaning.specs.Sheet.{action_code}
 use Rattle.sheet_list.specs.Action.{Exactly}
-use Rattle.sheet_list.proofs.ListLaws.{items-end, items-stop, items-next, ok-free}
-use borrow.Author.Rules.{rules}
 use Rattle.sheet_list.proofs.read_actions.Given as goal
 
 abbrev pub invariant-loop-left : goal.invariant-loop-left

@@ -6,7 +6,6 @@ use lib.ListN.{length}
 use Rattle.fields.specs.Field.{u32_at, Bytes}
 use Rattle.sheet_sections.proofs.SectionLaws.{failed, passed}
 use Rattle.sheet_list.proofs.ListLaws.{list-short, list_count, list-parse}
-use borrow.Author.Rules.{rules}
 use Rattle.sheet_list.proofs.read_list.Goals as goal
 
 pub returns-then-not-has_bytes : goal.returns-then-not-has_bytes

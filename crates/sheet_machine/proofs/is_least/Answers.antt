@@ -1,11 +1,10 @@
-use Prim.Native.Nat.{ℕ, ◌+◌, ◌-◌, ◌*◌, ◌≤◌, ◌<◌}
+use Prim.Native.Nat.{ℕ, ◌+◌, ◌*◌, ◌≤◌, ◌<◌}
 use mathlib.Core.Path.{◌≡◌, refl, ap, ◌∙◌}
 use native.Mathlib.Omega.{arith}
 use lib.ListN.{length, get_or}
 use Rattle.fields.specs.Field.{u16_at}
 use Rattle.sheet_machine.specs.Machine.{row_at}
-use Rattle.sheet_machine.proofs.LeastLaws.{Reached, reach-start, reach-stay, reach-more, reach-closed, reach-end, less-rows, few-cells}
-use borrow.Author.Rules.{rules}
+use Rattle.sheet_machine.proofs.LeastLaws.{reach-start, reach-stay, reach-more, reach-closed, reach-end, less-rows, few-cells}
 use Rattle.sheet_machine.proofs.is_least.Goals as goal
 
 pub overflow_mul-total : goal.overflow_mul-total

@@ -1,12 +1,8 @@
 -- `sheet_machine::is_least` meets its contract. The loop's invariant: the cells that were passed lead below `reached`, and no closed number is less. Assumes nothing.
-use Prim.Native.Nat.{ℕ, ◌+◌, ◌-◌, ◌*◌, ◌≤◌, ◌<◌}
-use mathlib.Core.Path.{◌≡◌, refl, ap, ◌∙◌}
-use native.Mathlib.Omega.{arith}
-use lib.ListN.{length, get_or}
-use Rattle.fields.specs.Field.{u16_at}
+use Prim.Native.Nat.{◌-◌, ◌*◌, ◌≤◌}
+use mathlib.Core.Path.{◌≡◌}
 use Rattle.sheet_machine.specs.Machine.{row_at}
-use Rattle.sheet_machine.proofs.LeastLaws.{Reached, reach-start, reach-stay, reach-more, reach-closed, reach-end, less-rows, few-cells}
-use borrow.Author.Rules.{rules}
+use Rattle.sheet_machine.proofs.LeastLaws.{Reached}
 use Rattle.sheet_machine.proofs.is_least.Given as goal
 
 abbrev pub invariant-loop-cell : goal.invariant-loop-cell

@@ -7,7 +7,6 @@ use Rattle.fields.specs.Field.{u32_at, Bytes}
 use Rattle.encoding.specs.Tests.{Says}
 use Rattle.sheet_machine.specs.Machine.{LeastBy, row_at, ReadableCells}
 use Rattle.sheet_machine.proofs.StandLaws.{cells-room, cells-readable, least-says}
-use borrow.Author.Rules.{rules}
 use Rattle.sheet_machine.proofs.least_cells.Goals as goal
 
 pub overflow_add-at : goal.overflow_add-at

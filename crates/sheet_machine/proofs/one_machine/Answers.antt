@@ -1,7 +1,6 @@
 -- `sheet_machine::one_machine` meets its contract, field by field. Assumes nothing.
 use native.Mathlib.Omega.{arith}
 use Rattle.sheet_machine.proofs.MachineLaws.{one-says}
-use borrow.Author.Rules.{rules}
 use Rattle.sheet_machine.proofs.one_machine.Goals as goal
 
 pub returns : goal.returns

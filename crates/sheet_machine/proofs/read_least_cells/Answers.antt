@@ -12,7 +12,6 @@ use Rattle.sheet_cells.specs.Cells.{OkCells}
 use Rattle.sheet_machine.specs.Machine.{OfCells}
 use Rattle.sheet_machine.proofs.LeastLaws.{few-cells}
 use Rattle.sheet_machine.proofs.StandLaws.{least-none, least-found, least-absent}
-use borrow.Author.Rules.{rules}
 use Rattle.sheet_machine.proofs.read_least_cells.Goals as goal
 
 pub overflow_mul-rows : goal.overflow_mul-rows

@@ -6,7 +6,6 @@ use Rattle.fields.specs.Field.{u32_at, Bytes}
 use Rattle.sheet_sections.proofs.SectionLaws.{says-yes, says-no, failed, passed}
 use Rattle.sheet_machine.specs.Machine.{Sizes, NoMachine, OneMachine}
 use Rattle.sheet_machine.proofs.MachineLaws.{machine-none, machine-absent, machine-parse}
-use borrow.Author.Rules.{rules}
 use Rattle.sheet_machine.proofs.read_machine.Goals as goal
 
 pub overflow_add-result : goal.overflow_add-result

@@ -5,7 +5,6 @@ use Rattle.encoding.specs.Sections.{run_section}
 use Rattle.sheet_sections.specs.RunSection.{Below}
 use Rattle.sheet_sections.specs.Section.{Parses}
 use Rattle.sheet_machine.proofs.MachineLaws.{within_none, within-parse}
-use borrow.Author.Rules.{rules}
 use Rattle.sheet_machine.proofs.read_within.Goals as goal
 
 pub returns-in-Upto : goal.returns-in-Upto

@@ -11,7 +11,6 @@ use Rattle.sheet_distinct.specs.Scan.{Scanned, Scans}
 use Rattle.sheet_distinct.proofs.ScanLaws.{items-short, items-many, items-none, items-twice, items-found}
 use Rattle.sheet_items.specs.Items.{no_item, item-discrete, item_code, SomeItem}
 use Rattle.sheet_items.proofs.Laws.{some-free}
-use borrow.Author.Rules.{rules}
 use Rattle.sheet_pools.proofs.read_by_offsets.Goals as goal
 
 pub returns-then-not-has_items : goal.returns-then-not-has_items

@@ -1,6 +1,5 @@
 -- `sheet_pools::read_item` meets its contract. Each sort has its reader. Assumes nothing.
 use mathlib.Core.Path.{sym, subst}
-use borrow.Author.Rules.{rules}
 use Rattle.sheet_sections.specs.Section.{Parses}
 use Rattle.sheet_items.specs.declared.Sort.{Sort}
 use Rattle.sheet_items.specs.Items.{item_code, SomeItem}

@@ -2,7 +2,6 @@
 use Prim.Native.Nat.{ℕ}
 use native.Mathlib.Omega.{arith}
 use lib.ListN.{length-replicate}
-use borrow.Author.Rules.{rules}
 use Rattle.sheet_distinct.proofs.ThinLaws.{rooms}
 use Rattle.sheet_pools.proofs.read_more.Goals as goal
 

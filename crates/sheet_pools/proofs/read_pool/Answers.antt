@@ -8,7 +8,6 @@ use Rattle.sheet_sections.specs.Pool.{Items}
 use Rattle.sheet_sections.proofs.PoolLaws.{no_items, few-items, both-parse}
 use Rattle.sheet_items.specs.Items.{no_item, item-discrete, item_code, OkItem, SomeItem}
 use Rattle.sheet_items.proofs.Laws.{some-free, none-ok, some→, some←}
-use borrow.Author.Rules.{rules}
 use Rattle.sheet_pools.proofs.read_pool.Goals as goal
 
 pub read_number_runs-requires : goal.read_number_runs-requires

@@ -1,15 +1,14 @@
-use Prim.Native.Nat.{ℕ, ◌+◌, ◌-◌, ◌≤◌}
+use Prim.Native.Nat.{ℕ, ◌+◌}
 use mathlib.Core.Path.{◌≡◌, refl, ◌∙◌, subst}
 use native.Mathlib.Omega.{arith}
 use lib.Seq.{get_or-set_same}
-use lib.ListN.{length, length-set}
+use lib.ListN.{length-set}
 use Rattle.encoding.specs.Codes.{Found}
 use Rattle.sheet_sections.specs.Section.{Parses}
 use Rattle.sheet_distinct.specs.Scan.{Scanned}
 use Rattle.sheet_distinct.proofs.ScanLaws.{scanned-none, scanned-more, scan-ended}
 use Rattle.sheet_items.specs.Items.{no_item, item_code, SomeItem}
 use Rattle.sheet_items.proofs.Laws.{some-free}
-use borrow.Author.Rules.{rules}
 use Rattle.sheet_pools.proofs.scan_items.Goals as goal
 
 pub loop-i-init : goal.loop-i-init

@@ -1,16 +1,9 @@
 -- `sheet_pools::scan_items` meets its contract. The loop's invariant: i items were found, and the offsets are where they begin and end. Assumes nothing.
-use Prim.Native.Nat.{ℕ, ◌+◌, ◌-◌, ◌≤◌}
-use mathlib.Core.Path.{◌≡◌, refl, ◌∙◌, subst}
-use native.Mathlib.Omega.{arith}
-use lib.Seq.{get_or-set_same}
-use lib.ListN.{length, length-set}
-use Rattle.encoding.specs.Codes.{Found}
-use Rattle.sheet_sections.specs.Section.{Parses}
+use Prim.Native.Nat.{◌-◌, ◌≤◌}
+use mathlib.Core.Path.{◌≡◌}
+use lib.ListN.{length}
 use Rattle.sheet_distinct.specs.Scan.{Scanned}
-use Rattle.sheet_distinct.proofs.ScanLaws.{scanned-none, scanned-more, scan-ended}
-use Rattle.sheet_items.specs.Items.{no_item, item_code, SomeItem}
-use Rattle.sheet_items.proofs.Laws.{some-free}
-use borrow.Author.Rules.{rules}
+use Rattle.sheet_items.specs.Items.{item_code, SomeItem}
 use Rattle.sheet_pools.proofs.scan_items.Given as goal
 
 abbrev pub invariant-loop-i : goal.invariant-loop-i

@@ -1,6 +1,5 @@
 -- `sheet_sections::follows` meets its contract, test by test. Assumes nothing.
 use native.Mathlib.Omega.{arith}
-use borrow.Author.Rules.{rules}
 use Rattle.sheet_sections.proofs.follows.Goals as goal
 
 pub returns-then-value-held : goal.returns-then-value-held

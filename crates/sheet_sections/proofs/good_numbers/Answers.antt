@@ -1,14 +1,10 @@
-use Prim.Native.Nat.{ℕ, suc, ◌+◌, ◌-◌, ◌*◌, ◌≤◌}
+use Prim.Native.Nat.{ℕ, suc, ◌+◌, ◌-◌, ◌≤◌}
 use mathlib.Core.Path.{◌≡◌, refl}
 use native.Mathlib.Omega.{arith}
-use lib.ListN.{length}
-use borrow.Author.Rules.{rules}
 use Rattle.encoding.specs.Runs.{Run}
-use Rattle.encoding.specs.Codes.{items_at}
 use Rattle.sheet_sections.proofs.SectionLaws.{says-yes, says-no}
 use Rattle.sheet_sections.specs.RunSection.{MayFollow}
 use Rattle.sheet_sections.proofs.NumberLaws.{same_number, used-fits, number-follows, number-on, number-back, numbers-end, numbers-ended}
-use Rattle.sheet_sections.specs.Pool.{number_run_at, NumbersFrom}
 use Rattle.sheet_sections.proofs.good_numbers.Goals as goal
 
 pub loop-left-init : goal.loop-left-init

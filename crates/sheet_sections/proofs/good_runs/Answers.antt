@@ -1,8 +1,6 @@
-use Prim.Native.Nat.{ℕ, suc, ◌+◌, ◌-◌, ◌*◌, ◌≤◌}
+use Prim.Native.Nat.{ℕ, suc, ◌+◌, ◌-◌}
 use mathlib.Core.Path.{◌≡◌, refl, sym, subst}
 use native.Mathlib.Omega.{arith}
-use lib.ListN.{length}
-use borrow.Author.Rules.{rules}
 use Rattle.encoding.specs.Runs.{Run}
 use Rattle.encoding.specs.Codes.{items_at}
 use Rattle.sheet_sections.proofs.RunLaws.{same-run, turn-follows, turn_on, turn-back}

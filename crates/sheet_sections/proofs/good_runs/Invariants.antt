@@ -1,14 +1,8 @@
 -- `sheet_sections::good_runs` meets its contract. The loop's invariant: the runs that are left are good after the last one exactly when all of them are. Assumes nothing.
-use Prim.Native.Nat.{ℕ, suc, ◌+◌, ◌-◌, ◌*◌, ◌≤◌}
-use mathlib.Core.Path.{◌≡◌, refl, sym, subst}
-use native.Mathlib.Omega.{arith}
+use Prim.Native.Nat.{◌+◌, ◌*◌, ◌≤◌}
 use lib.ListN.{length}
-use borrow.Author.Rules.{rules}
-use Rattle.encoding.specs.Runs.{Run}
 use Rattle.encoding.specs.Codes.{items_at}
-use Rattle.sheet_sections.proofs.RunLaws.{same-run, turn-follows, turn_on, turn-back}
-use Rattle.sheet_sections.proofs.SectionLaws.{says-yes, says-no}
-use Rattle.sheet_sections.specs.RunSection.{run_at, MayFollow, GoodRuns}
+use Rattle.sheet_sections.specs.RunSection.{run_at, GoodRuns}
 use Rattle.sheet_sections.proofs.good_runs.Given as goal
 
 abbrev pub invariant-loop-left : goal.invariant-loop-left

@@ -2,7 +2,6 @@
 use Prim.Native.Nat.{ℕ, ◌+◌, ◌*◌}
 use mathlib.Core.Path.{◌≡◌, sym, subst}
 use native.Mathlib.Omega.{arith}
-use borrow.Author.Rules.{rules}
 use Rattle.fields.specs.Field.{u32_at, Bytes}
 use Rattle.encoding.specs.Sections.{run_section}
 use Rattle.encoding.specs.Codes.{Found, items_at}

@@ -1,5 +1,4 @@
 -- `sheet_sections::used_after` meets its contract. Assumes nothing.
-use borrow.Author.Rules.{rules}
 use Rattle.sheet_sections.proofs.NumberLaws.{used-new, used-known}
 use Rattle.sheet_sections.proofs.used_after.Goals as goal
 

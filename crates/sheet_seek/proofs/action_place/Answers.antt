@@ -1,13 +1,11 @@
 use lib.ListN.{length}
-use borrow.Author.Rules.{rules}
 use Rattle.meaning.specs.Wide.{WideAction}
 use Rattle.meaning.specs.Sheet.{action_code}
-use Rattle.sheet_seek.proofs.PassLaws.{Left, left-none, left-next, left-past, reached, unreached}
-use Rattle.sheet_seek.specs.Passes.{Reaches}
+use Rattle.sheet_seek.proofs.PassLaws.{left-none, left-next, left-past, reached, unreached}
 use Rattle.sheet_sections.proofs.SectionLaws.{failed, passed}
 use Rattle.sheet_sections.specs.Section.{HasItems}
 use Rattle.fields.specs.Field.{Bytes}
-use Prim.Native.Nat.{ℕ, ◌-◌}
+use Prim.Native.Nat.{◌-◌}
 use native.Mathlib.Omega.{arith}
 use Rattle.sheet_seek.proofs.action_place.Goals as goal
 

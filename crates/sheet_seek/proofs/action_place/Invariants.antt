@@ -1,15 +1,9 @@
 -- `sheet_seek::action_place` meets its contract. The loop's invariant: what is left from here on is what is asked for. Assumes nothing.
-use lib.ListN.{length}
-use borrow.Author.Rules.{rules}
 use Rattle.meaning.specs.Wide.{WideAction}
 use Rattle.meaning.specs.Sheet.{action_code}
-use Rattle.sheet_seek.proofs.PassLaws.{Left, left-none, left-next, left-past, reached, unreached}
+use Rattle.sheet_seek.proofs.PassLaws.{Left}
 use Rattle.sheet_seek.specs.Passes.{Reaches}
-use Rattle.sheet_sections.proofs.SectionLaws.{failed, passed}
-use Rattle.sheet_sections.specs.Section.{HasItems}
-use Rattle.fields.specs.Field.{Bytes}
-use Prim.Native.Nat.{ℕ, ◌-◌}
-use native.Mathlib.Omega.{arith}
+use Prim.Native.Nat.{ℕ}
 use Rattle.sheet_seek.proofs.action_place.Given as goal
 
 abbrev pub invariant-loop-left : goal.invariant-loop-left

@@ -5,7 +5,6 @@ use Rattle.sheet_sections.proofs.SectionLaws.{failed, passed}
 use Rattle.sheet_sections.specs.Section.{HasItems}
 use Rattle.fields.specs.Field.{Bytes}
 use native.Mathlib.Omega.{arith}
-use borrow.Author.Rules.{rules}
 use Rattle.sheet_seek.proofs.after_action.Goals as goal
 
 pub returns-then-not-has_items : goal.returns-then-not-has_items

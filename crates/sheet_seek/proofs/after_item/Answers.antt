@@ -2,7 +2,6 @@
 use mathlib.Core.Path.{refl, sym, subst}
 use mathlib.Core.List.{[]}
 use native.Mathlib.Omega.{arith}
-use borrow.Author.Rules.{rules}
 use Rattle.fields.specs.Field.{Bytes}
 use Rattle.meaning.specs.Sheet.{pair_code, action_code}
 use Rattle.meaning.specs.Wide.{WidePair, WideAction}

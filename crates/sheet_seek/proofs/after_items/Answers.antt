@@ -4,7 +4,6 @@ use Rattle.sheet_sections.specs.Section.{HasItems}
 use Prim.Native.Nat.{ℕ, ◌+◌, ◌*◌}
 use mathlib.Core.Path.{ap}
 use native.Mathlib.Omega.{arith}
-use borrow.Author.Rules.{rules}
 use Rattle.sheet_seek.proofs.after_items.Goals as goal
 
 pub returns-then-not-has_items : goal.returns-then-not-has_items

@@ -4,7 +4,6 @@ use Rattle.sheet_seek.proofs.PassLaws.{reach-end}
 use Rattle.sheet_items.specs.Items.{item_code, FewItem}
 use Rattle.fields.specs.Field.{Bytes}
 use native.Mathlib.Omega.{arith}
-use borrow.Author.Rules.{rules}
 use Rattle.sheet_seek.proofs.after_pool.Goals as goal
 
 pub returns : goal.returns

@@ -2,7 +2,6 @@
 use Rattle.sheet_seek.proofs.SideLaws.{sizes-passed}
 use Rattle.fields.specs.Field.{Bytes}
 use native.Mathlib.Omega.{arith}
-use borrow.Author.Rules.{rules}
 use Rattle.sheet_seek.proofs.classes_at.Goals as goal
 
 pub returns : goal.returns

@@ -2,7 +2,6 @@
 use Rattle.sheet_seek.proofs.SideLaws.{classes-passed}
 use Rattle.fields.specs.Field.{Bytes}
 use native.Mathlib.Omega.{arith}
-use borrow.Author.Rules.{rules}
 use Rattle.sheet_seek.proofs.entries_at.Goals as goal
 
 pub returns : goal.returns

@@ -1,13 +1,11 @@
 use lib.ListN.{length}
-use borrow.Author.Rules.{rules}
 use Rattle.sheet_items.specs.Items.{item_code, FewItem}
 use Rattle.sheet_items.proofs.Laws.{item-long}
-use Rattle.sheet_seek.proofs.PassLaws.{Left, left-none, left-next, left-past, reached, unreached}
-use Rattle.sheet_seek.specs.Passes.{Reaches}
+use Rattle.sheet_seek.proofs.PassLaws.{left-none, left-next, left-past, reached, unreached}
 use Rattle.sheet_sections.proofs.SectionLaws.{failed, passed}
 use Rattle.sheet_sections.specs.Section.{HasItems}
 use Rattle.fields.specs.Field.{Bytes}
-use Prim.Native.Nat.{ℕ, ◌-◌}
+use Prim.Native.Nat.{◌-◌}
 use native.Mathlib.Omega.{arith}
 use Rattle.sheet_seek.proofs.item_place.Goals as goal
 

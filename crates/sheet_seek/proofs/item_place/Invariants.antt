@@ -1,15 +1,8 @@
 -- `sheet_seek::item_place` meets its contract. The loop's invariant: what is left from here on is what is asked for. Assumes nothing.
-use lib.ListN.{length}
-use borrow.Author.Rules.{rules}
 use Rattle.sheet_items.specs.Items.{item_code, FewItem}
-use Rattle.sheet_items.proofs.Laws.{item-long}
-use Rattle.sheet_seek.proofs.PassLaws.{Left, left-none, left-next, left-past, reached, unreached}
+use Rattle.sheet_seek.proofs.PassLaws.{Left}
 use Rattle.sheet_seek.specs.Passes.{Reaches}
-use Rattle.sheet_sections.proofs.SectionLaws.{failed, passed}
-use Rattle.sheet_sections.specs.Section.{HasItems}
-use Rattle.fields.specs.Field.{Bytes}
-use Prim.Native.Nat.{ℕ, ◌-◌}
-use native.Mathlib.Omega.{arith}
+use Prim.Native.Nat.{ℕ}
 use Rattle.sheet_seek.proofs.item_place.Given as goal
 
 abbrev pub invariant-loop-left : goal.invariant-loop-left

@@ -7,7 +7,6 @@ use Rattle.meaning.specs.Limits.{Valid}
 use Rattle.fields.specs.Field.{Bytes}
 use mathlib.Core.Path.{sym, subst}
 use native.Mathlib.Omega.{arith}
-use borrow.Author.Rules.{rules}
 use Rattle.sheet_seek.proofs.items_at.Goals as goal
 
 pub returns-in-Clusters : goal.returns-in-Clusters

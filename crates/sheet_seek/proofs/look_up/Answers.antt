@@ -1,10 +1,6 @@
-use borrow.Author.Rules.{rules}
 use Rattle.sheet_seek.proofs.LookUpLaws.{look_stop, look-here, look-next, look-end}
-use Rattle.sheet_seek.specs.LookUp.{run_more, look_up}
-use Rattle.encoding.specs.Codes.{items_at}
-use lib.ListN.{length}
-use mathlib.Core.Path.{◌≡◌, refl, ap, ◌∙◌}
-use Prim.Native.Nat.{◌+◌, ◌-◌, ◌*◌, ◌≤◌}
+use mathlib.Core.Path.{refl, ap, ◌∙◌}
+use Prim.Native.Nat.{◌+◌, ◌-◌}
 use native.Mathlib.Omega.{arith}
 use Rattle.sheet_seek.proofs.look_up.Goals as goal
 

@@ -1,12 +1,9 @@
 -- `sheet_seek::look_up` meets its contract. The loop's invariant: looking up from here on is looking up from the start. Assumes nothing.
-use borrow.Author.Rules.{rules}
-use Rattle.sheet_seek.proofs.LookUpLaws.{look_stop, look-here, look-next, look-end}
 use Rattle.sheet_seek.specs.LookUp.{run_more, look_up}
 use Rattle.encoding.specs.Codes.{items_at}
 use lib.ListN.{length}
-use mathlib.Core.Path.{◌≡◌, refl, ap, ◌∙◌}
-use Prim.Native.Nat.{◌+◌, ◌-◌, ◌*◌, ◌≤◌}
-use native.Mathlib.Omega.{arith}
+use mathlib.Core.Path.{◌≡◌}
+use Prim.Native.Nat.{◌+◌, ◌*◌, ◌≤◌}
 use Rattle.sheet_seek.proofs.look_up.Given as goal
 
 abbrev pub invariant-loop-left : goal.invariant-loop-left

@@ -7,7 +7,6 @@ use Rattle.types.specs.declared.Direction.{Direction}
 use Rattle.fields.specs.Field.{Bytes}
 use mathlib.Core.Path.{sym, subst}
 use native.Mathlib.Omega.{arith}
-use borrow.Author.Rules.{rules}
 use Rattle.sheet_seek.proofs.side_at.Goals as goal
 
 pub returns-in-Horizontal : goal.returns-in-Horizontal

@@ -6,7 +6,6 @@ use Rattle.encoding.specs.Codes.{items_at}
 use mathlib.Core.Path.{ap, ◌∙◌}
 use Prim.Native.Nat.{ℕ, ◌+◌}
 use native.Mathlib.Omega.{arith}
-use borrow.Author.Rules.{rules}
 use Rattle.sheet_seek.proofs.value_of.Goals as goal
 
 pub returns-then-not-has_items : goal.returns-then-not-has_items

@@ -1,7 +1,6 @@
 -- `sheet_text::digit` meets its contract.
 use Rattle.sheet_text.specs.Printed.{digit_of}
 use borrow.Author.Tests.{lt-ltb, le-ltb}
-use borrow.Author.Rules.{rules}
 use Rattle.sheet_text.proofs.digit.Goals as goal
 
 pub returns-then-number-lt10 : goal.returns-then-number-lt10

@@ -5,7 +5,6 @@ use Prim.Native.Nat.{ℕ}
 use mathlib.Core.List.{List}
 use Rattle.sheet_text.specs.Stored.{Printed}
 use Rattle.sheet_text.proofs.Laws.{text-short, text-long, text-table}
-use borrow.Author.Rules.{rules}
 use Rattle.sheet_text.proofs.print_input.Goals as goal
 
 pub returns-then-length-lt2 : goal.returns-then-length-lt2

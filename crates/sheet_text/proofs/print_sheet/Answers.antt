@@ -1,4 +1,3 @@
-use borrow.Author.Rules.{rules}
 use Rattle.sheet_text.proofs.HexLaws.{sheet-next, sheet-last, stored-first}
 use Rattle.sheet_text.specs.Printed.{hex_line, printed_sheet}
 use Rattle.fields.specs.Stores.{put_next, put-length}
@@ -7,7 +6,7 @@ use lib.ListN.{length, take, drop, length-append}
 use native.Mathlib.Omega.{arith}
 use mathlib.Core.List.{◌++◌}
 use mathlib.Core.Path.{◌≡◌, refl, sym, ap, ◌∙◌}
-use Prim.Native.Nat.{◌+◌, ◌-◌}
+use Prim.Native.Nat.{◌-◌}
 use Rattle.sheet_text.proofs.print_sheet.Goals as goal
 
 pub loop-from-init : goal.loop-from-init

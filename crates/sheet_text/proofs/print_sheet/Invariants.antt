@@ -1,13 +1,8 @@
 -- `sheet_text::print_sheet` meets its contract. Invariant: the text of the bytes that are left, stored where it goes, makes the whole text.
-use borrow.Author.Rules.{rules}
-use Rattle.sheet_text.proofs.HexLaws.{sheet-next, sheet-last, stored-first}
-use Rattle.sheet_text.specs.Printed.{hex_line, printed_sheet}
-use Rattle.fields.specs.Stores.{put_next, put-length}
+use Rattle.sheet_text.specs.Printed.{printed_sheet}
 use lib.Seq.{sets}
-use lib.ListN.{length, take, drop, length-append}
-use native.Mathlib.Omega.{arith}
-use mathlib.Core.List.{◌++◌}
-use mathlib.Core.Path.{◌≡◌, refl, sym, ap, ◌∙◌}
+use lib.ListN.{length, drop}
+use mathlib.Core.Path.{◌≡◌}
 use Prim.Native.Nat.{◌+◌, ◌-◌}
 use Rattle.sheet_text.proofs.print_sheet.Given as goal
 

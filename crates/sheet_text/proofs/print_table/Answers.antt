@@ -6,7 +6,6 @@ use mathlib.Core.List.{List}
 use lib.ListN.{length-take}
 use Rattle.sheet_text.specs.Stored.{Printed}
 use Rattle.sheet_text.proofs.Laws.{wrote-text, wrote-fits, refused-text, text-room}
-use borrow.Author.Rules.{rules}
 use Rattle.sheet_text.proofs.print_table.Goals as goal
 
 pub slice_bounds-print_sheet-end : goal.slice_bounds-print_sheet-end

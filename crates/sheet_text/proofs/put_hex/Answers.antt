@@ -2,7 +2,6 @@
 use Rattle.sheet_text.proofs.HexLaws.{stored-two}
 use lib.ListN.{length-set}
 use native.Mathlib.Omega.{arith}
-use borrow.Author.Rules.{rules}
 use Rattle.sheet_text.proofs.put_hex.Goals as goal
 
 pub bounds-out-at-2 : goal.bounds-out-at-2

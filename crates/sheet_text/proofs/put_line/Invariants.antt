@@ -1,14 +1,9 @@
 -- `sheet_text::put_line` meets its contract. Invariant: what is left to store, stored where it goes, makes the whole line.
-use borrow.Author.Rules.{rules}
 use Prim.Native.Nat.{◌+◌, ◌-◌}
-use mathlib.Core.Path.{◌≡◌, refl, sym, ap, ◌∙◌}
-use mathlib.Core.List.{◌++◌}
-use native.Mathlib.Omega.{arith}
-use lib.ListN.{length, get_or, drop}
+use mathlib.Core.Path.{◌≡◌}
+use lib.ListN.{length, drop}
 use lib.Seq.{sets}
-use Rattle.fields.specs.Stores.{put_next, put-length}
-use Rattle.sheet_text.specs.Printed.{hex_of, hex_line}
-use Rattle.sheet_text.proofs.HexLaws.{line-next, line-last}
+use Rattle.sheet_text.specs.Printed.{hex_line}
 use Rattle.sheet_text.proofs.put_line.Given as goal
 
 abbrev pub invariant-loop-i : goal.invariant-loop-i

@@ -1,10 +1,9 @@
-use Prim.Native.Nat.{ℕ, ◌-◌, ◌≤◌}
+use Prim.Native.Nat.{ℕ}
 use mathlib.Core.Path.{◌≡◌, ap, ◌∙◌, refl}
 use mathlib.Core.List.{◌++◌}
 use native.Mathlib.Omega.{arith}
-use lib.ListN.{length, get_or, take, drop, length-set}
+use lib.ListN.{get_or, take, drop, length-set}
 use Rattle.sheet_write.proofs.Laws.{copied_more}
-use borrow.Author.Rules.{rules}
 use Rattle.sheet_write.proofs.copy_front.Goals as goal
 
 pub loop-i-init : goal.loop-i-init

@@ -4,7 +4,6 @@ use native.Mathlib.Omega.{arith}
 use lib.Seq.{sets, slice}
 use lib.ListN.{length, get_or, length-set}
 use Rattle.sheet_write.proofs.Laws.{once_more, once-all}
-use borrow.Author.Rules.{rules}
 use Rattle.sheet_write.proofs.put_copy.Goals as goal
 
 pub loop-i-init : goal.loop-i-init

@@ -1,11 +1,8 @@
 -- `sheet_write::put_copy` meets its contract.
-use Prim.Native.Nat.{ℕ, ◌+◌, ◌-◌, ◌≤◌, ◌<◌, min}
-use mathlib.Core.Path.{◌≡◌, refl, ap₂, ◌∙◌}
-use native.Mathlib.Omega.{arith}
+use Prim.Native.Nat.{◌+◌, ◌-◌, ◌≤◌}
+use mathlib.Core.Path.{◌≡◌}
 use lib.Seq.{sets, slice}
-use lib.ListN.{length, get_or, length-set}
-use Rattle.sheet_write.proofs.Laws.{once_more, once-all}
-use borrow.Author.Rules.{rules}
+use lib.ListN.{length}
 use Rattle.sheet_write.proofs.put_copy.Given as goal
 
 abbrev pub invariant-loop-i : goal.invariant-loop-i

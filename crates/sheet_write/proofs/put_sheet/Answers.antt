@@ -8,7 +8,6 @@ use Rattle.types.specs.declared.Direction.TheVariants.{Horizontal, Vertical}
 use Rattle.write_direction.specs.Side.{side_bytes}
 use Rattle.sheet_write.proofs.Laws.{parts-length, parts-stored, put-twice, glyphs-few}
 use Rattle.write_direction.proofs.Laws.{side-clear}
-use borrow.Author.Rules.{rules}
 use Rattle.sheet_write.proofs.put_sheet.Goals as goal
 
 pub overflow_cast-glyphs : goal.overflow_cast-glyphs

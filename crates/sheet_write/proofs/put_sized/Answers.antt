@@ -6,7 +6,6 @@ use native.Mathlib.Omega.{arith}
 use lib.ListN.{length, take, drop}
 use Rattle.sheet_write.specs.Written.{sheet_of}
 use Rattle.sheet_write.proofs.Laws.{sets-front}
-use borrow.Author.Rules.{rules}
 use Rattle.sheet_write.proofs.put_sized.Goals as goal
 
 pub copy_front-requires : goal.copy_front-requires

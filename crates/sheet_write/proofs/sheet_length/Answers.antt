@@ -1,7 +1,6 @@
 -- `sheet_write::sheet_length` meets its contract.
 use mathlib.Core.Path.{sym, ◌∙◌}
 use Rattle.sheet_write.proofs.Laws.{length-bad, length-clear}
-use borrow.Author.Rules.{rules}
 use Rattle.sheet_write.proofs.sheet_length.Goals as goal
 
 pub returns-in-Bad : goal.returns-in-Bad

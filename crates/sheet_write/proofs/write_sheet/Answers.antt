@@ -1,7 +1,6 @@
 -- `sheet_write::write_sheet` meets its contract.
 use mathlib.Core.Path.{sym, ◌∙◌}
 use Rattle.sheet_write.proofs.Laws.{written-bad, written-clear}
-use borrow.Author.Rules.{rules}
 use Rattle.sheet_write.proofs.write_sheet.Goals as goal
 
 pub returns-in-Bad : goal.returns-in-Bad

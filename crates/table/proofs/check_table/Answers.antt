@@ -1,7 +1,6 @@
 -- `table::check_table` meets its contract.
 use Rattle.answers.specs.Says.{judged_by}
-use mathlib.Core.Path.{◌≡◌, refl, sym, ap, ◌∙◌}
-use borrow.Author.Rules.{rules}
+use mathlib.Core.Path.{sym, ap, ◌∙◌}
 use Rattle.table.proofs.check_table.Goals as goal
 
 pub returns-in-Clear : goal.returns-in-Clear

@@ -1,7 +1,6 @@
 -- `table::direction_at` meets its contract.
 use Rattle.table.specs.Table.{direction_at}
 use mathlib.Core.Path.{sym, ap, ◌∙◌}
-use borrow.Author.Rules.{rules}
 use Rattle.table.proofs.direction_at.Goals as goal
 
 pub returns-in-Horizontal : goal.returns-in-Horizontal

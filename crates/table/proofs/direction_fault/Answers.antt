@@ -5,7 +5,6 @@ use Rattle.fields.specs.Laws.{then-stop, then-go}
 use Rattle.lookup_targets.specs.declared.Kind.TheVariants.{Clusters, Lists}
 use Rattle.lookup_targets.specs.Values.{source_fault}
 use Rattle.table.specs.Table.{machine_part, direction_fault}
-use borrow.Author.Rules.{rules}
 use Rattle.table.proofs.direction_fault.Goals as goal
 
 pub returns-then-at-eq0 : goal.returns-then-at-eq0

@@ -3,7 +3,6 @@ use mathlib.Core.Path.{sym, ap, ◌∙◌}
 use Rattle.fields.specs.Laws.{then-stop, then-go}
 use Rattle.table.specs.Table.{direction_fault}
 use Rattle.table.proofs.Laws.{present-none}
-use borrow.Author.Rules.{rules}
 use Rattle.table.proofs.directions_fault.Goals as goal
 
 pub returns-in-Bad : goal.returns-in-Bad

@@ -4,7 +4,6 @@ use Rattle.table.specs.Table.{table_fault}
 use Rattle.fields.specs.Laws.{then-stop, then-go}
 use native.Mathlib.Omega.{arith}
 use mathlib.Core.Path.{sym, ◌∙◌}
-use borrow.Author.Rules.{rules}
 use Rattle.table.proofs.fault_by.Goals as goal
 
 pub returns-in-Bad : goal.returns-in-Bad
@@ -15,7 +14,7 @@ returns-in-Bad c =
     (sym bad ∙ h ∙ sym (then-stop _ (sym h ∙ bad)), c.requires)
 
 pub directions_fault-requires : goal.directions_fault-requires
-directions_fault-requires c = record { glyphs_bound = omega (arith, few-glyphs _ _ (sym c.header_fault-fault.ensures ∙ c.in_default.is));  judged = c.requires }
+directions_fault-requires c = record { glyphs_bound = omega (arith, few-glyphs _ _ (sym c.header_fault-fault.ensures ∙ c.in_default.is)); judged = c.requires }
 
 pub returns : goal.returns
 unfolding table_fault

@@ -1,7 +1,6 @@
 -- `table::header_fault` meets its contract.
 use Rattle.table.specs.Table.{header_fault}
 use Rattle.fields.specs.Laws.{then-of}
-use borrow.Author.Rules.{rules}
 use Rattle.table.proofs.header_fault.Goals as goal
 
 pub returns : goal.returns

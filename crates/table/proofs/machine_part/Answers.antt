@@ -1,8 +1,7 @@
 -- `table::machine_part` meets its contract.
 use Rattle.table.specs.Table.{machine_part}
 use Rattle.table.proofs.Laws.{present-none, present-some}
-use mathlib.Core.Path.{◌≡◌, refl, sym, ap, ◌∙◌}
-use borrow.Author.Rules.{rules}
+use mathlib.Core.Path.{sym, ◌∙◌}
 use Rattle.table.proofs.machine_part.Goals as goal
 
 pub returns-then-offset-eq0 : goal.returns-then-offset-eq0

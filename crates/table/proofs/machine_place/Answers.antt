@@ -2,7 +2,6 @@
 use Rattle.table.proofs.Laws.{place_none, place-some}
 use native.Mathlib.Omega.{arith}
 use mathlib.Core.Path.{sym, ◌∙◌}
-use borrow.Author.Rules.{rules}
 use Rattle.table.proofs.machine_place.Goals as goal
 
 pub returns-then-at-eq0 : goal.returns-then-at-eq0

@@ -1,7 +1,6 @@
 -- `table::offsets_fault` meets its contract.
 use Rattle.table.specs.Table.{offsets_fault}
 use Rattle.fields.specs.Laws.{then-of}
-use borrow.Author.Rules.{rules}
 use Rattle.table.proofs.offsets_fault.Goals as goal
 
 pub returns : goal.returns

@@ -1,12 +1,10 @@
 -- `table::source_at` meets its contract.
 use Rattle.table.proofs.Laws.{source-none, source-some}
-use Rattle.table.specs.Table.{list_source, source_there, source_at}
+use Rattle.table.specs.Table.{list_source, source_there}
 use Rattle.lookup_targets.specs.declared.Source.TheVariants.{Lookup}
-use Rattle.lookup_targets.specs.declared.Kind.{Kind}
 use native.Mathlib.Omega.{arith}
 use mathlib.Core.Path.{ap, sym, ◌∙◌}
 use Prim.Native.Nat.{ℕ, ◌+◌}
-use borrow.Author.Rules.{rules}
 use Rattle.table.proofs.source_at.Goals as goal
 
 pub returns-then-at-eq0 : goal.returns-then-at-eq0

@@ -1,6 +1,5 @@
 -- `table::table_fault` meets its contract.
 use Rattle.lookup_targets.proofs.Laws.{none-judged}
-use borrow.Author.Rules.{rules}
 use Rattle.table.proofs.table_fault.Goals as goal
 
 pub fault_by-requires : goal.fault_by-requires

@@ -6,6 +6,9 @@ use mathlib.Core.Path.{sym, subst}
 use borrow.Author.Rules.{rules}
 use Rattle.table_ask.proofs.components.Goals as goal
 
+pub slice_bounds-result-count : goal.slice_bounds-result-count
+slice_bounds-result-count c = let w = subst (Within _) (sym c.component_stretch-list.ensures) (components-within _ _ _ _ _) in omega arith
+
 pub slice_bounds-result-start : goal.slice_bounds-result-start
 slice_bounds-result-start c = let w = subst (Within _) (sym c.component_stretch-list.ensures) (components-within _ _ _ _ _) in omega arith
 

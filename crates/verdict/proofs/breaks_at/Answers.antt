@@ -2,7 +2,6 @@
 use mathlib.Core.Path.{refl, sym, ◌∙◌}
 use lib.ListN.{drop}
 use mathlib.Core.Bool.{true, false}
-use borrow.Author.Rules.{rules}
 use Rattle.verdict.proofs.Laws.{breaks-is, made, u32-dropped, first-limit}
 use Rattle.verdict.specs.Verdict.{below, above, upper}
 use Rattle.verdict.proofs.breaks_at.Goals as goal

@@ -1,7 +1,6 @@
 -- `verdict::type_fires` meets its contract.
 use mathlib.Core.Path.{◌∙◌}
 use lib.ListN.{drop}
-use borrow.Author.Rules.{rules}
 use Rattle.verdict.proofs.Laws.{type-breaks, type-adds, type-substitutes, type-stretches, type-none}
 use Rattle.verdict.proofs.type_fires.Goals as goal
 

@@ -1,15 +1,8 @@
 -- `write_cluster::cluster_hash` meets its contract.
-use borrow.Author.Rules.{rules}
-use Rattle.write_cluster.proofs.Laws.{hash-more, hash-none, hash-all}
 use Rattle.write_cluster.specs.Hash.{pairs_hash, cluster_hash}
 use Rattle.cluster.specs.Pairs.{pairs_at, cluster_at}
-use native.Mathlib.Omega.{arith}
-use mathlib.Core.Path.{◌≡◌, sym, ◌∙◌}
+use mathlib.Core.Path.{◌≡◌}
 use Prim.Native.Nat.{◌+◌, ◌*◌, ◌<◌, ◌^◌}
-use Rattle.write_cluster.proofs.cluster_hash.Reads as reads
-use Rattle.write_cluster.proofs.cluster_hash.Lts as lts
-use Rattle.write_cluster.proofs.pair_hash.Reads as pair-hash-reads
-use Rattle.fields.proofs.u32_at.Reads as u32-at-reads
 use Rattle.write_cluster.proofs.cluster_hash.Given as goal
 
 abbrev pub invariant-loop-left : goal.invariant-loop-left

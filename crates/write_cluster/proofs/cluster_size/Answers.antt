@@ -1,7 +1,6 @@
 -- `write_cluster::cluster_size` meets its contract.
 use Rattle.write_cluster.proofs.Laws.{cluster-bytes}
 use native.Mathlib.Omega.{arith}
-use borrow.Author.Rules.{rules}
 use Rattle.write_cluster.proofs.cluster_size.Goals as goal
 
 pub returns : goal.returns

@@ -8,7 +8,6 @@ use Rattle.write_cluster.specs.Hash.{flags_at}
 use Rattle.write_cluster.specs.Words.{flags_words, after_words}
 use Rattle.write_cluster.proofs.Laws.{pair_parts}
 use Rattle.write_cluster.proofs.WordLaws.{limits-skipped, limits-tell}
-use borrow.Author.Rules.{rules}
 use Rattle.write_cluster.proofs.earlier_after.Goals as goal
 
 pub returns-then-same_limits : goal.returns-then-same_limits

@@ -1,5 +1,4 @@
 -- `write_cluster::earlier_pair` meets its contract.
-use Prim.Native.Nat.{◌+◌}
 use mathlib.Core.Path.{◌≡◌, sym, subst}
 use mathlib.Core.Bool.{Bool}
 use mathlib.Core.List.{◌++◌}
@@ -9,7 +8,6 @@ use Rattle.encoding.proofs.DictionaryLaws.{told_of, number-skipped, number-tells
 use Rattle.write_cluster.specs.Words.{limits_words, after_words, pair_words}
 use Rattle.write_cluster.proofs.Laws.{parts_at, pair_parts}
 use Rattle.write_cluster.proofs.WordLaws.{limits-skipped, limits-tell}
-use borrow.Author.Rules.{rules}
 use Rattle.write_cluster.proofs.earlier_pair.Goals as goal
 
 pub returns-then-class-other : goal.returns-then-class-other

@@ -2,7 +2,6 @@
 use native.Mathlib.Omega.{arith}
 use Rattle.encoding.proofs.DictionaryLaws.{none_before}
 use Rattle.write_cluster.specs.Words.{pair_words}
-use borrow.Author.Rules.{rules}
 use Rattle.write_cluster.proofs.earlier_pairs.Goals as goal
 
 pub returns-then-front-eq0 : goal.returns-then-front-eq0

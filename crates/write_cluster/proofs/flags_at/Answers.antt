@@ -1,8 +1,4 @@
 -- `write_cluster::flags_at` meets its contract.
-use borrow.Author.Rules.{rules}
-use Rattle.write_cluster.proofs.flags_at.Reads as reads
-use Rattle.write_cluster.proofs.flags_at.Lts as lts
-use Rattle.cluster.proofs.kept_at.Reads as kept-at-reads
 use Rattle.write_cluster.proofs.flags_at.Goals as goal
 
 -- src/lib.rt:55:1

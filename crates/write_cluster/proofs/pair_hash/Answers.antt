@@ -4,13 +4,6 @@ use native.Mathlib.Omega.{arith}
 use Rattle.write_cluster.proofs.Laws.{pair_parts}
 use Rattle.write_cluster.specs.Hash.{limits_hash, pair_hash}
 use Rattle.types.specs.declared.Flags.{Flags}
-use borrow.Author.Rules.{rules}
-use Rattle.write_cluster.proofs.pair_hash.Reads as reads
-use Rattle.write_cluster.proofs.pair_hash.Lts as lts
-use Rattle.cluster.proofs.pair_class.Reads as class-at-reads
-use Rattle.write_cluster.proofs.flags_at.Reads as flags-at-reads
-use Rattle.write_cluster.proofs.limits_at.Reads as limits-at-reads
-use Rattle.write_cluster.proofs.limits_hash.Reads as limits-hash-reads
 use Rattle.write_cluster.proofs.pair_hash.Goals as goal
 
 -- src/lib.rt:124:1

@@ -1,13 +1,10 @@
-use borrow.Author.Rules.{rules}
-use Prim.Native.Nat.{◌+◌, ◌*◌, ◌<◌, ◌^◌}
+use Prim.Native.Nat.{◌<◌}
 use mathlib.Core.Path.{◌≡◌, sym, ◌∙◌, subst}
 use mathlib.Core.Bool.{Bool}
 use native.Mathlib.Omega.{arith}
-use Rattle.encoding.specs.Codes.{many}
-use Rattle.encoding.specs.Dictionary.{Before}
 use Rattle.encoding.specs.Tests.{Says}
 use Rattle.encoding.proofs.DictionaryLaws.{item-skipped, item-tells}
-use Rattle.cluster.specs.Pairs.{pair_at, pairs_at}
+use Rattle.cluster.specs.Pairs.{pair_at}
 use Rattle.write_cluster.specs.Words.{pair_words}
 use Rattle.write_cluster.proofs.Laws.{pairs-cons, pairs-none, same_next, next-same}
 use Rattle.write_cluster.proofs.WordLaws.{pair-free}

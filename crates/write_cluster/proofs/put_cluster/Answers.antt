@@ -8,7 +8,6 @@ use Rattle.fields.specs.Field.{be32}
 use lib.Seq.{sets}
 use mathlib.Core.Path.{ap, ◌∙◌, refl}
 use Prim.Native.Nat.{◌+◌}
-use borrow.Author.Rules.{rules}
 use Rattle.write_cluster.proofs.put_cluster.Goals as goal
 
 pub returns : goal.returns

@@ -3,7 +3,6 @@ use Rattle.fields.specs.Stores.{put_two}
 use Rattle.fields.specs.Field.{be16}
 use mathlib.Core.Path.{refl}
 use Prim.Native.Nat.{◌+◌}
-use borrow.Author.Rules.{rules}
 use Rattle.write_cluster.proofs.put_flags.Goals as goal
 
 pub returns : goal.returns

@@ -9,15 +9,6 @@ use Rattle.meaning.specs.Sheet.{pair_code}
 use Rattle.types.specs.declared.Pair.{Pair}
 use Rattle.fields.specs.Field.{be16, be32}
 use Rattle.fields.specs.Stores.{put_two}
-use borrow.Author.Rules.{rules}
-use Rattle.write_cluster.proofs.put_pair.Reads as reads
-use Rattle.write_cluster.proofs.put_pair.Lts as lts
-use Rattle.cluster.proofs.pair_class.Reads as class-at-reads
-use Rattle.write_cluster.proofs.flags_at.Reads as flags-at-reads
-use Rattle.write_cluster.proofs.limits_at.Reads as limits-at-reads
-use Rattle.write_cluster.proofs.put_flags.Reads as put-flags-reads
-use Rattle.write_cluster.proofs.put_limits.Reads as put-limits-reads
-use Rattle.fields.proofs.put_u32.Reads as put-u32-reads
 use Rattle.write_cluster.proofs.put_pair.Goals as goal
 
 -- src/lib.rt:175:1

@@ -1,9 +1,7 @@
-use borrow.Author.Rules.{rules}
-use Prim.Native.Nat.{◌+◌, ◌-◌, ◌*◌, ◌<◌}
-use mathlib.Core.Path.{◌≡◌, ap, sym, ◌∙◌, refl}
+use Prim.Native.Nat.{◌+◌, ◌-◌, ◌<◌}
+use mathlib.Core.Path.{ap, sym, ◌∙◌, refl}
 use mathlib.Core.List.{List}
 use native.Mathlib.Omega.{arith}
-use lib.ListN.{length}
 use lib.Seq.{sets}
 use Rattle.fields.specs.Stores.{put_next}
 use Rattle.encoding.specs.Codes.{many}
@@ -11,9 +9,6 @@ use Rattle.meaning.specs.Sheet.{pair_code}
 use Rattle.types.specs.declared.Pair.{Pair}
 use Rattle.cluster.specs.Pairs.{pair_at, pairs_at}
 use Rattle.write_cluster.proofs.Laws.{pairs-cons, pairs-none}
-use Rattle.write_cluster.proofs.put_pairs.Reads as reads
-use Rattle.write_cluster.proofs.put_pairs.Lts as lts
-use Rattle.write_cluster.proofs.put_pair.Reads as put-pair-reads
 use Rattle.write_cluster.proofs.put_pairs.Goals as goal
 
 -- src/lib.rt:193:5

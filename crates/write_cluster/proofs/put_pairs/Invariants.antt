@@ -1,20 +1,11 @@
 -- `write_cluster::put_pairs` meets its contract.
-use borrow.Author.Rules.{rules}
-use Prim.Native.Nat.{◌+◌, ◌-◌, ◌*◌, ◌<◌}
-use mathlib.Core.Path.{◌≡◌, ap, sym, ◌∙◌, refl}
-use mathlib.Core.List.{List}
-use native.Mathlib.Omega.{arith}
+use Prim.Native.Nat.{◌+◌, ◌*◌}
+use mathlib.Core.Path.{◌≡◌}
 use lib.ListN.{length}
 use lib.Seq.{sets}
-use Rattle.fields.specs.Stores.{put_next}
 use Rattle.encoding.specs.Codes.{many}
 use Rattle.meaning.specs.Sheet.{pair_code}
-use Rattle.types.specs.declared.Pair.{Pair}
-use Rattle.cluster.specs.Pairs.{pair_at, pairs_at}
-use Rattle.write_cluster.proofs.Laws.{pairs-cons, pairs-none}
-use Rattle.write_cluster.proofs.put_pairs.Reads as reads
-use Rattle.write_cluster.proofs.put_pairs.Lts as lts
-use Rattle.write_cluster.proofs.put_pair.Reads as put-pair-reads
+use Rattle.cluster.specs.Pairs.{pairs_at}
 use Rattle.write_cluster.proofs.put_pairs.Given as goal
 
 abbrev pub invariant-loop-left : goal.invariant-loop-left

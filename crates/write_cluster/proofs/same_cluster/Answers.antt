@@ -7,7 +7,6 @@ use native.Mathlib.Omega.{arith}
 use mathlib.Core.Path.{◌≡◌, ap, subst}
 use Prim.Native.Nat.{ℕ, ◌+◌}
 use Rattle.cluster.proofs.Laws.{cluster-length}
-use borrow.Author.Rules.{rules}
 use Rattle.write_cluster.proofs.same_cluster.Goals as goal
 
 pub returns-then-count-u32_at : goal.returns-then-count-u32_at

@@ -1,13 +1,6 @@
 -- `write_cluster::same_pair` meets its contract.
 use mathlib.Core.Path.{sym, ◌∙◌}
 use Rattle.write_cluster.proofs.Laws.{fields-of-same, same-of-fields}
-use borrow.Author.Rules.{rules}
-use Rattle.write_cluster.proofs.same_pair.Reads as reads
-use Rattle.write_cluster.proofs.same_pair.Lts as lts
-use Rattle.cluster.proofs.pair_class.Reads as class-at-reads
-use Rattle.cluster.proofs.fixed_at.Reads as fixed-at-reads
-use Rattle.cluster.proofs.kept_at.Reads as kept-at-reads
-use Rattle.cluster.proofs.size_at.Reads as size-at-reads
 use Rattle.write_cluster.proofs.same_pair.Goals as goal
 
 -- src/lib.rt:62:9

@@ -1,6 +1,5 @@
 -- `write_cluster::same_pairs` meets its contract.
 use native.Mathlib.Omega.{arith}
-use borrow.Author.Rules.{rules}
 use Rattle.write_cluster.proofs.same_pairs.Goals as goal
 
 pub returns-then-front-eq0 : goal.returns-then-front-eq0

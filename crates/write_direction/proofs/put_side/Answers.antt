@@ -12,14 +12,13 @@ use Rattle.lookup_targets.specs.declared.Kind.TheVariants.{Clusters, Lists}
 use Rattle.write_pool.specs.Pool.{pool_bytes}
 use Rattle.write_machine.specs.Parts.{machine_bytes}
 use Rattle.write_direction.proofs.Laws.{side-parts, side-length, pool-ready}
-use borrow.Author.Rules.{rules}
 use Rattle.write_direction.proofs.put_side.Goals as goal
 
 pub put_machine-machine_end-requires : goal.put_machine-machine_end-requires
 put_machine-machine_end-requires c =
     let a = c.args in
     let m = c.machine_place-machine.ensures in
-    record { offset_bound = (m.1, (c.requires.0.few, ap (machine_part a.table.now a.glyphs) m.0 ∙ machine-clear a.table.now a.at a.glyphs c.requires.0.clear));  to_bound = omega (arith, c.requires.1) }
+    record { offset_bound = (m.1, (c.requires.0.few, ap (machine_part a.table.now a.glyphs) m.0 ∙ machine-clear a.table.now a.at a.glyphs c.requires.0.clear)); to_bound = omega (arith, c.requires.1) }
 
 pub source_at-widths-requires : goal.source_at-widths-requires
 source_at-widths-requires c = c.requires.0.near

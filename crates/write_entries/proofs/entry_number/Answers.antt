@@ -1,6 +1,5 @@
 -- `write_entries::entry_number` meets its contract.
 use native.Mathlib.Omega.{arith}
-use borrow.Author.Rules.{rules}
 use Rattle.write_entries.proofs.entry_number.Goals as goal
 
 pub returns-then-known-ne0 : goal.returns-then-known-ne0

@@ -1,15 +1,10 @@
 -- `write_entries::index_of` meets its contract.
-use borrow.Author.Rules.{rules}
-use Rattle.write_numbers.proofs.Laws.{index-hit, index-miss, index-out}
 use Rattle.machine.specs.Cells.{entry_at}
-use Rattle.encoding.specs.Tests.{Says}
 use Rattle.meaning.specs.Discrete.{Entry-discrete}
 use Rattle.encoding.specs.Distinct.{index}
 use lib.ListN.{length, drop}
-use native.Mathlib.Omega.{arith}
 use mathlib.Core.List.{map}
-use mathlib.Core.Bool.{Bool}
-use mathlib.Core.Path.{◌≡◌, sym, ◌∙◌, subst}
+use mathlib.Core.Path.{◌≡◌}
 use Prim.Native.Nat.{◌+◌, ◌-◌, ◌≤◌}
 use Rattle.write_entries.proofs.index_of.Given as goal
 

@@ -1,5 +1,4 @@
-use Rattle.write_entries.proofs.Laws.{Turn, turn-old, turn-new, space, stored-length, stored_is}
-use borrow.Author.Rules.{rules}
+use Rattle.write_entries.proofs.Laws.{turn-old, turn-new, space, stored-length, stored_is}
 use Rattle.write_entries.specs.Entries.{stored_at, distinct_of}
 use Rattle.write_numbers.proofs.Laws.{get_or-zeros, map-length, last-adds}
 use Rattle.machine.specs.Cells.{entry_at}
@@ -10,8 +9,8 @@ use lib.Seq.{length-take-le}
 use lib.ListN.{length, get_or, take, length-set}
 use native.Mathlib.Omega.{arith}
 use mathlib.Core.List.{List, map}
-use mathlib.Core.Path.{◌≡◌, ap, sym, ◌∙◌, refl}
-use Prim.Native.Nat.{ℕ, ◌+◌, ◌-◌, ◌<◌, ◌≤◌}
+use mathlib.Core.Path.{ap, sym, ◌∙◌, refl}
+use Prim.Native.Nat.{ℕ, ◌+◌, ◌<◌, ◌≤◌}
 use Rattle.write_entries.proofs.number_entries.Goals as goal
 
 pub loop-i-init : goal.loop-i-init
@@ -41,7 +40,7 @@ pub bounds-sheet-stored : goal.bounds-sheet-stored
 bounds-sheet-stored c = omega (arith, c.u8_at-stored.ensures.1, c.loop-i.invariant.3)
 
 pub entry_number-n-requires : goal.entry_number-n-requires
-entry_number-n-requires c = record { here_bound = (c.requires.here_bound.0, (c.u8_at-stored.ensures.1, c.requires.here_bound.1.1));  firsts_value = (λ u. (c.loop-i.invariant.4.known _ u).0) }
+entry_number-n-requires c = record { here_bound = (c.requires.here_bound.0, (c.u8_at-stored.ensures.1, c.requires.here_bound.1.1)); firsts_value = (λ u. (c.loop-i.invariant.4.known _ u).0) }
 
 pub overflow_add-sheet : goal.overflow_add-sheet
 overflow_add-sheet c =

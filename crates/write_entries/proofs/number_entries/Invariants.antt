@@ -1,18 +1,11 @@
 -- `write_entries::number_entries` meets its contract.
-use Rattle.write_entries.proofs.Laws.{Turn, turn-old, turn-new, space, stored-length, stored_is}
-use borrow.Author.Rules.{rules}
+use Rattle.write_entries.proofs.Laws.{Turn}
 use Rattle.write_entries.specs.Entries.{stored_at, distinct_of}
-use Rattle.write_numbers.proofs.Laws.{get_or-zeros, map-length, last-adds}
 use Rattle.machine.specs.Cells.{entry_at}
 use Rattle.meaning.specs.Discrete.{Entry-discrete}
-use Rattle.encoding.proofs.DistinctLaws.{index-le}
-use Rattle.encoding.specs.Distinct.{index}
-use lib.Seq.{length-take-le}
-use lib.ListN.{length, get_or, take, length-set}
-use native.Mathlib.Omega.{arith}
-use mathlib.Core.List.{List, map}
-use mathlib.Core.Path.{◌≡◌, ap, sym, ◌∙◌, refl}
-use Prim.Native.Nat.{ℕ, ◌+◌, ◌-◌, ◌<◌, ◌≤◌}
+use lib.ListN.{length}
+use mathlib.Core.Path.{◌≡◌}
+use Prim.Native.Nat.{◌-◌, ◌≤◌}
 use Rattle.write_entries.proofs.number_entries.Given as goal
 
 abbrev pub invariant-loop-i : goal.invariant-loop-i

@@ -1,5 +1,4 @@
 use Rattle.write_entries.proofs.Laws.{stored-length, stored_is, cells-next, cells-none}
-use borrow.Author.Rules.{rules}
 use Rattle.write_entries.specs.Entries.{stored_at, cell_bytes}
 use Rattle.fields.specs.Stores.{put_next}
 use lib.Seq.{sets}

@@ -1,14 +1,9 @@
 -- `write_entries::put_cells` meets its contract.
-use Rattle.write_entries.proofs.Laws.{stored-length, stored_is, cells-next, cells-none}
-use borrow.Author.Rules.{rules}
 use Rattle.write_entries.specs.Entries.{stored_at, cell_bytes}
-use Rattle.fields.specs.Stores.{put_next}
 use lib.Seq.{sets}
-use lib.ListN.{length, get_or, drop}
-use native.Mathlib.Omega.{arith}
-use mathlib.Core.List.{[], ◌∷◌}
-use mathlib.Core.Path.{◌≡◌, ap, sym, ◌∙◌, refl}
-use Prim.Native.Nat.{ℕ, ◌+◌, ◌-◌, ◌<◌, ◌≤◌}
+use lib.ListN.{length, drop}
+use mathlib.Core.Path.{◌≡◌}
+use Prim.Native.Nat.{◌+◌, ◌-◌, ◌≤◌}
 use Rattle.write_entries.proofs.put_cells.Given as goal
 
 abbrev pub invariant-loop-i : goal.invariant-loop-i

@@ -1,14 +1,13 @@
 use Rattle.write_entries.proofs.Laws.{entries_next, entries_none}
-use borrow.Author.Rules.{rules}
 use Rattle.write_entries.specs.Entries.{stored_entries}
 use Rattle.meaning.specs.Sheet.{entry_code}
 use Rattle.encoding.specs.Codes.{many}
 use Rattle.fields.specs.Stores.{put_next}
 use lib.Seq.{sets}
-use lib.ListN.{length, drop}
+use lib.ListN.{drop}
 use native.Mathlib.Omega.{arith}
-use mathlib.Core.Path.{◌≡◌, ap, sym, ◌∙◌, refl}
-use Prim.Native.Nat.{◌+◌, ◌-◌, ◌*◌, ◌≤◌}
+use mathlib.Core.Path.{ap, sym, ◌∙◌, refl}
+use Prim.Native.Nat.{◌+◌}
 use Rattle.write_entries.proofs.put_entries.Goals as goal
 
 pub loop-i-init : goal.loop-i-init

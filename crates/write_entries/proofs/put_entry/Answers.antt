@@ -4,7 +4,6 @@ use Rattle.fields.specs.Field.{be16}
 use lib.Seq.{sets}
 use mathlib.Core.Path.{refl, ap, ◌∙◌}
 use Prim.Native.Nat.{ℕ, ◌+◌}
-use borrow.Author.Rules.{rules}
 use Rattle.write_entries.proofs.put_entry.Goals as goal
 
 pub returns : goal.returns

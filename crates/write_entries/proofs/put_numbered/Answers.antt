@@ -17,7 +17,7 @@ use Rattle.write_entries.proofs.put_numbered.Goals as goal
 pub put_cells-requires : goal.put_cells-requires
 put_cells-requires c =
     let a = c.args in
-    record { here_bound = search rules;  covers = covers a.table.now a.here a.count a.firsts.now a.sheet.now _ c.requires.sheet_len.1 }
+    record { here_bound = search rules; covers = covers a.table.now a.here a.count a.firsts.now a.sheet.now _ c.requires.sheet_len.1 }
 
 pub returns : goal.returns
 returns c =

@@ -3,7 +3,6 @@ use Rattle.units.specs.Flags.{entry_flags}
 use Rattle.units.proofs.FlagLaws.{entry-together}
 use native.Mathlib.Omega.{arith}
 use mathlib.Core.Path.{◌∙◌}
-use borrow.Author.Rules.{rules}
 use Rattle.write_entries.proofs.together.Goals as goal
 
 pub returns : goal.returns

@@ -1,9 +1,6 @@
-use borrow.Author.Rules.{rules}
 use Rattle.write_glyphs.proofs.Laws.{carries-here, lead-more, lead-alike}
-use Rattle.write_glyphs.specs.Places.{Lead}
 use native.Mathlib.Omega.{arith}
 use mathlib.Core.Path.{refl}
-use Prim.Native.Nat.{◌-◌, ◌≤◌}
 use Rattle.write_glyphs.proofs.known_values.Goals as goal
 
 pub loop-values-init : goal.loop-values-init

@@ -3,7 +3,6 @@ use Prim.Native.Nat.{ℕ}
 use mathlib.Core.Path.{subst}
 use Rattle.encoding.specs.Tests.{Says}
 use Rattle.write_numbers.specs.Numbered.{KnownAs}
-use borrow.Author.Rules.{rules}
 use Rattle.write_glyphs.proofs.leads.Goals as goal
 
 pub returns : goal.returns

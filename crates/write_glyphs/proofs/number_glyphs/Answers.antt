@@ -1,12 +1,8 @@
 use Rattle.write_glyphs.proofs.Stands.{stands-none, passed}
-use Rattle.write_glyphs.specs.Places.{glyph_item, OneItem, PassStands}
+use Rattle.write_glyphs.specs.Places.{glyph_item}
 use Rattle.write_glyphs.proofs.Laws.{alike-none}
-use Rattle.lookup.specs.Pass.{Serves}
-use lib.ListN.{length}
 use native.Mathlib.Omega.{arith}
-use mathlib.Core.Path.{◌≡◌, refl}
-use Prim.Native.Nat.{◌-◌, ◌<◌}
-use borrow.Author.Rules.{rules}
+use mathlib.Core.Path.{refl}
 use Rattle.write_glyphs.proofs.number_glyphs.Goals as goal
 
 pub loop-way-init : goal.loop-way-init
@@ -55,7 +51,7 @@ pub number_run-way-requires : goal.number_run-way-requires
 number_run-way-requires c =
     let l = c.loop-way in
     let o = c.requires.table_len_bound.1 in
-    record { at_bound = (c.requires.at_bound.0, (c.requires.at_bound.1.0, (c.requires.at_bound.1.1.0, c.u16_at-format.ensures.0)));  table_len_bound = (c.requires.table_len_bound.0, record { each = omega (arith, o.each, l.invariant.2, l.invariant.3); distinct = omega (arith, o.distinct, l.invariant.2, l.invariant.4); listed = omega (arith, o.listed, l.invariant.2, l.invariant.5); hashes = omega (arith, l.invariant.6, o.hashes) });  pass_stands = l.invariant.0;  one_item = l.invariant.9;  glyph_lt_glyphs = (c.loop-way-test.true, (c.if-ends-way.false, l.invariant.1 c.if-ends-way.false c.loop-way-test.true)) }
+    record { at_bound = (c.requires.at_bound.0, (c.requires.at_bound.1.0, (c.requires.at_bound.1.1.0, c.u16_at-format.ensures.0))); table_len_bound = (c.requires.table_len_bound.0, record { each = omega (arith, o.each, l.invariant.2, l.invariant.3); distinct = omega (arith, o.distinct, l.invariant.2, l.invariant.4); listed = omega (arith, o.listed, l.invariant.2, l.invariant.5); hashes = omega (arith, l.invariant.6, o.hashes) }); pass_stands = l.invariant.0; one_item = l.invariant.9; glyph_lt_glyphs = (c.loop-way-test.true, (c.if-ends-way.false, l.invariant.1 c.if-ends-way.false c.loop-way-test.true)) }
 
 pub loop-way-smaller : goal.loop-way-smaller
 loop-way-smaller c = omega (arith, c.number_run-way.ensures.2, c.loop-way-test.true)

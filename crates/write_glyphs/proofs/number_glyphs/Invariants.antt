@@ -1,13 +1,9 @@
 -- `write_glyphs::number_glyphs` meets its contract.
-use Rattle.write_glyphs.proofs.Stands.{stands-none, passed}
 use Rattle.write_glyphs.specs.Places.{glyph_item, OneItem, PassStands}
-use Rattle.write_glyphs.proofs.Laws.{alike-none}
 use Rattle.lookup.specs.Pass.{Serves}
 use lib.ListN.{length}
-use native.Mathlib.Omega.{arith}
-use mathlib.Core.Path.{◌≡◌, refl}
+use mathlib.Core.Path.{◌≡◌}
 use Prim.Native.Nat.{◌-◌, ◌<◌}
-use borrow.Author.Rules.{rules}
 use Rattle.write_glyphs.proofs.number_glyphs.Given as goal
 
 abbrev pub invariant-loop-way : goal.invariant-loop-way

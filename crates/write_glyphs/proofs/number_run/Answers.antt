@@ -1,13 +1,11 @@
 use Rattle.write_glyphs.proofs.Stands.{stands-few, seen-agree, stands-next}
 use Rattle.write_glyphs.proofs.Laws.{run-item, went_on}
 use Rattle.write_numbers.specs.Numbered.{Entered}
-use Rattle.write_glyphs.specs.Places.{glyph_item, run_place, OneItem, PassStands}
+use Rattle.write_glyphs.specs.Places.{glyph_item, run_place, PassStands}
 use Rattle.lookup.specs.Pass.{Serves}
-use lib.ListN.{length}
 use native.Mathlib.Omega.{arith}
 use mathlib.Core.Path.{◌≡◌, refl, sym, subst}
-use Prim.Native.Nat.{ℕ, ◌-◌, ◌≤◌}
-use borrow.Author.Rules.{rules}
+use Prim.Native.Nat.{ℕ}
 use Rattle.write_glyphs.proofs.number_run.Goals as goal
 
 pub next_run-run-requires : goal.next_run-run-requires
@@ -51,7 +49,7 @@ item_number-number-requires c =
     let l = c.loop-glyph in
     let s = l.invariant.0 in
     let o = c.requires.table_len_bound.1 in
-    record { table_len_bound = (c.requires.table_len_bound.0, (s.kept, s.known));  k_bound = (omega (arith, stands-few a.kind a.table.now (glyph_item a.kind a.table.now a.glyphs a.at a.base) a.glyphs l.ends l.nums l.firsts l.others l.slots l.seen l.stretches l.items l.glyph s, c.requires.at_bound.1.1.0, c.loop-glyph-test.true, c.lower-until.ensures), (omega (arith, s.few, o.distinct, l.invariant.3, l.invariant.5, c.if-ends-stretches.false), (omega (arith, s.few, o.listed, l.invariant.3, l.invariant.6, c.if-ends-stretches.false), omega (arith, l.invariant.7, o.hashes)))) }
+    record { table_len_bound = (c.requires.table_len_bound.0, (s.kept, s.known)); k_bound = (omega (arith, stands-few a.kind a.table.now (glyph_item a.kind a.table.now a.glyphs a.at a.base) a.glyphs l.ends l.nums l.firsts l.others l.slots l.seen l.stretches l.items l.glyph s, c.requires.at_bound.1.1.0, c.loop-glyph-test.true, c.lower-until.ensures), (omega (arith, s.few, o.distinct, l.invariant.3, l.invariant.5, c.if-ends-stretches.false), (omega (arith, s.few, o.listed, l.invariant.3, l.invariant.6, c.if-ends-stretches.false), omega (arith, l.invariant.7, o.hashes)))) }
 
 pub overflow_cast-number : goal.overflow_cast-number
 overflow_cast-number c =
@@ -66,7 +64,7 @@ stretch_end-end-requires c =
     let nb = c.item_number-number in
     let l = c.loop-glyph in
     let notes = seen-agree a.kind a.table.now nb.new.firsts nb.new.seen _ (omega (arith, nb.ensures.2, nb.auto, l.invariant.0.few, c.requires.table_len_bound.1.distinct, l.invariant.3, l.invariant.5, c.if-ends-stretches.false)) nb.ensures.1 in
-    record { base_bound = (c.requires.at_bound.1.0, (omega (arith, c.requires.at_bound.1.1.0, c.lower-until.ensures), (c.next_run-run.ensures.1.near, c.loop-glyph-test.true)));  agree = (notes, l.invariant.11) }
+    record { base_bound = (c.requires.at_bound.1.0, (omega (arith, c.requires.at_bound.1.1.0, c.lower-until.ensures), (c.next_run-run.ensures.1.near, c.loop-glyph-test.true))); agree = (notes, l.invariant.11) }
 
 pub overflow_cast-end : goal.overflow_cast-end
 overflow_cast-end c = omega (arith, c.stretch_end-end.ensures.0.most, c.lower-until.ensures, c.requires.at_bound.1.1.0)

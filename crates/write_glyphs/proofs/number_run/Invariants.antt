@@ -1,14 +1,8 @@
 -- `write_glyphs::number_run` meets its contract.
-use Rattle.write_glyphs.proofs.Stands.{stands-few, seen-agree, stands-next}
-use Rattle.write_glyphs.proofs.Laws.{run-item, went_on}
-use Rattle.write_numbers.specs.Numbered.{Entered}
-use Rattle.write_glyphs.specs.Places.{glyph_item, run_place, OneItem, PassStands}
-use Rattle.lookup.specs.Pass.{Serves}
+use Rattle.write_glyphs.specs.Places.{glyph_item, OneItem, PassStands}
 use lib.ListN.{length}
-use native.Mathlib.Omega.{arith}
-use mathlib.Core.Path.{◌≡◌, refl, sym, subst}
-use Prim.Native.Nat.{ℕ, ◌-◌, ◌≤◌}
-use borrow.Author.Rules.{rules}
+use mathlib.Core.Path.{◌≡◌}
+use Prim.Native.Nat.{◌-◌, ◌≤◌}
 use Rattle.write_glyphs.proofs.number_run.Given as goal
 
 abbrev pub invariant-loop-glyph : goal.invariant-loop-glyph

@@ -1,10 +1,6 @@
 -- `write_glyphs::run_place` meets its contract.
 use Rattle.write_glyphs.proofs.Laws.{place-before, place-array, place-one}
 use mathlib.Core.Path.{sym, refl, ◌∙◌}
-use borrow.Author.Rules.{rules}
-use Rattle.write_glyphs.proofs.run_place.Reads as reads
-use Rattle.write_glyphs.proofs.run_place.Lts as lts
-use Rattle.write_glyphs.proofs.value_place.Reads as value-place-reads
 use Rattle.write_glyphs.proofs.run_place.Goals as goal
 
 -- src/lib.rt:66:9

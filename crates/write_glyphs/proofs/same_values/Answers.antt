@@ -1,11 +1,6 @@
 -- `write_glyphs::same_values` meets its contract.
 use Rattle.write_glyphs.proofs.Laws.{lead-same, noted-alike}
 use Rattle.lookup_targets.proofs.Laws.{along-noted}
-use borrow.Author.Rules.{rules}
-use Rattle.write_glyphs.proofs.same_values.Reads as reads
-use Rattle.write_glyphs.proofs.same_values.Lts as lts
-use Rattle.write_glyphs.proofs.known_values.Reads as known-values-reads
-use Rattle.lookup_targets.proofs.note_values.Reads as note-values-reads
 use Rattle.write_glyphs.proofs.same_values.Goals as goal
 
 -- src/lib.rt:136:1

@@ -1,9 +1,7 @@
 -- `write_glyphs::stretch_end` meets its contract.
 use Rattle.write_glyphs.proofs.Laws.{alike-before, alike-one, alike-array}
-use borrow.Author.Tests.{not-true, not-false}
 use mathlib.Core.Path.{refl}
 use native.Mathlib.Omega.{arith}
-use borrow.Author.Rules.{rules}
 use Rattle.write_glyphs.proofs.stretch_end.Goals as goal
 
 pub returns-then-glyph-from : goal.returns-then-glyph-from

@@ -5,11 +5,6 @@ use native.Mathlib.Omega.{arith}
 use Rattle.write_glyphs.proofs.Laws.{value-leads}
 use Rattle.write_glyphs.specs.Places.{spot_place}
 use Rattle.actions.specs.declared.Spot.TheVariants.{Nowhere}
-use borrow.Author.Rules.{rules}
-use Rattle.write_glyphs.proofs.value_place.Reads as reads
-use Rattle.write_glyphs.proofs.value_place.Lts as lts
-use Rattle.fields.proofs.u16_at.Reads as u16-at-reads
-use Rattle.lookup_targets.proofs.spot_of.Reads as spot-of-reads
 use Rattle.write_glyphs.proofs.value_place.Goals as goal
 
 -- src/lib.rt:42:9

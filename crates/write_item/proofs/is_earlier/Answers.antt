@@ -4,7 +4,6 @@ use Rattle.encoding.specs.Tests.{Says}
 use Rattle.lookup_targets.specs.declared.Kind.{Kind}
 use Rattle.write_item.specs.Items.{item_at, Earlier}
 use Rattle.write_item.proofs.Earlier.{counts-tell, pairs-tell, actions-tell}
-use borrow.Author.Rules.{rules}
 use Rattle.write_item.proofs.is_earlier.Goals as goal
 
 pub returns-then-count-other : goal.returns-then-count-other

@@ -2,7 +2,6 @@
 use mathlib.Core.Path.{ap, sym, ◌∙◌}
 use Rattle.lookup_targets.specs.declared.Kind.{Kind}
 use Rattle.write_item.specs.Items.{item_at, item_hash}
-use borrow.Author.Rules.{rules}
 use Rattle.write_item.proofs.item_hash.Goals as goal
 
 pub returns-in-Clusters : goal.returns-in-Clusters

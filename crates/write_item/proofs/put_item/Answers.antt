@@ -4,7 +4,6 @@ use lib.Seq.{sets}
 use Rattle.fields.specs.Stores.{sets-out}
 use Rattle.lookup_targets.specs.declared.Kind.{Kind}
 use Rattle.write_item.specs.Items.{item_at, item_code}
-use borrow.Author.Rules.{rules}
 use Rattle.write_item.proofs.put_item.Goals as goal
 
 pub returns-then-out-to : goal.returns-then-out-to

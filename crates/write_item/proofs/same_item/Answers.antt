@@ -3,7 +3,6 @@ use Rattle.write_item.specs.Items.{item_at}
 use Rattle.lookup_targets.specs.declared.Kind.{Kind}
 use Rattle.encoding.specs.Tests.{Says}
 use mathlib.Core.Path.{◌≡◌, sym, subst}
-use borrow.Author.Rules.{rules}
 use Rattle.write_item.proofs.same_item.Goals as goal
 
 pub returns-in-Clusters : goal.returns-in-Clusters

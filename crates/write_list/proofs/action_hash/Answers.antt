@@ -3,11 +3,6 @@ use Prim.Native.Nat.{◌%◌}
 use mathlib.Core.Path.{refl}
 use native.Mathlib.Omega.{arith}
 use Rattle.write_list.proofs.Laws.{weight-3, action-hash}
-use borrow.Author.Rules.{rules}
-use Rattle.write_list.proofs.action_hash.Reads as reads
-use Rattle.write_list.proofs.action_hash.Lts as lts
-use Rattle.fields.proofs.u32_at.Reads as u32-at-reads
-use Rattle.write_list.proofs.content_weight.Reads as content-weight-reads
 use Rattle.write_list.proofs.action_hash.Goals as goal
 
 -- src/lib.rt:273:9

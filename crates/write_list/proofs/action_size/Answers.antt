@@ -1,7 +1,6 @@
 -- `write_list::action_size` meets its contract.
 use Rattle.write_list.proofs.Laws.{action-bytes}
 use native.Mathlib.Omega.{arith}
-use borrow.Author.Rules.{rules}
 use Rattle.write_list.proofs.action_size.Goals as goal
 
 pub returns : goal.returns

@@ -1,7 +1,6 @@
 -- `write_list::content_size` meets its contract.
 use Rattle.write_list.proofs.Laws.{size-0, size-other}
 use native.Mathlib.Omega.{arith}
-use borrow.Author.Rules.{rules}
 use Rattle.write_list.proofs.content_size.Goals as goal
 
 pub returns-then-ty-eq0 : goal.returns-then-ty-eq0

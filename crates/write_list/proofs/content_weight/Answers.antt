@@ -1,7 +1,6 @@
 -- `write_list::content_weight` meets its contract.
 use mathlib.Core.Path.{◌∙◌}
 use Rattle.write_list.proofs.Laws.{weight-5, weight-plain}
-use borrow.Author.Rules.{rules}
 use Rattle.write_list.proofs.content_weight.Goals as goal
 
 pub returns-then-ty-eq5 : goal.returns-then-ty-eq5

@@ -1,6 +1,5 @@
 -- `write_list::earlier_action` meets its contract.
 use Rattle.write_list.proofs.WordLaws.{class-tells, ty-tells, content-tells}
-use borrow.Author.Rules.{rules}
 use Rattle.write_list.proofs.earlier_action.Goals as goal
 
 pub returns-then-class-other_class : goal.returns-then-class-other_class

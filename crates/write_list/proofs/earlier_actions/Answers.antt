@@ -2,7 +2,6 @@
 use native.Mathlib.Omega.{arith}
 use Rattle.encoding.proofs.DictionaryLaws.{none_before}
 use Rattle.write_list.specs.Words.{action_words}
-use borrow.Author.Rules.{rules}
 use Rattle.write_list.proofs.earlier_actions.Goals as goal
 
 pub returns-then-front-eq0 : goal.returns-then-front-eq0

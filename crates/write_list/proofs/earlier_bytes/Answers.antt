@@ -1,17 +1,12 @@
-use borrow.Author.Rules.{rules}
-use Prim.Native.Nat.{◌+◌, ◌<◌, ◌^◌}
+use Prim.Native.Nat.{◌<◌}
 use mathlib.Core.Path.{sym, ◌∙◌}
-use mathlib.Core.Bool.{Bool, false}
+use mathlib.Core.Bool.{false}
 use mathlib.Core.List.{[]}
 use native.Mathlib.Omega.{arith}
 use lib.Dec.{ltb}
-use Rattle.encoding.specs.Codes.{many}
-use Rattle.encoding.specs.Dictionary.{Before}
 use Rattle.encoding.specs.Sections.{byte}
-use Rattle.encoding.specs.Tests.{Says}
 use Rattle.encoding.proofs.SectionLaws.{byte-free}
 use Rattle.encoding.proofs.DictionaryLaws.{item-skipped, item-tells, none-tells, number-tells}
-use Rattle.actions.specs.Actions.{bytes_at}
 use Rattle.write_list.proofs.Laws.{bytes-cons, bytes-none}
 use Rattle.write_list.proofs.earlier_bytes.Goals as goal
 

@@ -4,7 +4,6 @@ use Rattle.encoding.specs.Sections.{byte}
 use Rattle.encoding.proofs.DictionaryLaws.{number-tells}
 use Rattle.actions.specs.Actions.{content_at}
 use Rattle.write_list.proofs.WordLaws.{told-5, told-plain}
-use borrow.Author.Rules.{rules}
 use Rattle.write_list.proofs.earlier_content.Goals as goal
 
 pub returns-then-ty-eq5 : goal.returns-then-ty-eq5

@@ -1,10 +1,6 @@
-use Prim.Native.Nat.{◌<◌, ◌^◌}
-use mathlib.Core.Path.{◌≡◌, sym, ◌∙◌}
+use mathlib.Core.Path.{sym, ◌∙◌}
 use native.Mathlib.Omega.{arith}
-use Rattle.actions.specs.Actions.{actions_at, list_at}
-use Rattle.write_list.specs.Hash.{actions_hash, list_hash}
 use Rattle.write_list.proofs.Laws.{near, hash-more, hash-none, hash-all}
-use borrow.Author.Rules.{rules}
 use Rattle.write_list.proofs.list_hash.Goals as goal
 
 pub loop-left-init : goal.loop-left-init

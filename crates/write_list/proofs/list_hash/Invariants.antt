@@ -1,11 +1,8 @@
 -- `write_list::list_hash` meets its contract.
 use Prim.Native.Nat.{◌<◌, ◌^◌}
-use mathlib.Core.Path.{◌≡◌, sym, ◌∙◌}
-use native.Mathlib.Omega.{arith}
+use mathlib.Core.Path.{◌≡◌}
 use Rattle.actions.specs.Actions.{actions_at, list_at}
 use Rattle.write_list.specs.Hash.{actions_hash, list_hash}
-use Rattle.write_list.proofs.Laws.{near, hash-more, hash-none, hash-all}
-use borrow.Author.Rules.{rules}
 use Rattle.write_list.proofs.list_hash.Given as goal
 
 abbrev pub invariant-loop-left : goal.invariant-loop-left

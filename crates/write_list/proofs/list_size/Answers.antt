@@ -1,12 +1,7 @@
-use borrow.Author.Rules.{rules}
 use Rattle.write_list.proofs.Laws.{near, size-cons, size_none, list-bytes}
-use Rattle.actions.specs.Actions.{actions_at, list_at}
-use Rattle.meaning.specs.Sheet.{action_code}
-use Rattle.encoding.specs.Codes.{many, counted}
-use lib.ListN.{length}
 use native.Mathlib.Omega.{arith}
-use mathlib.Core.Path.{◌≡◌, sym}
-use Prim.Native.Nat.{◌+◌, ◌*◌, ◌<◌, ◌^◌}
+use mathlib.Core.Path.{sym}
+use Prim.Native.Nat.{◌<◌}
 use Rattle.write_list.proofs.list_size.Goals as goal
 
 pub loop-left-init : goal.loop-left-init

@@ -1,12 +1,9 @@
 -- `write_list::list_size` meets its contract.
-use borrow.Author.Rules.{rules}
-use Rattle.write_list.proofs.Laws.{near, size-cons, size_none, list-bytes}
 use Rattle.actions.specs.Actions.{actions_at, list_at}
 use Rattle.meaning.specs.Sheet.{action_code}
 use Rattle.encoding.specs.Codes.{many, counted}
 use lib.ListN.{length}
-use native.Mathlib.Omega.{arith}
-use mathlib.Core.Path.{◌≡◌, sym}
+use mathlib.Core.Path.{◌≡◌}
 use Prim.Native.Nat.{◌+◌, ◌*◌, ◌<◌, ◌^◌}
 use Rattle.write_list.proofs.list_size.Given as goal
 

@@ -1,16 +1,13 @@
-use borrow.Author.Rules.{rules}
 use Rattle.write_list.proofs.Laws.{near, same_next, next-same, first-same, actions-cons, actions-read, actions-none}
 use Rattle.write_list.proofs.WordLaws.{action-free}
 use Rattle.write_list.specs.Words.{action_words}
-use Rattle.encoding.specs.Codes.{many}
-use Rattle.encoding.specs.Dictionary.{Before}
 use Rattle.encoding.proofs.DictionaryLaws.{item-skipped, item-tells}
-use Rattle.actions.specs.Actions.{action_at, actions_at}
+use Rattle.actions.specs.Actions.{action_at}
 use Rattle.encoding.specs.Tests.{Says}
 use native.Mathlib.Omega.{arith}
 use mathlib.Core.Bool.{Bool}
 use mathlib.Core.Path.{◌≡◌, sym, ◌∙◌, subst}
-use Prim.Native.Nat.{◌<◌, ◌^◌}
+use Prim.Native.Nat.{◌<◌}
 use Rattle.write_list.proofs.past_same.Goals as goal
 
 pub loop-left-init : goal.loop-left-init

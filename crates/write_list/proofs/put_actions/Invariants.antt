@@ -1,17 +1,11 @@
 -- `write_list::put_actions` meets its contract.
-use borrow.Author.Rules.{rules}
-use Rattle.write_list.proofs.Laws.{near, actions-none, many-cons}
-use Rattle.actions.specs.Actions.{action_at, actions_at}
+use Rattle.actions.specs.Actions.{actions_at}
 use Rattle.meaning.specs.Sheet.{action_code}
-use Rattle.meaning.specs.Meaning.{Action}
 use Rattle.encoding.specs.Codes.{many}
-use Rattle.fields.specs.Stores.{put_next}
 use lib.Seq.{sets}
 use lib.ListN.{length}
-use native.Mathlib.Omega.{arith}
-use mathlib.Core.List.{List}
-use mathlib.Core.Path.{◌≡◌, ap, sym, ◌∙◌, refl}
-use Prim.Native.Nat.{ℕ, ◌+◌, ◌-◌, ◌*◌, ◌<◌, ◌^◌}
+use mathlib.Core.Path.{◌≡◌}
+use Prim.Native.Nat.{◌+◌, ◌*◌, ◌<◌, ◌^◌}
 use Rattle.write_list.proofs.put_actions.Given as goal
 
 abbrev pub invariant-loop-left : goal.invariant-loop-left

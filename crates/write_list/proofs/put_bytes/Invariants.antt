@@ -1,14 +1,9 @@
 -- `write_list::put_bytes` meets its contract.
-use borrow.Author.Rules.{rules}
-use Rattle.write_list.proofs.Laws.{bytes-cons, bytes-none}
 use Rattle.actions.specs.Actions.{bytes_at}
-use Rattle.fields.specs.Stores.{put_next}
 use lib.Seq.{sets}
 use lib.ListN.{length}
-use native.Mathlib.Omega.{arith}
-use mathlib.Core.List.{List, [], ◌∷◌}
-use mathlib.Core.Path.{◌≡◌, ap, sym, ◌∙◌, refl}
-use Prim.Native.Nat.{ℕ, ◌+◌, ◌-◌, ◌<◌}
+use mathlib.Core.Path.{◌≡◌}
+use Prim.Native.Nat.{◌+◌}
 use Rattle.write_list.proofs.put_bytes.Given as goal
 
 abbrev pub invariant-loop-left : goal.invariant-loop-left

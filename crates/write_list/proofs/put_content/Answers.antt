@@ -6,7 +6,6 @@ use Rattle.fields.specs.Field.{be16}
 use lib.Seq.{sets}
 use mathlib.Core.Path.{ap, sym, ◌∙◌, refl}
 use Prim.Native.Nat.{ℕ, ◌+◌}
-use borrow.Author.Rules.{rules}
 use Rattle.write_list.proofs.put_content.Goals as goal
 
 pub returns-then-ty-eq5 : goal.returns-then-ty-eq5

@@ -1,8 +1,7 @@
 -- `write_list::same_action` meets its contract.
 use mathlib.Core.Bool.{true}
-use mathlib.Core.Path.{refl, sym, ◌∙◌}
+use mathlib.Core.Path.{refl, ◌∙◌}
 use Rattle.write_list.proofs.Laws.{heads-apart, heads-same, no-data}
-use borrow.Author.Rules.{rules}
 use Rattle.write_list.proofs.same_action.Goals as goal
 
 pub returns-then-head-u32_at : goal.returns-then-head-u32_at

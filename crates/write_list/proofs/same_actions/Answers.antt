@@ -1,6 +1,5 @@
 -- `write_list::same_actions` meets its contract.
 use native.Mathlib.Omega.{arith}
-use borrow.Author.Rules.{rules}
 use Rattle.write_list.proofs.same_actions.Goals as goal
 
 pub returns-then-front-eq0 : goal.returns-then-front-eq0

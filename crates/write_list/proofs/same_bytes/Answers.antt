@@ -1,10 +1,8 @@
-use borrow.Author.Rules.{rules}
-use Prim.Native.Nat.{◌+◌, ◌<◌, ◌^◌}
-use mathlib.Core.Path.{◌≡◌, sym, ◌∙◌}
+use Prim.Native.Nat.{◌<◌}
+use mathlib.Core.Path.{sym, ◌∙◌}
 use native.Mathlib.Omega.{arith}
 use Rattle.fields.specs.Field.{Bytes}
 use Rattle.encoding.proofs.DictionaryLaws.{says-iff}
-use Rattle.actions.specs.Actions.{bytes_at}
 use Rattle.write_list.proofs.Laws.{same-four, four_same}
 use Rattle.write_list.proofs.same_bytes.Goals as goal
 

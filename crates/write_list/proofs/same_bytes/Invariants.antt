@@ -1,12 +1,7 @@
 -- `write_list::same_bytes` meets its contract.
-use borrow.Author.Rules.{rules}
 use Prim.Native.Nat.{◌+◌, ◌<◌, ◌^◌}
-use mathlib.Core.Path.{◌≡◌, sym, ◌∙◌}
-use native.Mathlib.Omega.{arith}
-use Rattle.fields.specs.Field.{Bytes}
-use Rattle.encoding.proofs.DictionaryLaws.{says-iff}
+use mathlib.Core.Path.{◌≡◌}
 use Rattle.actions.specs.Actions.{bytes_at}
-use Rattle.write_list.proofs.Laws.{same-four, four_same}
 use Rattle.write_list.proofs.same_bytes.Given as goal
 
 abbrev pub invariant-loop-left : goal.invariant-loop-left

@@ -2,7 +2,6 @@
 use Rattle.write_list.proofs.Laws.{same-5, same-plain}
 use lib.ListN.{length}
 use mathlib.Core.Path.{ap, sym, ◌∙◌}
-use borrow.Author.Rules.{rules}
 use Rattle.write_list.proofs.same_content.Goals as goal
 
 pub returns-then-ty-eq5 : goal.returns-then-ty-eq5

@@ -1,9 +1,7 @@
-use borrow.Author.Rules.{rules}
 use Rattle.write_list.proofs.Laws.{bytes-none, same_byte, byte-same}
-use Rattle.actions.specs.Actions.{bytes_at}
 use native.Mathlib.Omega.{arith}
-use mathlib.Core.Path.{◌≡◌, sym, ◌∙◌}
-use Prim.Native.Nat.{◌+◌, ◌<◌, ◌^◌}
+use mathlib.Core.Path.{sym, ◌∙◌}
+use Prim.Native.Nat.{◌<◌}
 use Rattle.write_list.proofs.same_each.Goals as goal
 
 pub loop-left-init : goal.loop-left-init

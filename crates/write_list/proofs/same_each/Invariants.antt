@@ -1,9 +1,6 @@
 -- `write_list::same_each` meets its contract.
-use borrow.Author.Rules.{rules}
-use Rattle.write_list.proofs.Laws.{bytes-none, same_byte, byte-same}
 use Rattle.actions.specs.Actions.{bytes_at}
-use native.Mathlib.Omega.{arith}
-use mathlib.Core.Path.{◌≡◌, sym, ◌∙◌}
+use mathlib.Core.Path.{◌≡◌}
 use Prim.Native.Nat.{◌+◌, ◌<◌, ◌^◌}
 use Rattle.write_list.proofs.same_each.Given as goal
 

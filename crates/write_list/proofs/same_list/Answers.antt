@@ -6,7 +6,6 @@ use Rattle.fields.specs.Field.{u32_at}
 use lib.ListN.{length}
 use mathlib.Core.Path.{◌≡◌, ap, sym, ◌∙◌, subst}
 use Prim.Native.Nat.{ℕ, ◌+◌}
-use borrow.Author.Rules.{rules}
 use Rattle.write_list.proofs.same_list.Goals as goal
 
 pub returns-then-count-u32_at : goal.returns-then-count-u32_at

@@ -1,10 +1,6 @@
-use Prim.Native.Nat.{◌+◌, ◌*◌, ◌≤◌, ◌^◌}
-use mathlib.Core.Path.{◌≡◌, refl, sym, ◌∙◌}
+use mathlib.Core.Path.{refl, sym, ◌∙◌}
 use native.Mathlib.Omega.{arith}
-use Rattle.actions.specs.Actions.{bytes_at}
-use Rattle.write_list.specs.Hash.{weight}
 use Rattle.write_list.proofs.Laws.{weight-more, weight-none}
-use borrow.Author.Rules.{rules}
 use Rattle.write_list.proofs.weigh.Goals as goal
 
 pub loop-left-init : goal.loop-left-init

@@ -1,11 +1,8 @@
 -- `write_list::weigh` meets its contract.
 use Prim.Native.Nat.{◌+◌, ◌*◌, ◌≤◌, ◌^◌}
-use mathlib.Core.Path.{◌≡◌, refl, sym, ◌∙◌}
-use native.Mathlib.Omega.{arith}
+use mathlib.Core.Path.{◌≡◌}
 use Rattle.actions.specs.Actions.{bytes_at}
 use Rattle.write_list.specs.Hash.{weight}
-use Rattle.write_list.proofs.Laws.{weight-more, weight-none}
-use borrow.Author.Rules.{rules}
 use Rattle.write_list.proofs.weigh.Given as goal
 
 abbrev pub invariant-loop-left : goal.invariant-loop-left

@@ -5,7 +5,6 @@ use native.Mathlib.Omega.{arith}
 use Rattle.fields.specs.Field.{u16_at}
 use Rattle.write_machine.specs.Parts.{OneClass}
 use Rattle.write_machine.proofs.Laws.{class-after, class-before, class-within}
-use borrow.Author.Rules.{rules}
 use Rattle.write_machine.proofs.class_end.Goals as goal
 
 pub returns-then-past-glyph : goal.returns-then-past-glyph

@@ -13,7 +13,6 @@ use Rattle.encoding.specs.Upto.{upto}
 use Rattle.encoding.specs.Sections.{run_section}
 use Rattle.write_entries.specs.Entries.{entry_bytes}
 use Rattle.write_machine.proofs.Laws.{few-cells, some-parts, some-length}
-use borrow.Author.Rules.{rules}
 use Rattle.write_machine.proofs.put_at.Goals as goal
 
 pub put_sizes-requires : goal.put_sizes-requires

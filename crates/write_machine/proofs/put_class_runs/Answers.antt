@@ -7,11 +7,6 @@ use native.Mathlib.Decide.{ℕ_discrete}
 use native.Mathlib.Omega.{arith}
 use Rattle.encoding.specs.Runs.{runs}
 use Rattle.encoding.specs.Sections.{run_code}
-use borrow.Author.Rules.{rules}
-use Rattle.write_machine.proofs.put_class_runs.Reads as reads
-use Rattle.write_machine.proofs.put_class_runs.Lts as lts
-use Rattle.fields.proofs.put_u32.Reads as put-u32-reads
-use Rattle.write_machine.proofs.put_each.Reads as put-each-reads
 use Rattle.write_machine.proofs.put_class_runs.Goals as goal
 
 -- src/lib.rt:92:1

@@ -1,25 +1,14 @@
 -- `write_machine::put_each` meets its contract.
-use Rattle.write_machine.proofs.Laws.{class-all, class-skipped, class-taken, class-done}
 use Rattle.encoding.specs.Sections.{run_code}
 use Rattle.machine.specs.Cells.{class_at}
 use Rattle.encoding.specs.Upto.{from, upto}
-use Rattle.encoding.specs.Runs.{Run, runs}
+use Rattle.encoding.specs.Runs.{runs}
 use Rattle.encoding.specs.Codes.{many}
-use Rattle.fields.specs.Stores.{put_next}
-use Rattle.fields.specs.Field.{be16}
 use lib.Seq.{sets}
 use lib.ListN.{length}
 use native.Mathlib.Decide.{ℕ_discrete}
-use native.Mathlib.Omega.{arith}
-use mathlib.Core.List.{List, ◌++◌}
-use mathlib.Core.Path.{◌≡◌, refl, sym, ap, ◌∙◌}
-use Prim.Native.Nat.{ℕ, ◌+◌, ◌-◌, ◌*◌, ◌≤◌}
-use borrow.Author.Rules.{rules}
-use Rattle.write_machine.proofs.put_each.Reads as reads
-use Rattle.write_machine.proofs.put_each.Lts as lts
-use Rattle.machine.proofs.class_of.Reads as class-of-reads
-use Rattle.write_machine.proofs.class_end.Reads as class-end-reads
-use Rattle.write_runs.proofs.put_run.Reads as put-run-reads
+use mathlib.Core.Path.{◌≡◌}
+use Prim.Native.Nat.{◌+◌, ◌-◌, ◌*◌, ◌≤◌}
 use Rattle.write_machine.proofs.put_each.Given as goal
 
 abbrev pub invariant-loop-glyph : goal.invariant-loop-glyph

@@ -6,7 +6,6 @@ use native.Mathlib.Omega.{arith}
 use lib.ListN.{length}
 use lib.Seq.{sets}
 use Rattle.write_machine.proofs.Laws.{bytes-none, bytes-some, machine-clear}
-use borrow.Author.Rules.{rules}
 use Rattle.write_machine.proofs.put_machine.Goals as goal
 
 pub returns-then-offset-eq0 : goal.returns-then-offset-eq0
@@ -16,7 +15,7 @@ returns-then-offset-eq0 c =
     (omega (arith, ap length e), omega arith, c.put_none.ensures ∙ ap (sets a.out.now a.to) (sym e))
 
 pub put_at-requires : goal.put_at-requires
-put_at-requires c = record { here_bound = (omega (arith, c.requires.offset_bound.0), (c.requires.offset_bound.1.0, machine-clear c.args.table.now c.args.glyphs c.args.offset c.if-offset-eq0.false c.requires.offset_bound.1.1));  to_bound = c.requires.to_bound }
+put_at-requires c = record { here_bound = (omega (arith, c.requires.offset_bound.0), (c.requires.offset_bound.1.0, machine-clear c.args.table.now c.args.glyphs c.args.offset c.if-offset-eq0.false c.requires.offset_bound.1.1)); to_bound = c.requires.to_bound }
 
 pub returns : goal.returns
 returns c =

@@ -5,7 +5,6 @@ use mathlib.Core.List.{◌++◌}
 use native.Mathlib.Omega.{arith}
 use Rattle.fields.specs.Field.{be32}
 use Rattle.fields.specs.Stores.{put_two}
-use borrow.Author.Rules.{rules}
 use Rattle.write_machine.proofs.put_sizes.Goals as goal
 
 pub returns : goal.returns

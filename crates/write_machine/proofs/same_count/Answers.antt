@@ -1,9 +1,6 @@
-use Prim.Native.Nat.{ℕ, ◌+◌, ◌-◌, ◌≤◌, ◌<◌}
-use mathlib.Core.Path.{◌≡◌, sym, ◌∙◌}
+use mathlib.Core.Path.{sym, ◌∙◌}
 use native.Mathlib.Omega.{arith}
-use lib.ListN.{get_or}
 use Rattle.write_machine.proofs.Laws.{one_byte, more_bytes}
-use borrow.Author.Rules.{rules}
 use Rattle.write_machine.proofs.same_count.Goals as goal
 
 pub loop-count-init : goal.loop-count-init

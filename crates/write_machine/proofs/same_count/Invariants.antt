@@ -1,10 +1,7 @@
 -- `write_machine::same_count` meets its contract.
 use Prim.Native.Nat.{ℕ, ◌+◌, ◌-◌, ◌≤◌, ◌<◌}
-use mathlib.Core.Path.{◌≡◌, sym, ◌∙◌}
-use native.Mathlib.Omega.{arith}
+use mathlib.Core.Path.{◌≡◌}
 use lib.ListN.{get_or}
-use Rattle.write_machine.proofs.Laws.{one_byte, more_bytes}
-use borrow.Author.Rules.{rules}
 use Rattle.write_machine.proofs.same_count.Given as goal
 
 abbrev pub invariant-loop-count : goal.invariant-loop-count

@@ -1,11 +1,10 @@
-use borrow.Author.Rules.{rules}
 use Prim.Native.Nat.{ℕ, ◌+◌, ◌-◌, ◌/◌}
 use mathlib.Core.Path.{subst}
 use mathlib.Core.Bool.{Bool}
 use native.Mathlib.Omega.{arith}
 use Rattle.encoding.specs.Tests.{Says}
 use Rattle.write_item.specs.Items.{item_at, Earlier}
-use Rattle.write_numbers.proofs.Halves.{Halves, halves-first, halves-lower, halves-upper, halves-last}
+use Rattle.write_numbers.proofs.Halves.{halves-first, halves-lower, halves-upper, halves-last}
 use Rattle.write_numbers.proofs.earlier_count.Goals as goal
 
 pub bounds-others-0 : goal.bounds-others-0

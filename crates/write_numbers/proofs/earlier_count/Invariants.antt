@@ -1,12 +1,7 @@
 -- `write_numbers::earlier_count` meets its contract.
-use borrow.Author.Rules.{rules}
-use Prim.Native.Nat.{ℕ, ◌+◌, ◌-◌, ◌/◌}
-use mathlib.Core.Path.{subst}
-use mathlib.Core.Bool.{Bool}
-use native.Mathlib.Omega.{arith}
-use Rattle.encoding.specs.Tests.{Says}
-use Rattle.write_item.specs.Items.{item_at, Earlier}
-use Rattle.write_numbers.proofs.Halves.{Halves, halves-first, halves-lower, halves-upper, halves-last}
+use Prim.Native.Nat.{◌-◌}
+use Rattle.write_item.specs.Items.{item_at}
+use Rattle.write_numbers.proofs.Halves.{Halves}
 use Rattle.write_numbers.proofs.earlier_count.Given as goal
 
 abbrev pub invariant-loop-low : goal.invariant-loop-low

@@ -8,7 +8,6 @@ use Rattle.encoding.specs.Tests.{Says}
 use Rattle.write_item.specs.Items.{item_at}
 use Rattle.write_numbers.specs.Numbered.{other_of, Entered}
 use Rattle.write_numbers.proofs.Kept.{sorted-wider, enters-old, enters-slot, enters-others}
-use borrow.Author.Rules.{rules}
 use Rattle.write_numbers.proofs.enter.Goals as goal
 
 pub overflow_cast-slot : goal.overflow_cast-slot
@@ -40,10 +39,10 @@ returns-then-same_item c =
     (enters-old a.kind a.table.now a.firsts.now a.others.now a.slots.now a.k a.place p.result (omega arith) q.table_len_bound.1.0 p.ensures.0 q.table_len_bound.1.1 (slot - 1) (omega (arith, z, q.table_len_bound.1.1.slot p.result)) e)
 
 pub earlier_count-n-requires : goal.earlier_count-n-requires
-earlier_count-n-requires c = record { table_len_bound = (c.requires.table_len_bound.0, omega (arith, c.requires.table_len_bound.1.1.sorted.few));  sorted_others = sorted-wider c.args.kind c.args.table.now c.args.firsts.now c.args.others.now c.args.k _ (omega arith) c.requires.table_len_bound.1.1.sorted }
+earlier_count-n-requires c = record { table_len_bound = (c.requires.table_len_bound.0, omega (arith, c.requires.table_len_bound.1.1.sorted.few)); sorted_others = sorted-wider c.args.kind c.args.table.now c.args.firsts.now c.args.others.now c.args.k _ (omega arith) c.requires.table_len_bound.1.1.sorted }
 
 pub is_other-requires : goal.is_other-requires
-is_other-requires c = record { table_len_bound = (c.requires.table_len_bound.0, omega (arith, c.requires.table_len_bound.1.1.sorted.few));  sorted_others = sorted-wider c.args.kind c.args.table.now c.args.firsts.now c.args.others.now c.args.k _ (omega arith) c.requires.table_len_bound.1.1.sorted }
+is_other-requires c = record { table_len_bound = (c.requires.table_len_bound.0, omega (arith, c.requires.table_len_bound.1.1.sorted.few)); sorted_others = sorted-wider c.args.kind c.args.table.now c.args.firsts.now c.args.others.now c.args.k _ (omega arith) c.requires.table_len_bound.1.1.sorted }
 
 pub bounds-others-n : goal.bounds-others-n
 bounds-others-n c = omega (arith, c.earlier_count-n.ensures.most, c.requires.table_len_bound.1.1.sorted.few, c.requires.table_len_bound.1.1.slot c.slot_of-at.result, c.if-slot-eq0.false)

@@ -1,10 +1,7 @@
 -- `write_numbers::insert` meets its contract.
-use borrow.Author.Rules.{rules}
 use Prim.Native.Nat.{◌+◌, ◌≤◌}
-use mathlib.Core.Path.{◌≡◌, subst}
-use native.Mathlib.Omega.{arith}
-use lib.ListN.{get_or, length-set}
-use Rattle.write_numbers.proofs.Moved.{Moved, moved_none, moved-next, moved-stored}
+use lib.ListN.{get_or}
+use Rattle.write_numbers.proofs.Moved.{Moved}
 use Rattle.write_numbers.proofs.insert.Given as goal
 
 abbrev pub invariant-loop-i : goal.invariant-loop-i

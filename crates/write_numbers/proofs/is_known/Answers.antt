@@ -1,7 +1,6 @@
 -- `write_numbers::is_known` meets its contract.
 use mathlib.Core.Path.{sym, ◌∙◌}
 use native.Mathlib.Omega.{arith}
-use borrow.Author.Rules.{rules}
 use Rattle.write_numbers.proofs.NoneLaws.{none-known}
 use Rattle.write_numbers.proofs.is_known.Goals as goal
 

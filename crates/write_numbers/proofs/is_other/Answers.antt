@@ -7,7 +7,6 @@ use Rattle.encoding.specs.Tests.{Says}
 use Rattle.write_item.specs.Items.{item_at}
 use Rattle.write_numbers.specs.Numbered.{other_of}
 use Rattle.write_numbers.proofs.Halves.{says_both}
-use borrow.Author.Rules.{rules}
 use Rattle.write_numbers.proofs.is_other.Goals as goal
 
 pub other_place-requires : goal.other_place-requires

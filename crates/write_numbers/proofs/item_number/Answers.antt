@@ -9,7 +9,6 @@ use Prim.Native.Nat.{max, ◌≤◌}
 use Prim.Native.Nat.{ℕ}
 use mathlib.Core.List.{List}
 use mathlib.Core.Path.{sym, ◌∙◌, subst}
-use borrow.Author.Rules.{rules}
 use Rattle.write_numbers.proofs.item_number.Goals as goal
 
 pub returns-then-known-ne0 : goal.returns-then-known-ne0
@@ -34,7 +33,7 @@ returns-then-u32_at-eq0 c =
     )
 
 pub enter-number-requires : goal.enter-number-requires
-enter-number-requires c = record { table_len_bound = (c.requires.table_len_bound.0, ((λ z. c.if-u32_at-eq0.false (c.u32_at.ensures.0 ∙ z)), c.requires.table_len_bound.1.0));  k_bound = c.requires.k_bound }
+enter-number-requires c = record { table_len_bound = (c.requires.table_len_bound.0, ((λ z. c.if-u32_at-eq0.false (c.u32_at.ensures.0 ∙ z)), c.requires.table_len_bound.1.0)); k_bound = c.requires.k_bound }
 
 pub overflow_cast-number : goal.overflow_cast-number
 overflow_cast-number c =

@@ -1,7 +1,6 @@
 -- `write_numbers::known_at` meets its contract.
 use mathlib.Core.Path.{sym}
 use lib.ListN.{get_or-eq_default}
-use borrow.Author.Rules.{rules}
 use Rattle.write_numbers.proofs.known_at.Goals as goal
 
 pub returns-else-at-seen : goal.returns-else-at-seen

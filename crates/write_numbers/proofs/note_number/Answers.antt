@@ -1,7 +1,6 @@
 -- `write_numbers::note_number` meets its contract.
 use mathlib.Core.Path.{sym}
 use lib.Seq.{set_out}
-use borrow.Author.Rules.{rules}
 use Rattle.write_numbers.proofs.note_number.Goals as goal
 
 pub returns-else-at-seen : goal.returns-else-at-seen

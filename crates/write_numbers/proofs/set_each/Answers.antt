@@ -1,9 +1,7 @@
-use borrow.Author.Rules.{rules}
 use Rattle.write_numbers.proofs.Laws.{fill_step, fill_end}
-use lib.ListN.{length, take, replicate, length-set}
+use lib.ListN.{length, length-set}
 use native.Mathlib.Omega.{arith}
-use mathlib.Core.Path.{◌≡◌, ◌∙◌, refl}
-use Prim.Native.Nat.{◌-◌, ◌≤◌}
+use mathlib.Core.Path.{◌∙◌, refl}
 use Rattle.write_numbers.proofs.set_each.Goals as goal
 
 pub loop-i-init : goal.loop-i-init

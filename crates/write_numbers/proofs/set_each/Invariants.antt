@@ -1,9 +1,6 @@
 -- `write_numbers::set_each` meets its contract.
-use borrow.Author.Rules.{rules}
-use Rattle.write_numbers.proofs.Laws.{fill_step, fill_end}
-use lib.ListN.{length, take, replicate, length-set}
-use native.Mathlib.Omega.{arith}
-use mathlib.Core.Path.{◌≡◌, ◌∙◌, refl}
+use lib.ListN.{length, take, replicate}
+use mathlib.Core.Path.{◌≡◌}
 use Prim.Native.Nat.{◌-◌, ◌≤◌}
 use Rattle.write_numbers.proofs.set_each.Given as goal
 

@@ -2,10 +2,6 @@
 use Prim.Native.Nat.{ℕ, ◌%◌}
 use mathlib.Core.Path.{ap}
 use native.Mathlib.Nat.{mod-lt}
-use borrow.Author.Rules.{rules}
-use Rattle.write_numbers.proofs.slot_of.Reads as reads
-use Rattle.write_numbers.proofs.slot_of.Lts as lts
-use Rattle.write_item.proofs.item_hash.Reads as item-hash-reads
 use Rattle.write_numbers.proofs.slot_of.Goals as goal
 
 -- src/lib.rt:85:1

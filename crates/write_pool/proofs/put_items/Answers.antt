@@ -1,14 +1,13 @@
-use borrow.Author.Rules.{rules}
 use Rattle.write_pool.proofs.Laws.{items-next, items-none, items-length, items-end, item-short}
 use Rattle.write_numbers.specs.Numbered.{placed}
 use Rattle.write_item.specs.Items.{item_at, item_code}
 use Rattle.encoding.specs.Codes.{many}
 use Rattle.fields.specs.Stores.{put_next}
 use lib.Seq.{sets}
-use lib.ListN.{length, get_or, drop}
+use lib.ListN.{get_or, drop}
 use native.Mathlib.Omega.{arith}
-use mathlib.Core.Path.{◌≡◌, ap, sym, ◌∙◌, refl}
-use Prim.Native.Nat.{ℕ, ◌+◌, ◌-◌, ◌*◌, ◌≤◌}
+use mathlib.Core.Path.{ap, sym, ◌∙◌, refl}
+use Prim.Native.Nat.{ℕ, ◌+◌}
 use Rattle.write_pool.proofs.put_items.Goals as goal
 
 pub loop-i-init : goal.loop-i-init

@@ -1,15 +1,11 @@
 -- `write_pool::put_items` meets its contract.
-use borrow.Author.Rules.{rules}
-use Rattle.write_pool.proofs.Laws.{items-next, items-none, items-length, items-end, item-short}
 use Rattle.write_numbers.specs.Numbered.{placed}
-use Rattle.write_item.specs.Items.{item_at, item_code}
+use Rattle.write_item.specs.Items.{item_code}
 use Rattle.encoding.specs.Codes.{many}
-use Rattle.fields.specs.Stores.{put_next}
 use lib.Seq.{sets}
-use lib.ListN.{length, get_or, drop}
-use native.Mathlib.Omega.{arith}
-use mathlib.Core.Path.{◌≡◌, ap, sym, ◌∙◌, refl}
-use Prim.Native.Nat.{ℕ, ◌+◌, ◌-◌, ◌*◌, ◌≤◌}
+use lib.ListN.{length, drop}
+use mathlib.Core.Path.{◌≡◌}
+use Prim.Native.Nat.{◌+◌, ◌-◌, ◌*◌, ◌≤◌}
 use Rattle.write_pool.proofs.put_items.Given as goal
 
 abbrev pub invariant-loop-i : goal.invariant-loop-i

@@ -1,12 +1,6 @@
 -- `write_pool::put_looked` meets its contract.
 use Rattle.lookup_targets.specs.declared.Source.TheVariants.{Lookup}
 use Rattle.write_pool.proofs.Laws.{tried-all, tried-again}
-use borrow.Author.Rules.{rules}
-use Rattle.write_pool.proofs.put_looked.Reads as reads
-use Rattle.write_pool.proofs.put_looked.Lts as lts
-use Rattle.write_pool.proofs.has_many_units.Reads as has-many-units-reads
-use Rattle.write_pool.proofs.put_by_format.Reads as put-by-format-reads
-use Rattle.write_pool.proofs.put_large.Reads as put-large-reads
 use Rattle.write_pool.proofs.put_looked.Goals as goal
 
 -- src/lib.rt:273:9

@@ -3,12 +3,11 @@ use native.Mathlib.Omega.{arith}
 use Rattle.write_numbers.proofs.Laws.{get_or-zeros}
 use Rattle.lookup_targets.specs.declared.Source.TheVariants.{Lookup}
 use Rattle.write_pool.proofs.Laws.{fresh, tried-again}
-use borrow.Author.Rules.{rules}
 use Rattle.write_pool.proofs.put_lookup.Goals as goal
 
 pub put_with-end-requires : goal.put_with-end-requires
 put_with-end-requires c =
-    record { numberable = c.requires;  pass_rooms = (fresh 128 251 (omega arith), (get_or-zeros 128, (get_or-zeros 251, (get_or-zeros 512, get_or-zeros 512)))) }
+    record { numberable = c.requires; pass_rooms = (fresh 128 251 (omega arith), (get_or-zeros 128, (get_or-zeros 251, (get_or-zeros 512, get_or-zeros 512)))) }
 
 pub returns-then-end-gt0 : goal.returns-then-end-gt0
 returns-then-end-gt0 c = c.put_with-end.ensures.done c.if-end-gt0.true

@@ -3,7 +3,6 @@ use Prim.Native.Nat.{◌+◌}
 use mathlib.Core.Path.{refl}
 use Rattle.fields.specs.Field.{be32}
 use Rattle.fields.specs.Stores.{put_two}
-use borrow.Author.Rules.{rules}
 use Rattle.write_pool.proofs.put_none.Goals as goal
 
 pub returns : goal.returns

@@ -3,7 +3,6 @@ use mathlib.Core.Path.{sym, subst}
 use Rattle.lookup_targets.specs.declared.Source.{Source}
 use Rattle.write_pool.specs.Pool.{Numberable, PlacedSections}
 use Rattle.write_pool.proofs.Laws.{absent-placed}
-use borrow.Author.Rules.{rules}
 use Rattle.write_pool.proofs.put_pool.Goals as goal
 
 pub returns-in_default : goal.returns-in_default

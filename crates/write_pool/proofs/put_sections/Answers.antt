@@ -13,7 +13,6 @@ use Rattle.write_numbers.specs.Numbered.{placed}
 use Rattle.write_runs.specs.Spread.{spread}
 use Rattle.encoding.specs.Sections.{number_run_section}
 use Rattle.write_pool.proofs.Laws.{sections-parts, sections-length}
-use borrow.Author.Rules.{rules}
 use Rattle.write_pool.proofs.put_sections.Goals as goal
 
 pub put_runs-requires : goal.put_runs-requires

@@ -6,13 +6,12 @@ use lib.ListN.{length, take}
 use Prim.Native.Nat.{◌≤◌}
 use mathlib.Core.Path.{refl, sym}
 use native.Mathlib.Omega.{arith}
-use borrow.Author.Rules.{rules}
 use Rattle.write_pool.proofs.put_with.Goals as goal
 
 pub number_glyphs-pass-requires : goal.number_glyphs-pass-requires
 number_glyphs-pass-requires c =
     let g = c.requires.numberable.0 in
-    record { at_bound = (g.sound.0, (g.sound.1, (g.few, g.sound.2)));  table_len_bound = (g.bytes, c.requires.pass_rooms.0);  blank = c.requires.pass_rooms.1 }
+    record { at_bound = (g.sound.0, (g.sound.1, (g.few, g.sound.2))); table_len_bound = (g.bytes, c.requires.pass_rooms.0); blank = c.requires.pass_rooms.1 }
 
 pub returns-then-pass-pool : goal.returns-then-pass-pool
 returns-then-pass-pool c =
@@ -87,7 +86,7 @@ put_sections-requires c =
     let o = c.requires.pass_rooms.0 in
     let all : a.pool.glyphs ≤ nb.result.glyph = omega (arith, c.if-pass-pool.false) in
     let few = length-take-le nb.result.items fs (omega (arith, nb.ensures.few, nb.ensures.fits, nb.auto, o.distinct)) in
-    record { table_len_bound = (g.bytes, (omega (arith, few, nb.ensures.few, pass-few a.pool.kind t a.pool.glyphs a.pool.at a.pool.base es ns fs nb.result g.few g.short nb.ensures all), pass-short a.pool.kind t a.pool.glyphs a.pool.at a.pool.base es ns fs nb.result g.few g.short nb.ensures all));  stretches = (pass-stretches a.pool.kind t a.pool.glyphs a.pool.at a.pool.base es ns fs nb.result g.few g.short nb.ensures all (omega (arith, nb.auto, o.each)), c.requires.numberable.1) }
+    record { table_len_bound = (g.bytes, (omega (arith, few, nb.ensures.few, pass-few a.pool.kind t a.pool.glyphs a.pool.at a.pool.base es ns fs nb.result g.few g.short nb.ensures all), pass-short a.pool.kind t a.pool.glyphs a.pool.at a.pool.base es ns fs nb.result g.few g.short nb.ensures all)); stretches = (pass-stretches a.pool.kind t a.pool.glyphs a.pool.at a.pool.base es ns fs nb.result g.few g.short nb.ensures all (omega (arith, nb.auto, o.each)), c.requires.numberable.1) }
 
 pub returns : goal.returns
 returns c =

@@ -6,10 +6,6 @@ use native.Mathlib.Omega.{arith}
 use mathlib.Core.Bool.{Bool}
 use mathlib.Core.Path.{◌≡◌, subst}
 use Prim.Native.Nat.{◌-◌, ◌<◌}
-use borrow.Author.Rules.{rules}
-use Rattle.write_runs.proofs.extend.Reads as reads
-use Rattle.write_runs.proofs.extend.Lts as lts
-use Rattle.write_runs.proofs.goes_on.Reads as goes-on-reads
 use Rattle.write_runs.proofs.extend.Goals as goal
 
 -- src/lib.rt:33:14

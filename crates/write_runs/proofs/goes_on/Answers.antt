@@ -1,9 +1,6 @@
 -- `write_runs::goes_on` meets its contract.
 use Rattle.write_runs.proofs.Stretch.{goes_on}
 use native.Mathlib.Omega.{arith}
-use borrow.Author.Rules.{rules}
-use Rattle.write_runs.proofs.goes_on.Reads as reads
-use Rattle.write_runs.proofs.goes_on.Lts as lts
 use Rattle.write_runs.proofs.goes_on.Goals as goal
 
 -- src/lib.rt:15:1

@@ -1,4 +1,4 @@
-use Prim.Native.Nat.{ℕ, ◌+◌, ◌-◌, ◌*◌, ◌≤◌, ◌<◌, ◌^◌}
+use Prim.Native.Nat.{ℕ, ◌+◌, ◌-◌, ◌*◌}
 use mathlib.Core.Path.{◌≡◌, ap, sym, ◌∙◌, refl}
 use mathlib.Core.List.{List}
 use native.Mathlib.Omega.{arith}
@@ -9,10 +9,9 @@ use Rattle.fields.specs.Stores.{put_next}
 use Rattle.encoding.specs.Codes.{many}
 use Rattle.encoding.specs.Runs.{Run, runs}
 use Rattle.encoding.specs.Sections.{run_less_code}
-use Rattle.write_runs.specs.Spread.{spread, Rise}
+use Rattle.write_runs.specs.Spread.{spread}
 use Rattle.write_runs.proofs.Spread.{rise-few}
 use Rattle.write_runs.proofs.Laws.{run_step, runs-skipped, runs_taken, runs_done}
-use borrow.Author.Rules.{rules}
 use Rattle.write_runs.proofs.put_each.Goals as goal
 
 pub loop-i-init : goal.loop-i-init

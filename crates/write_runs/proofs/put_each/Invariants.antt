@@ -1,19 +1,13 @@
 -- `write_runs::put_each` meets its contract.
 use Prim.Native.Nat.{ℕ, ◌+◌, ◌-◌, ◌*◌, ◌≤◌, ◌<◌, ◌^◌}
-use mathlib.Core.Path.{◌≡◌, ap, sym, ◌∙◌, refl}
-use mathlib.Core.List.{List}
-use native.Mathlib.Omega.{arith}
+use mathlib.Core.Path.{◌≡◌}
 use native.Mathlib.Decide.{ℕ_discrete}
-use lib.ListN.{length, get_or, drop}
+use lib.ListN.{length, drop}
 use lib.Seq.{sets}
-use Rattle.fields.specs.Stores.{put_next}
 use Rattle.encoding.specs.Codes.{many}
-use Rattle.encoding.specs.Runs.{Run, runs}
+use Rattle.encoding.specs.Runs.{runs}
 use Rattle.encoding.specs.Sections.{run_less_code}
 use Rattle.write_runs.specs.Spread.{spread, Rise}
-use Rattle.write_runs.proofs.Spread.{rise-few}
-use Rattle.write_runs.proofs.Laws.{run_step, runs-skipped, runs_taken, runs_done}
-use borrow.Author.Rules.{rules}
 use Rattle.write_runs.proofs.put_each.Given as goal
 
 abbrev pub invariant-loop-i : goal.invariant-loop-i

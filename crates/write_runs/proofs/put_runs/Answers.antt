@@ -6,7 +6,6 @@ use Rattle.encoding.specs.Runs.{runs}
 use Rattle.encoding.specs.Sections.{run_less_code}
 use Rattle.write_runs.specs.Spread.{spread}
 use Rattle.write_runs.proofs.Laws.{section-length, section-stored}
-use borrow.Author.Rules.{rules}
 use Rattle.write_runs.proofs.put_runs.Goals as goal
 
 pub returns : goal.returns

@@ -1,10 +1,7 @@
-use borrow.Author.Rules.{rules}
 use Rattle.write_runs.proofs.Laws.{stretch-one, stretch-more}
-use lib.ListN.{length, drop, replicate}
 use native.Mathlib.Omega.{arith}
-use mathlib.Core.List.{◌++◌}
-use mathlib.Core.Path.{◌≡◌, refl}
-use Prim.Native.Nat.{◌+◌, ◌-◌, ◌<◌, ◌≤◌}
+use mathlib.Core.Path.{refl}
+use Prim.Native.Nat.{◌+◌}
 use Rattle.write_runs.proofs.run_end.Goals as goal
 
 pub loop-end-init : goal.loop-end-init

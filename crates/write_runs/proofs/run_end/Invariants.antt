@@ -1,11 +1,8 @@
 -- `write_runs::run_end` meets its contract.
-use borrow.Author.Rules.{rules}
-use Rattle.write_runs.proofs.Laws.{stretch-one, stretch-more}
 use lib.ListN.{length, drop, replicate}
-use native.Mathlib.Omega.{arith}
 use mathlib.Core.List.{◌++◌}
-use mathlib.Core.Path.{◌≡◌, refl}
-use Prim.Native.Nat.{◌+◌, ◌-◌, ◌<◌, ◌≤◌}
+use mathlib.Core.Path.{◌≡◌}
+use Prim.Native.Nat.{◌-◌, ◌<◌, ◌≤◌}
 use Rattle.write_runs.proofs.run_end.Given as goal
 
 abbrev pub invariant-loop-end : goal.invariant-loop-end
