@@ -2,6 +2,7 @@
 // structs of C layout. A refusal is its number, 0 for none, and its offset. A direction is 0 for horizontal, any other number for
 // vertical. specs/InC.antt says what each struct holds.
 #![tactic(auto)]
+
 ghost use Rattle.std.specs.Prelude.{◌≡◌};
 ghost use Rattle.types.specs.InC.{direction_in};
 ghost use Rattle.meaning.specs.Ask.{ask, glyph_count, along, sizes, class, cell, width, action};

@@ -2,6 +2,7 @@
 // numbers, slices (a pointer, then a length) and structs of C layout; a refusal is its number, 0 for none, and its offset; a direction
 // is 0 for horizontal, any other number for vertical. specs/LineInC.antt says what the struct holds.
 #![tactic(auto)]
+
 ghost use Rattle.std.specs.Prelude.{◌≡◌};
 ghost use Rattle.line_call.specs.Justified.{says_line, justified};
 ghost use Rattle.line_rule.specs.Shape.{line_by};

@@ -2,6 +2,7 @@
 // Here: all of it but the storing of the verdicts, whose number `settle` answers beside the call's answer, and whose
 // bits it leaves in a lent room. No lent class or movement is written before every refusal is judged.
 #![tactic(auto)]
+
 ghost use Rattle.std.specs.Prelude.{◌≡◌, List, ◌*◌, length};
 ghost use Rattle.types.specs.declared.Verdict.{Verdict};
 ghost use Rattle.meaning.specs.Ask.{side_of};

@@ -1,6 +1,7 @@
 // Verdicts in a lent list of records (document 01, "Verdicts" and "What form to use where"): one thin function stores
 // a record; which verdicts there are is found while they are counted, and kept as bits in a room until they are stored.
 #![tactic(auto)]
+
 ghost use Rattle.std.specs.Prelude.{◌≡◌, ◌<◌, length, set};
 ghost use Rattle.line_verdicts.specs.Bits.{told};
 ghost use Rattle.line_call.specs.Justified.{justified};

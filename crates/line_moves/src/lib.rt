@@ -1,6 +1,7 @@
 // What a line's call works out before its verdicts (document 01, "The class walk" and "Sharing the gap"), from an
 // accepted table: the classes of the line's glyphs, the part of each glyph, and the movements of its two sides.
 #![tactic(auto)]
+
 ghost use Rattle.std.specs.Prelude.{◌≡◌, cond, ◌+◌, ◌*◌, ◌≤◌, ◌<◌, pos, nat_abs, length, replicate};
 ghost use Rattle.std.specs.Int.Signed.{lt_z};
 ghost use Rattle.fields.specs.declared.Fault.TheVariants.{Clear};

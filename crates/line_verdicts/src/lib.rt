@@ -2,6 +2,7 @@
 // counted, and then taken from the bits one verdict after the other, by place and then in list order. The table is one
 // that was accepted.
 #![tactic(auto)]
+
 ghost use Rattle.std.specs.Prelude.{◌≡◌, ℕ, ◌+◌, ◌*◌, ◌≤◌, ◌<◌, ◌^◌, [], ◌∷◌, length, get_or, drop};
 ghost use Rattle.fields.specs.Field.{u16_at};
 ghost use Rattle.fields.specs.declared.Fault.TheVariants.{Clear};

@@ -3,6 +3,7 @@
 // list is never refused, but empty. What serves the line besides (machine_in, lookup_in, spot_by) reads a table that
 // was judged before.
 #![tactic(auto)]
+
 ghost use Rattle.std.specs.Prelude.{◌≡◌, ◌<◌, ◌^◌};
 ghost use Rattle.meaning.specs.Ask.{maybe, pair, record_of, ask, glyph_count, sizes, class, cell, width, action, along};
 ghost use Rattle.answers.specs.Says.{given, unless_bad, says_count, says_sizes, says_class, says_cell, says_record, says_action, room_after};

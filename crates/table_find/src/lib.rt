@@ -1,6 +1,7 @@
 // The value of a glyph in one of a direction's two lookups, and how many units a find of it looks at; the units of such a
 // lookup, and the bound on a find's looks there (document 02, 9/14). The table is judged first, and may be refused.
 #![tactic(auto)]
+
 ghost use Rattle.std.specs.Prelude.{◌≡◌, List, ℕ, ◌<◌, ◌^◌};
 ghost use Rattle.table_ask.specs.Places.{Readable, Sound};
 ghost use Rattle.table_find.specs.Values.{says_value, says_units, found_in, value_asked, units_in, least_over, units_asked};

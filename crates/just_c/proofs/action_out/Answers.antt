@@ -3,8 +3,7 @@ use mathlib.Core.Bool.{false}
 use Prim.Native.Nat.{ℕ}
 use Rattle.answers.specs.declared.ActionSought.{ActionSought}
 use Rattle.just_c.specs.InC.{action_out}
-use mathlib.Core.Path.{◌≡◌, refl, sym, ap, ◌∙◌}
-use borrow.Author.Rules.{rules}
+use mathlib.Core.Path.{sym, ap, ◌∙◌}
 use Rattle.just_c.proofs.action_out.Goals as goal
 
 pub returns-in-Found : goal.returns-in-Found

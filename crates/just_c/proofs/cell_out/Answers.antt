@@ -3,8 +3,7 @@ use Prim.Native.Nat.{ℕ}
 use Rattle.answers.specs.declared.CellAnswer.{CellAnswer}
 use Rattle.answers.specs.Says.{refused, says_cell}
 use Rattle.just_c.specs.InC.{cell_in}
-use mathlib.Core.Path.{◌≡◌, refl, sym, ap, ◌∙◌}
-use borrow.Author.Rules.{rules}
+use mathlib.Core.Path.{sym, ap, ◌∙◌}
 use Rattle.just_c.proofs.cell_out.Goals as goal
 
 pub returns-in-Cell : goal.returns-in-Cell

@@ -3,8 +3,7 @@ use Prim.Native.Nat.{ℕ}
 use Rattle.answers.specs.declared.Checked.{Checked}
 use Rattle.answers.specs.Says.{barred, says_checked}
 use Rattle.just_c.specs.InC.{checked_in}
-use mathlib.Core.Path.{◌≡◌, refl, sym, ap, ◌∙◌}
-use borrow.Author.Rules.{rules}
+use mathlib.Core.Path.{sym, ap, ◌∙◌}
 use Rattle.just_c.proofs.checked_out.Goals as goal
 
 pub returns-in-Accepted : goal.returns-in-Accepted

@@ -3,8 +3,7 @@ use Prim.Native.Nat.{ℕ}
 use Rattle.answers.specs.declared.ClassAnswer.{ClassAnswer}
 use Rattle.answers.specs.Says.{refused, says_class}
 use Rattle.just_c.specs.InC.{class_in}
-use mathlib.Core.Path.{◌≡◌, refl, sym, ap, ◌∙◌}
-use borrow.Author.Rules.{rules}
+use mathlib.Core.Path.{sym, ap, ◌∙◌}
 use Rattle.just_c.proofs.class_out.Goals as goal
 
 pub returns-in-Class : goal.returns-in-Class

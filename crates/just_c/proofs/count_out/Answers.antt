@@ -3,8 +3,7 @@ use Prim.Native.Nat.{ℕ}
 use Rattle.answers.specs.declared.CountAnswer.{CountAnswer}
 use Rattle.answers.specs.Says.{refused, says_count}
 use Rattle.just_c.specs.InC.{count_in}
-use mathlib.Core.Path.{◌≡◌, refl, sym, ap, ◌∙◌}
-use borrow.Author.Rules.{rules}
+use mathlib.Core.Path.{sym, ap, ◌∙◌}
 use Rattle.just_c.proofs.count_out.Goals as goal
 
 pub returns-in-Count : goal.returns-in-Count

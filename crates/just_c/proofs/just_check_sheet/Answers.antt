@@ -1,6 +1,5 @@
 -- `just_c::just_check_sheet` meets its contract.
 use Rattle.answers.specs.Says.{says_checked}
-use borrow.Author.Rules.{rules}
 use Rattle.just_c.proofs.just_check_sheet.Goals as goal
 
 pub returns : goal.returns

@@ -1,7 +1,6 @@
 -- `just_c::just_check_table` meets its contract.
 use Rattle.just_c.specs.InC.{checked_in}
-use mathlib.Core.Path.{◌≡◌, ap, ◌∙◌}
-use borrow.Author.Rules.{rules}
+use mathlib.Core.Path.{ap, ◌∙◌}
 use Rattle.just_c.proofs.just_check_table.Goals as goal
 
 pub returns : goal.returns

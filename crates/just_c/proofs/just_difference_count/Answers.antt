@@ -1,7 +1,6 @@
 -- `just_c::just_difference_count` meets its contract.
 use Rattle.just_c.specs.InC.{count_in}
 use mathlib.Core.Path.{ap, ◌∙◌}
-use borrow.Author.Rules.{rules}
 use Rattle.just_c.proofs.just_difference_count.Goals as goal
 
 pub returns : goal.returns

@@ -1,6 +1,5 @@
 -- `just_c::just_differences` meets its contract.
 use Rattle.just_c.proofs.Laws.{listed-given}
-use borrow.Author.Rules.{rules}
 use Rattle.just_c.proofs.just_differences.Goals as goal
 
 pub returns : goal.returns

@@ -4,8 +4,7 @@ use Rattle.sheet_ask.specs.Calls.{SheetReply}
 use Rattle.just_c.proofs.Laws.{action-given}
 use Rattle.meaning.specs.Ask.{along, action}
 use Rattle.answers.specs.Says.{says_action}
-use mathlib.Core.Path.{◌≡◌, refl, sym, ap, subst, ◌∙◌}
-use borrow.Author.Rules.{rules}
+use mathlib.Core.Path.{refl, subst, ◌∙◌}
 use Rattle.just_c.proofs.just_sheet_action.Goals as goal
 
 pub returns : goal.returns

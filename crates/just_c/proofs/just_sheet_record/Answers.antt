@@ -1,10 +1,9 @@
 -- `just_c::just_sheet_record` meets its contract.
 use Rattle.types.specs.declared.Direction.{Direction}
 use Rattle.sheet_ask.specs.Calls.{SheetReply}
-use Rattle.meaning.specs.Ask.{along, sizes, class, cell, width}
+use Rattle.meaning.specs.Ask.{along, width}
 use Rattle.answers.specs.Says.{says_record}
-use mathlib.Core.Path.{◌≡◌, refl, sym, ap, subst, ◌∙◌}
-use borrow.Author.Rules.{rules}
+use mathlib.Core.Path.{subst}
 use Rattle.just_c.proofs.just_sheet_record.Goals as goal
 
 pub returns : goal.returns

@@ -5,8 +5,7 @@ use Rattle.table.specs.Table.{table_fault}
 use Rattle.types.specs.declared.Direction.{Direction}
 use Rattle.just_c.proofs.Laws.{action-given}
 use Rattle.answers.specs.Says.{unless_bad, room_after}
-use mathlib.Core.Path.{◌≡◌, refl, sym, ap, ◌∙◌}
-use borrow.Author.Rules.{rules}
+use mathlib.Core.Path.{ap, ◌∙◌}
 use Rattle.just_c.proofs.just_table_action.Goals as goal
 
 pub returns : goal.returns

@@ -5,7 +5,6 @@ use native.Mathlib.Omega.{arith}
 use Prim.Native.Nat.{ℕ, ◌-◌}
 use Rattle.just_c.specs.InC.{stretch_in}
 use mathlib.Core.Path.{◌≡◌, ap, ◌∙◌}
-use borrow.Author.Rules.{rules}
 use Rattle.just_c.proofs.just_table_components.Goals as goal
 
 pub returns-then-to-from : goal.returns-then-to-from

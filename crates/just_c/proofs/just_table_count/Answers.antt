@@ -1,7 +1,6 @@
 -- `just_c::just_table_count` meets its contract.
 use Rattle.just_c.specs.InC.{count_in}
-use mathlib.Core.Path.{◌≡◌, refl, sym, ap, ◌∙◌}
-use borrow.Author.Rules.{rules}
+use mathlib.Core.Path.{ap, ◌∙◌}
 use Rattle.just_c.proofs.just_table_count.Goals as goal
 
 pub returns : goal.returns

@@ -1,7 +1,6 @@
 -- `just_c::just_table_sheet_length` meets its contract.
 use Rattle.just_c.specs.WriterInC.{length_in}
-use mathlib.Core.Path.{◌≡◌, ap, ◌∙◌}
-use borrow.Author.Rules.{rules}
+use mathlib.Core.Path.{ap, ◌∙◌}
 use Rattle.just_c.proofs.just_table_sheet_length.Goals as goal
 
 pub returns : goal.returns

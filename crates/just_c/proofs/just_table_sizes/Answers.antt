@@ -1,12 +1,11 @@
 -- `just_c::just_table_sizes` meets its contract.
-use Rattle.meaning.specs.Ask.{ask, along, sizes, class, cell, width}
+use Rattle.meaning.specs.Ask.{ask, along, sizes}
 use Rattle.table.specs.Means.{meaning_of}
 use Rattle.table.specs.Table.{table_fault}
 use Rattle.types.specs.declared.Direction.{Direction}
 use Rattle.answers.specs.Says.{unless_bad}
 use Rattle.just_c.specs.InC.{sizes_in}
-use mathlib.Core.Path.{◌≡◌, refl, sym, ap, ◌∙◌}
-use borrow.Author.Rules.{rules}
+use mathlib.Core.Path.{ap, ◌∙◌}
 use Rattle.just_c.proofs.just_table_sizes.Goals as goal
 
 pub returns : goal.returns

@@ -4,7 +4,6 @@ use Rattle.table_find.specs.Values.{value_asked}
 use Rattle.lookup_targets.specs.declared.Kind.{Kind}
 use Rattle.types.specs.declared.Direction.{Direction}
 use mathlib.Core.Path.{ap, ap₂, ◌∙◌}
-use borrow.Author.Rules.{rules}
 use Rattle.just_c.proofs.just_table_value.Goals as goal
 
 pub returns : goal.returns

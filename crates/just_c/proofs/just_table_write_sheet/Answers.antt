@@ -1,6 +1,5 @@
 -- `just_c::just_table_write_sheet` meets its contract.
 use Rattle.just_c.proofs.Laws.{outcome-given}
-use borrow.Author.Rules.{rules}
 use Rattle.just_c.proofs.just_table_write_sheet.Goals as goal
 
 pub returns : goal.returns

@@ -2,7 +2,6 @@
 use Rattle.sheet_write.specs.Written.{says_length}
 use Rattle.just_c.proofs.Laws.{length-given, length-refused}
 use mathlib.Core.Path.{ap, ◌∙◌}
-use borrow.Author.Rules.{rules}
 use Rattle.just_c.proofs.length_out.Goals as goal
 
 pub returns-in-Length : goal.returns-in-Length

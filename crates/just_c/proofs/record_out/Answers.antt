@@ -5,8 +5,7 @@ use Prim.Native.Nat.{ℕ}
 use Rattle.answers.specs.declared.RecordAnswer.{RecordAnswer}
 use Rattle.answers.specs.Says.{says_record}
 use Rattle.just_c.specs.InC.{record_in}
-use mathlib.Core.Path.{◌≡◌, refl, sym, ap, ap₂, ◌∙◌}
-use borrow.Author.Rules.{rules}
+use mathlib.Core.Path.{sym, ap, ap₂, ◌∙◌}
 use Rattle.just_c.proofs.record_out.Goals as goal
 
 pub returns-in-Record : goal.returns-in-Record

@@ -3,8 +3,7 @@ use Prim.Native.Nat.{ℕ}
 use Rattle.answers.specs.declared.SizesAnswer.{SizesAnswer}
 use Rattle.answers.specs.Says.{refused, says_sizes}
 use Rattle.just_c.specs.InC.{sizes_in}
-use mathlib.Core.Path.{◌≡◌, refl, sym, ap, ◌∙◌}
-use borrow.Author.Rules.{rules}
+use mathlib.Core.Path.{sym, ap, ◌∙◌}
 use Rattle.just_c.proofs.sizes_out.Goals as goal
 
 pub returns-in-Sizes : goal.returns-in-Sizes

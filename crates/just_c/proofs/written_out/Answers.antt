@@ -2,7 +2,6 @@
 use Rattle.sheet_write.specs.Written.{says_written}
 use Rattle.just_c.proofs.Laws.{length-given, length-refused}
 use mathlib.Core.Path.{ap, ◌∙◌}
-use borrow.Author.Rules.{rules}
 use Rattle.just_c.proofs.written_out.Goals as goal
 
 pub returns-in-Written : goal.returns-in-Written

@@ -1,10 +1,8 @@
 -- `line_call::copy_classes` meets its contract.
-use native.Mathlib.Omega.{arith}
-use lib.ListN.{length, drop, take, length-set}
+use lib.ListN.{length, drop, take}
 use Prim.Native.Nat.{◌-◌, ◌≤◌}
 use mathlib.Core.List.{◌++◌}
-use mathlib.Core.Path.{◌≡◌, refl}
-use Rattle.line_call.proofs.Copies.{copy-again, copy-end}
+use mathlib.Core.Path.{◌≡◌}
 use Rattle.line_call.proofs.copy_classes.Given as goal
 
 abbrev pub invariant-loop-i : goal.invariant-loop-i

@@ -7,7 +7,6 @@ use Rattle.meaning.specs.Ask.{side_of}
 use Rattle.line_rule.specs.Line.{verdicts_of}
 use Rattle.line_rule.specs.Shape.{line_by}
 use Rattle.line_call.proofs.Outcomes.{tells-refused, tells-longer, input-clear, whole-bad, whole-clear, room-enough, part_length}
-use borrow.Author.Rules.{rules}
 use Rattle.line_call.proofs.settle.Goals as goal
 
 pub returns-in-Bad : goal.returns-in-Bad

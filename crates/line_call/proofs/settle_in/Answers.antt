@@ -5,7 +5,6 @@ use lib.ListN.{length, length-replicate}
 use Rattle.line_verdicts.proofs.Laws.{lists-few}
 use Rattle.line_call.specs.Steps.{side_in, called_line}
 use Rattle.line_call.proofs.Outcomes.{settled-bad, settled-done, deliverable}
-use borrow.Author.Rules.{rules}
 use Rattle.line_call.proofs.settle_in.Goals as goal
 
 pub deliver-requires : goal.deliver-requires

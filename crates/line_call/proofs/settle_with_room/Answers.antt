@@ -5,7 +5,6 @@ use lib.ListN.{length}
 use Rattle.share.proofs.Lines.{zeros-take}
 use Rattle.line_call.specs.Steps.{WorkRoom}
 use Rattle.line_call.proofs.Outcomes.{prefix-length}
-use borrow.Author.Rules.{rules}
 use Rattle.line_call.proofs.settle_with_room.Goals as goal
 
 pub slice_bounds-settle_in-end : goal.slice_bounds-settle_in-end

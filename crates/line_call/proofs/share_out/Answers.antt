@@ -6,7 +6,6 @@ use Rattle.line_call.specs.Steps.{side_in, called_line}
 use Rattle.line_input.proofs.Gaps.{as_read}
 use Rattle.line_input.proofs.Tests.{known-each}
 use Rattle.line_call.proofs.Work.{gap-found, gap-none, bad-advances, bad-glyph, bad-walk, work-over, narrow-fits, narrowed, work-done}
-use borrow.Author.Rules.{rules}
 use Rattle.line_call.proofs.share_out.Goals as goal
 
 pub returns-in_default : goal.returns-in_default
@@ -20,7 +19,7 @@ pub line_walk-walked-requires : goal.line_walk-walked-requires
 line_walk-walked-requires c =
     let a = c.args in
     let p = c.requires in
-    record { count_value = (p.0.accepted, p.0.short);  known_glyphs = (known-each a.call.count a.glyphs.now (sym c.all_known.ensures ∙ c.if-all_known.true), p.1.classes) }
+    record { count_value = (p.0.accepted, p.0.short); known_glyphs = (known-each a.call.count a.glyphs.now (sym c.all_known.ensures ∙ c.if-all_known.true), p.1.classes) }
 
 pub share_glyphs-shared-requires : goal.share_glyphs-shared-requires
 share_glyphs-shared-requires c =
@@ -30,7 +29,7 @@ share_glyphs-shared-requires c =
     let p = c.requires in
     let w = walk-ended s.machine l c.line_walk-walked.result _ c.line_walk-walked.ensures c.if-walked.true in
     let g = gap-found l (as_read a.call.shape.target c.struct_told-1.given.1.1.1.0.1) c.in-Of.gap (sym c.gap_of.ensures ∙ c.in-Of.is) in
-    record { sharable = (record { accepted = p.0.accepted; short = p.0.short; sizes = p.0.sizes; small = p.0.small; classes = ap length w.classes ∙ w.each }, g.small);  factors_len = (p.1.work, p.1.moves) }
+    record { sharable = (record { accepted = p.0.accepted; short = p.0.short; sizes = p.0.sizes; small = p.0.small; classes = ap length w.classes ∙ w.each }, g.small); factors_len = (p.1.work, p.1.moves) }
 
 pub returns-in_default-shared : goal.returns-in_default-shared
 returns-in_default-shared c =

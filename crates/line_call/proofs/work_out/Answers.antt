@@ -6,7 +6,6 @@ use lib.ListN.{length, length-replicate}
 use Rattle.line_call.specs.Steps.{side_in, called_line}
 use Rattle.line_input.proofs.Gaps.{as_read}
 use Rattle.line_call.proofs.Outcomes.{has-moves, counted-bad, counted-short, counted-done}
-use borrow.Author.Rules.{rules}
 use Rattle.line_call.proofs.work_out.Goals as goal
 
 pub returns-in_default : goal.returns-in_default

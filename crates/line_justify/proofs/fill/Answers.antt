@@ -1,4 +1,4 @@
-use Rattle.std.proofs.Common.{◌≡◌, ◌<◌, ◌+◌, List, length, set, sym, ap, ◌∙◌, arith, add-one}
+use Rattle.std.proofs.Common.{◌≡◌, ◌<◌, List, length, set, sym, ap, ◌∙◌, arith, add-one}
 use Rattle.types.specs.declared.Verdict.{Verdict}
 use Rattle.line_verdicts.specs.Bits.{told, left_at}
 use Rattle.line_justify.specs.Stored.{filled_with}
@@ -26,11 +26,13 @@ loop-i-preserved c =
     let r = c.next_verdict-step in
     let room : l.i < length a.list.now = omega (arith, c.requires.room, c.loop-i-test.true) in
     let next = taken-verdict a.bits.now l.i l.cursor l.invariant.2 r.result r.ensures.0 in
-    rw add-one (omega arith,
-     c.store.ensures
-         ∙ ap (λ (xs : List Verdict). set xs l.i r.result.verdict) l.invariant.1
-         ∙ stored_next (told a.bits.now) a.list.now l.i r.result.verdict (left_at a.bits.now r.result.past) next room,
-     taken_next a.bits.now l.i l.cursor l.invariant.2 r.result r.ensures.0 r.ensures.1)
+    rw add-one (
+      omega arith,
+      c.store.ensures
+          ∙ ap (λ (xs : List Verdict). set xs l.i r.result.verdict) l.invariant.1
+          ∙ stored_next (told a.bits.now) a.list.now l.i r.result.verdict (left_at a.bits.now r.result.past) next room,
+      taken_next a.bits.now l.i l.cursor l.invariant.2 r.result r.ensures.0 r.ensures.1,
+    )
 
 pub returns : goal.returns
 returns c =

@@ -1,6 +1,5 @@
 -- `line_moves::extra_of` meets its contract.
 use mathlib.Core.Path.{sym, ◌∙◌}
-use borrow.Author.Rules.{rules}
 use Rattle.line_moves.proofs.extra_of.Goals as goal
 
 pub returns-then-is_unlimited : goal.returns-then-is_unlimited

@@ -2,7 +2,6 @@
 use mathlib.Core.Path.{refl}
 use Rattle.line_moves.specs.Parts.{glyph_of}
 use Rattle.line_moves.proofs.Parts.{laying}
-use borrow.Author.Rules.{rules}
 use Rattle.line_moves.proofs.lay_part.Goals as goal
 
 pub returns : goal.returns

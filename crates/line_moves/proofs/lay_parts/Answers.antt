@@ -1,13 +1,9 @@
-use Prim.Native.Nat.{◌-◌, ◌≤◌, ◌<◌}
+use Prim.Native.Nat.{◌<◌}
 use native.Mathlib.Omega.{arith}
-use lib.ListN.{length}
 use Rattle.cluster.specs.Pairs.{sought_pair}
 use Rattle.table.specs.Means.{meaning_of}
 use Rattle.meaning.specs.Ask.{side_of}
-use Rattle.line_rule.specs.Line.{parts_of}
-use Rattle.line_moves.specs.Parts.{glyph_of, Layable}
-use Rattle.line_moves.proofs.Parts.{parts-count, part-plain, may-lay, comes-next, Filling, filling-start, filling-on, filling-end, Summing, summing_start, summing_on, summing-end}
-use borrow.Author.Rules.{rules}
+use Rattle.line_moves.proofs.Parts.{parts-count, part-plain, may-lay, comes-next, filling-start, filling-on, filling-end, summing_start, summing_on, summing-end}
 use Rattle.line_moves.proofs.lay_parts.Goals as goal
 
 pub loop-i-init : goal.loop-i-init
@@ -27,7 +23,7 @@ pub bounds-classes-i : goal.bounds-classes-i
 bounds-classes-i c = omega (arith, c.requires.sharable.classes)
 
 pub record_for-sought-requires : goal.record_for-sought-requires
-record_for-sought-requires c = record { count_value = c.requires.sharable.accepted;  clusters_value = c.lookup_in-clusters.ensures }
+record_for-sought-requires c = record { count_value = c.requires.sharable.accepted; clusters_value = c.lookup_in-clusters.ensures }
 
 pub offset_bounds-sizes-i : goal.offset_bounds-sizes-i
 offset_bounds-sizes-i c = omega arith
@@ -46,7 +42,7 @@ lay_part-requires c =
     let l = c.loop-i in
     let q = parts-count s a.shrink w in
     let e = c.part_of-part.ensures in
-    record { part_of = (part-plain e, may-lay s a.shrink w _ l.i (sought_pair c.record_for-sought.result) e c.record_for-sought.ensures.1);  place_in_bounds = (omega (arith, q, l.invariant.1.room), omega (arith, q, l.invariant.1.space)) }
+    record { part_of = (part-plain e, may-lay s a.shrink w _ l.i (sought_pair c.record_for-sought.result) e c.record_for-sought.ensures.1); place_in_bounds = (omega (arith, q, l.invariant.1.room), omega (arith, q, l.invariant.1.space)) }
 
 pub overflow_cast-sums : goal.overflow_cast-sums
 overflow_cast-sums c = omega arith

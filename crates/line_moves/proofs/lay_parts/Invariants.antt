@@ -1,14 +1,10 @@
 -- `line_moves::lay_parts` meets its contract.
-use Prim.Native.Nat.{◌-◌, ◌≤◌, ◌<◌}
-use native.Mathlib.Omega.{arith}
+use Prim.Native.Nat.{◌-◌, ◌≤◌}
 use lib.ListN.{length}
-use Rattle.cluster.specs.Pairs.{sought_pair}
 use Rattle.table.specs.Means.{meaning_of}
 use Rattle.meaning.specs.Ask.{side_of}
 use Rattle.line_rule.specs.Line.{parts_of}
-use Rattle.line_moves.specs.Parts.{glyph_of, Layable}
-use Rattle.line_moves.proofs.Parts.{parts-count, part-plain, may-lay, comes-next, Filling, filling-start, filling-on, filling-end, Summing, summing_start, summing_on, summing-end}
-use borrow.Author.Rules.{rules}
+use Rattle.line_moves.proofs.Parts.{Filling, Summing}
 use Rattle.line_moves.proofs.lay_parts.Given as goal
 
 abbrev pub invariant-loop-i : goal.invariant-loop-i

@@ -3,7 +3,6 @@ use Prim.Native.Nat.{ℕ, ◌+◌, ◌<◌, ◌^◌}
 use mathlib.Core.List.{List}
 use mathlib.Core.Path.{sym, ap, ◌∙◌}
 use native.Mathlib.Omega.{arith}
-use borrow.Author.Rules.{rules}
 use Rattle.class_walk.specs.Walk.{stopped}
 use Rattle.class_walk.proofs.Line.{handed-stopped, handed-same}
 use Rattle.line_moves.proofs.Walks.{no_walk_lem, a-walk, machine-clear, sound, columns}
@@ -25,7 +24,7 @@ walk_line-requires c =
     let o = m.result in
     let clear = machine-clear a.table.now a.count a.shape.direction o m.ensures.0 p.count_value.0 c.if-offset-eq0.false in
     let near : o + 8 < 2 ^ 32 = omega (arith, m.ensures.1) in
-    record { sound_machine = (sound a.table.now a.count (o + 8) near clear, columns a.table.now a.count (o + 8) near clear a.glyphs.now p.count_value.1 p.known_glyphs.0);  classes_value = p.known_glyphs.1 }
+    record { sound_machine = (sound a.table.now a.count (o + 8) near clear, columns a.table.now a.count (o + 8) near clear a.glyphs.now p.count_value.1 p.known_glyphs.0); classes_value = p.known_glyphs.1 }
 
 pub returns : goal.returns
 returns c =

@@ -3,7 +3,6 @@ use mathlib.Core.Path.{refl, ap, subst}
 use Rattle.cluster.specs.Pairs.{sought_pair}
 use Rattle.line_moves.specs.Parts.{PartOf}
 use Rattle.line_moves.proofs.Parts.{part_apart, part-shrinks, part-grows, small-shrink, small-grow, is-size, part-wide}
-use borrow.Author.Rules.{rules}
 use Rattle.line_moves.proofs.part_of.Goals as goal
 
 pub returns-in_default : goal.returns-in_default

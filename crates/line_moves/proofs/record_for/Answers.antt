@@ -4,7 +4,6 @@ use Rattle.line_moves.specs.Parts.{Small}
 use native.Mathlib.Omega.{arith}
 use Rattle.table_ask.proofs.Steps.{below_at, spot-found, lookup-sound}
 use Rattle.line_moves.proofs.Parts.{record_is, record-limits}
-use borrow.Author.Rules.{rules}
 use Rattle.line_moves.proofs.record_for.Goals as goal
 
 pub spot_by-requires : goal.spot_by-requires

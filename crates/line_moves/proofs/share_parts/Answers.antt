@@ -10,7 +10,6 @@ use Rattle.table.specs.Means.{meaning_of}
 use Rattle.share.proofs.Signs.{wide_fits, widened}
 use Rattle.share.specs.Line.{signed_of}
 use Rattle.line_moves.proofs.Sharing.{laid-moves, laid-left, test-sides, test-line, line-sides, left-small, shared-left, shared-over, by_sign}
-use borrow.Author.Rules.{rules}
 use Rattle.line_moves.proofs.share_parts.Goals as goal
 
 pub share_line-left-requires : goal.share_line-left-requires
@@ -20,7 +19,7 @@ share_line-left-requires c =
     let k = c.shrinks-shrink.result in
     let w = c.lay_parts-totals.ensures in
     let e = c.sides-1.given ∙ p.sides_len.0 in
-    record { sides = (line-sides k a.shape.direction (λ i. (c.shared_slice_known-1.given i).fits) p.sharable.0 w.laid e (c.factors-1.given ∙ p.sides_len.1), p.sides_len.2 ∙ ap (λ (n : ℕ). replicate {A = ℕ} n 0) (sym e));  gap_bound = (omega (arith, c.size_of.ensures, p.sharable.1), w.totals, test-sides w c.totals_fit.ensures ∙ c.if-totals_fit.true) }
+    record { sides = (line-sides k a.shape.direction (λ i. (c.shared_slice_known-1.given i).fits) p.sharable.0 w.laid e (c.factors-1.given ∙ p.sides_len.1), p.sides_len.2 ∙ ap (λ (n : ℕ). replicate {A = ℕ} n 0) (sym e)); gap_bound = (omega (arith, c.size_of.ensures, p.sharable.1), w.totals, test-sides w c.totals_fit.ensures ∙ c.if-totals_fit.true) }
 
 pub signed-remainder-requires : goal.signed-remainder-requires
 signed-remainder-requires c =

@@ -1,5 +1,4 @@
 -- `line_moves::stage_of` meets its contract.
-use borrow.Author.Rules.{rules}
 use Rattle.line_moves.proofs.stage_of.Goals as goal
 
 pub returns : goal.returns

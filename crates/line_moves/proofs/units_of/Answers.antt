@@ -3,7 +3,6 @@ use mathlib.Core.Path.{ap, ◌∙◌}
 use lib.IntN.{ℤ, nat_abs}
 use Rattle.units.specs.Fixed.{factor_of}
 use Rattle.line_moves.proofs.Parts.{factor-plain}
-use borrow.Author.Rules.{rules}
 use Rattle.line_moves.proofs.units_of.Goals as goal
 
 pub returns : goal.returns

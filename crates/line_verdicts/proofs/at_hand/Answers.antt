@@ -1,10 +1,10 @@
-use Prim.Native.Nat.{◌+◌, ◌-◌, ◌*◌, ◌<◌}
+use Prim.Native.Nat.{◌*◌, ◌<◌}
 use mathlib.Core.List.{List}
-use mathlib.Core.Path.{◌≡◌, refl, ◌∙◌, subst}
+use mathlib.Core.Path.{refl, ◌∙◌, subst}
 use native.Mathlib.Omega.{arith}
 use lib.ListN.{length}
 use Rattle.types.specs.declared.Verdict.{Verdict}
-use Rattle.line_verdicts.proofs.Told.{told_at, told-inside, told-pass, told-begun, left-spent, hand-left, begun-serves}
+use Rattle.line_verdicts.proofs.Told.{told-inside, told-pass, told-begun, left-spent, hand-left, begun-serves}
 use Rattle.line_verdicts.proofs.at_hand.Goals as goal
 
 pub returns-then-cursor-ne0 : goal.returns-then-cursor-ne0

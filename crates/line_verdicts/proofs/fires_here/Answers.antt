@@ -2,7 +2,6 @@
 use mathlib.Core.Path.{sym, ap, ◌∙◌}
 use Rattle.line_verdicts.specs.Bits.{fires_number}
 use Rattle.line_verdicts.proofs.Laws.{other-class, own-class}
-use borrow.Author.Rules.{rules}
 use Rattle.line_verdicts.proofs.fires_here.Goals as goal
 
 pub returns-then-u16_in-class : goal.returns-then-u16_in-class

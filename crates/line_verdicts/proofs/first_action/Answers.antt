@@ -1,7 +1,6 @@
-use Prim.Native.Nat.{◌-◌, ◌<◌, ◌^◌}
-use mathlib.Core.Path.{◌≡◌, refl, ◌∙◌}
+use Prim.Native.Nat.{◌-◌}
+use mathlib.Core.Path.{refl, ◌∙◌}
 use native.Mathlib.Omega.{arith}
-use Rattle.line_verdicts.specs.Bits.{tell_from}
 use Rattle.line_verdicts.proofs.Told.{number-left, low-next, tell-pass, tell-take}
 use Rattle.line_verdicts.proofs.first_action.Goals as goal
 

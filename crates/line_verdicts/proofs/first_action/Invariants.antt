@@ -1,9 +1,7 @@
 -- `line_verdicts::first_action` meets its contract.
 use Prim.Native.Nat.{◌-◌, ◌<◌, ◌^◌}
-use mathlib.Core.Path.{◌≡◌, refl, ◌∙◌}
-use native.Mathlib.Omega.{arith}
+use mathlib.Core.Path.{◌≡◌}
 use Rattle.line_verdicts.specs.Bits.{tell_from}
-use Rattle.line_verdicts.proofs.Told.{number-left, low-next, tell-pass, tell-take}
 use Rattle.line_verdicts.proofs.first_action.Given as goal
 
 abbrev pub invariant-loop-fires : goal.invariant-loop-fires

@@ -3,7 +3,6 @@ use Prim.Native.Nat.{◌+◌, ◌*◌}
 use mathlib.Core.Path.{◌∙◌}
 use native.Mathlib.Omega.{arith}
 use Rattle.share.proofs.Signs.{wide_fits, widened}
-use borrow.Author.Rules.{rules}
 use Rattle.line_verdicts.proofs.growth_at.Goals as goal
 
 pub overflow_add-both-2 : goal.overflow_add-both-2

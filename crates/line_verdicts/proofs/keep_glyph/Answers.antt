@@ -11,7 +11,6 @@ use Rattle.table_ask.proofs.Steps.{spot-found, lookup-sound}
 use Rattle.line_verdicts.specs.Bits.{Keeps}
 use Rattle.line_verdicts.proofs.Laws.{list-here, list-there, clear-there, spot-below}
 use Rattle.line_verdicts.proofs.Bits.{keeps-none}
-use borrow.Author.Rules.{rules}
 use Rattle.line_verdicts.proofs.keep_glyph.Goals as goal
 
 pub spot_by-requires : goal.spot_by-requires

@@ -5,7 +5,7 @@ use Rattle.actions.specs.Actions.{action_at}
 use Rattle.verdict.specs.Verdict.{fires_of}
 use Rattle.line_verdicts.specs.Bits.{note_action}
 use Rattle.line_verdicts.proofs.Laws.{first-inside}
-use Rattle.line_verdicts.proofs.Bits.{Noting, noting-start, note-room, noting-next, noting-end}
+use Rattle.line_verdicts.proofs.Bits.{noting-start, note-room, noting-next, noting-end}
 use Rattle.line_verdicts.proofs.keep_list.Goals as goal
 
 pub loop-left-init : goal.loop-left-init

@@ -1,14 +1,13 @@
-use Prim.Native.Nat.{◌-◌, ◌*◌}
+use Prim.Native.Nat.{◌*◌}
 use mathlib.Core.List.{map}
 use mathlib.Core.Path.{sym, ◌∙◌}
 use native.Mathlib.Omega.{arith}
-use lib.ListN.{length, length-set}
+use lib.ListN.{length-set}
 use Rattle.meaning.specs.Ask.{side_of}
 use Rattle.share.specs.Line.{signed_of, evens, odds}
 use Rattle.table.specs.Means.{meaning_of}
 use Rattle.line_verdicts.proofs.Laws.{lists-few, lists-none, verdicts-few, verdicts-none}
-use Rattle.line_verdicts.proofs.Line.{Keeping, keeping_start, keeping-most, keeping-next, keeping-end}
-use borrow.Author.Rules.{rules}
+use Rattle.line_verdicts.proofs.Line.{keeping_start, keeping-most, keeping-next, keeping-end}
 use Rattle.line_verdicts.proofs.keep_verdicts.Goals as goal
 
 pub returns-in-Absent : goal.returns-in-Absent
@@ -43,7 +42,7 @@ pub bounds-classes-place : goal.bounds-classes-place
 bounds-classes-place c = omega (arith, c.requires.0.fits.classes)
 
 pub keep_glyph-kept-requires : goal.keep_glyph-kept-requires
-keep_glyph-kept-requires c = record { count_value = c.requires.0.accepted;  lists_value = c.lookup_in-lists.ensures }
+keep_glyph-kept-requires c = record { count_value = c.requires.0.accepted; lists_value = c.lookup_in-lists.ensures }
 
 pub overflow_mul-bits : goal.overflow_mul-bits
 overflow_mul-bits c = omega (arith, c.requires.0.fits.few)

@@ -1,15 +1,9 @@
 -- `line_verdicts::keep_verdicts` meets its contract.
-use Prim.Native.Nat.{◌-◌, ◌*◌}
-use mathlib.Core.List.{map}
-use mathlib.Core.Path.{sym, ◌∙◌}
-use native.Mathlib.Omega.{arith}
-use lib.ListN.{length, length-set}
+use Prim.Native.Nat.{◌-◌}
+use lib.ListN.{length}
 use Rattle.meaning.specs.Ask.{side_of}
-use Rattle.share.specs.Line.{signed_of, evens, odds}
 use Rattle.table.specs.Means.{meaning_of}
-use Rattle.line_verdicts.proofs.Laws.{lists-few, lists-none, verdicts-few, verdicts-none}
-use Rattle.line_verdicts.proofs.Line.{Keeping, keeping_start, keeping-most, keeping-next, keeping-end}
-use borrow.Author.Rules.{rules}
+use Rattle.line_verdicts.proofs.Line.{Keeping}
 use Rattle.line_verdicts.proofs.keep_verdicts.Given as goal
 
 abbrev pub invariant-loop-place : goal.invariant-loop-place

@@ -1,7 +1,6 @@
 -- `line_verdicts::next_verdict` meets its contract.
 use mathlib.Core.Path.{◌∙◌}
 use Rattle.line_verdicts.proofs.Told.{left-taken, serves-taken}
-use borrow.Author.Rules.{rules}
 use Rattle.line_verdicts.proofs.next_verdict.Goals as goal
 
 pub first_action-requires : goal.first_action-requires

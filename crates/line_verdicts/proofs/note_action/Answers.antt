@@ -1,6 +1,5 @@
 -- `line_verdicts::note_action` meets its contract.
 use Rattle.line_verdicts.proofs.Bits.{note-none, note-plain, note-substitutes}
-use borrow.Author.Rules.{rules}
 use Rattle.line_verdicts.proofs.note_action.Goals as goal
 
 pub returns-then-does-eq0 : goal.returns-then-does-eq0

@@ -4,7 +4,6 @@ use mathlib.Core.Path.{sym, ap, ◌∙◌}
 use lib.ListN.{drop}
 use Rattle.verdict.specs.Verdict.{type_fires}
 use Rattle.line_verdicts.specs.Bits.{fires_number}
-use borrow.Author.Rules.{rules}
 use Rattle.line_verdicts.proofs.own_fires.Goals as goal
 
 pub returns-in-No : goal.returns-in-No

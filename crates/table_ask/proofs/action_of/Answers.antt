@@ -9,7 +9,6 @@ use Rattle.meaning.specs.Ask.{Answer, act}
 use Rattle.meaning.specs.Meaning.{Action}
 use native.Mathlib.Omega.{arith}
 use mathlib.Core.Path.{sym, ap, ◌∙◌}
-use borrow.Author.Rules.{rules}
 use Rattle.table_ask.proofs.action_of.Goals as goal
 
 pub action_at-requires : goal.action_at-requires

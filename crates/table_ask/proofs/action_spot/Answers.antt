@@ -3,7 +3,6 @@ use Rattle.table_ask.proofs.Steps.{below_at}
 use Rattle.table_ask.specs.Places.{numbered, action_spot}
 use native.Mathlib.Omega.{arith}
 use mathlib.Core.Path.{sym, ap, ◌∙◌}
-use borrow.Author.Rules.{rules}
 use Rattle.table_ask.proofs.action_spot.Goals as goal
 
 pub spot_in_list-requires : goal.spot_in_list-requires

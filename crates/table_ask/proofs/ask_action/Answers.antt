@@ -4,7 +4,6 @@ use Rattle.table_ask.proofs.Steps.{judged}
 use Rattle.answers.specs.declared.ActionAnswer.{ActionAnswer}
 use Rattle.answers.specs.Says.{says_action, room_after}
 use mathlib.Core.Path.{sym, ap, ◌∙◌}
-use borrow.Author.Rules.{rules}
 use Rattle.table_ask.proofs.ask_action.Goals as goal
 
 pub action_of-requires : goal.action_of-requires

@@ -1,7 +1,6 @@
 -- `table_ask::ask_cell` meets its contract.
 use Rattle.table_ask.proofs.Steps.{judged}
 use mathlib.Core.Path.{sym, ◌∙◌}
-use borrow.Author.Rules.{rules}
 use Rattle.table_ask.proofs.ask_cell.Goals as goal
 
 pub returns-in-Clear : goal.returns-in-Clear

@@ -3,7 +3,6 @@ use Rattle.meaning.specs.Ask.{ask}
 use Rattle.table.specs.Means.{meaning_of}
 use Rattle.table_ask.proofs.Steps.{judged}
 use mathlib.Core.Path.{sym, ◌∙◌}
-use borrow.Author.Rules.{rules}
 use Rattle.table_ask.proofs.ask_count.Goals as goal
 
 pub returns-in-Clear : goal.returns-in-Clear

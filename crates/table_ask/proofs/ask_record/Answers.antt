@@ -1,7 +1,6 @@
 -- `table_ask::ask_record` meets its contract.
 use Rattle.table_ask.proofs.Steps.{judged}
 use mathlib.Core.Path.{sym, ◌∙◌}
-use borrow.Author.Rules.{rules}
 use Rattle.table_ask.proofs.ask_record.Goals as goal
 
 pub record_of-requires : goal.record_of-requires

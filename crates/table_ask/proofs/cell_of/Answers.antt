@@ -5,7 +5,6 @@ use Rattle.meaning.specs.Ask.{entry}
 use Rattle.types.specs.declared.Entry.{Entry}
 use native.Mathlib.Omega.{arith}
 use mathlib.Core.Path.{sym, ap, ◌∙◌}
-use borrow.Author.Rules.{rules}
 use Rattle.table_ask.proofs.cell_of.Goals as goal
 
 pub returns-then-offset-eq0 : goal.returns-then-offset-eq0

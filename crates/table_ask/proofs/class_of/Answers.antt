@@ -5,7 +5,6 @@ use Rattle.answers.specs.Says.{given}
 use Rattle.meaning.specs.Ask.{number}
 use Prim.Native.Nat.{ℕ}
 use mathlib.Core.Path.{sym, ap, ◌∙◌}
-use borrow.Author.Rules.{rules}
 use Rattle.table_ask.proofs.class_of.Goals as goal
 
 pub returns-then-count-glyph : goal.returns-then-count-glyph

@@ -3,7 +3,6 @@ use Rattle.table_ask.proofs.Steps.{below_at, unfaulted}
 use Rattle.table_ask.specs.Components.{components_here, components_of}
 use native.Mathlib.Omega.{arith}
 use mathlib.Core.Path.{sym, ap, ◌∙◌}
-use borrow.Author.Rules.{rules}
 use Rattle.table_ask.proofs.component_stretch.Goals as goal
 
 pub returns-in-Bad : goal.returns-in-Bad

@@ -3,7 +3,6 @@ use Rattle.table_ask.proofs.Laws.{Within, components-within}
 use Rattle.table_ask.specs.Components.{stretch}
 use native.Mathlib.Omega.{arith}
 use mathlib.Core.Path.{sym, subst}
-use borrow.Author.Rules.{rules}
 use Rattle.table_ask.proofs.components.Goals as goal
 
 pub slice_bounds-result-count : goal.slice_bounds-result-count

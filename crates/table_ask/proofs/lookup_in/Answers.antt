@@ -1,13 +1,11 @@
 -- `table_ask::lookup_in` meets its contract.
 use Rattle.table_ask.proofs.Steps.{headed-there}
 use Rattle.table_ask.specs.Places.{headed, lookup_in}
-use Rattle.lookup_targets.specs.declared.Source.{Source}
 use Rattle.lookup_targets.specs.Values.{NearSource}
 use Rattle.table.specs.Table.{source_at}
 use native.Mathlib.Omega.{arith}
 use mathlib.Core.Path.{ap, subst, sym, ◌∙◌}
 use Prim.Native.Nat.{ℕ}
-use borrow.Author.Rules.{rules}
 use Rattle.table_ask.proofs.lookup_in.Goals as goal
 
 pub returns-in_default : goal.returns-in_default

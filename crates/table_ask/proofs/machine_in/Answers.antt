@@ -2,7 +2,6 @@
 use Rattle.table_ask.specs.Places.{machine_in}
 use Rattle.table.specs.Table.{machine_place}
 use mathlib.Core.Path.{ap, ◌∙◌}
-use borrow.Author.Rules.{rules}
 use Rattle.table_ask.proofs.machine_in.Goals as goal
 
 pub returns : goal.returns

@@ -2,7 +2,6 @@
 use Rattle.table_ask.proofs.Steps.{spot-there}
 use Rattle.table_ask.specs.Places.{lookup_by}
 use mathlib.Core.Path.{refl, ◌∙◌}
-use borrow.Author.Rules.{rules}
 use Rattle.table_ask.proofs.place_by.Goals as goal
 
 pub returns : goal.returns

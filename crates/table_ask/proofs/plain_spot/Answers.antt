@@ -1,7 +1,6 @@
 -- `table_ask::plain_spot` meets its contract.
 use Rattle.table_ask.proofs.Steps.{below_at, from-near}
 use mathlib.Core.Path.{sym, ◌∙◌}
-use borrow.Author.Rules.{rules}
 use Rattle.table_ask.proofs.plain_spot.Goals as goal
 
 pub returns-in-At : goal.returns-in-At

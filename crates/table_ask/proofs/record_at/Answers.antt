@@ -5,7 +5,6 @@ use Rattle.meaning.specs.Ask.{pair, maybe}
 use Rattle.types.specs.declared.Pair.{Pair}
 use mathlib.Core.Option.{Option}
 use mathlib.Core.Path.{sym, ap, ◌∙◌}
-use borrow.Author.Rules.{rules}
 use Rattle.table_ask.proofs.record_at.Goals as goal
 
 pub returns-in-Record : goal.returns-in-Record

@@ -3,7 +3,6 @@ use Rattle.table_ask.proofs.Asked.{record-here}
 use Rattle.table_ask.proofs.Steps.{below_at}
 use Rattle.answers.specs.Says.{given}
 use mathlib.Core.Path.{sym, ap, ◌∙◌}
-use borrow.Author.Rules.{rules}
 use Rattle.table_ask.proofs.record_of.Goals as goal
 
 pub record_at-requires : goal.record_at-requires

@@ -6,7 +6,6 @@ use Rattle.meaning.specs.Ask.{both}
 use native.Mathlib.Omega.{arith}
 use Prim.Native.Nat.{ℕ, ◌+◌}
 use mathlib.Core.Path.{sym, ap, ap₂, ◌∙◌}
-use borrow.Author.Rules.{rules}
 use Rattle.table_ask.proofs.sizes_of.Goals as goal
 
 pub returns-then-offset-eq0 : goal.returns-then-offset-eq0

@@ -1,7 +1,6 @@
 -- `table_ask::spot_by` meets its contract.
 use Rattle.table_ask.proofs.Steps.{there-ready, there-base, there-sound, spot-there, spot-by-kind}
 use mathlib.Core.Path.{◌∙◌}
-use borrow.Author.Rules.{rules}
 use Rattle.table_ask.proofs.spot_by.Goals as goal
 
 pub find_range-found-requires : goal.find_range-found-requires

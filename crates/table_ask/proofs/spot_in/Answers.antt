@@ -1,7 +1,6 @@
 -- `table_ask::spot_in` meets its contract.
 use Rattle.table_ask.proofs.Steps.{spot-found, lookup-sound}
 use mathlib.Core.Path.{◌∙◌}
-use borrow.Author.Rules.{rules}
 use Rattle.table_ask.proofs.spot_in.Goals as goal
 
 pub spot_by-requires : goal.spot_by-requires

@@ -2,7 +2,6 @@
 use Rattle.table_find.proofs.Laws.{units-few, units-clear, units-bad}
 use native.Mathlib.Omega.{arith}
 use mathlib.Core.Path.{sym, ◌∙◌}
-use borrow.Author.Rules.{rules}
 use Rattle.table_find.proofs.ask_units.Goals as goal
 
 pub returns-in-Bad : goal.returns-in-Bad

@@ -2,7 +2,6 @@
 use mathlib.Core.Path.{sym, ◌∙◌}
 use Rattle.table_find.proofs.Steps.{asked-clear, asked-bad}
 use Rattle.table_ask.proofs.Steps.{lookup-sound}
-use borrow.Author.Rules.{rules}
 use Rattle.table_find.proofs.ask_value.Goals as goal
 
 pub value_by-requires : goal.value_by-requires

@@ -1,8 +1,6 @@
-use borrow.Author.Rules.{rules}
 use Rattle.table_find.proofs.Laws.{over-self, doubled, past, least-found}
 use native.Mathlib.Omega.{arith}
-use mathlib.Core.Path.{◌≡◌, refl}
-use Prim.Native.Nat.{ℕ, ◌+◌, ◌-◌, ◌≤◌, ◌<◌, ◌^◌}
+use mathlib.Core.Path.{refl}
 use Rattle.table_find.proofs.least_over.Goals as goal
 
 pub loop-power-init : goal.loop-power-init

@@ -1,8 +1,5 @@
 -- `table_find::least_over` meets its contract.
-use borrow.Author.Rules.{rules}
-use Rattle.table_find.proofs.Laws.{over-self, doubled, past, least-found}
-use native.Mathlib.Omega.{arith}
-use mathlib.Core.Path.{◌≡◌, refl}
+use mathlib.Core.Path.{◌≡◌}
 use Prim.Native.Nat.{ℕ, ◌+◌, ◌-◌, ◌≤◌, ◌<◌, ◌^◌}
 use Rattle.table_find.proofs.least_over.Given as goal
 

@@ -1,6 +1,5 @@
 -- `table_find::units_in` meets its contract.
 use Rattle.table_find.proofs.Laws.{units-there, units-absent}
-use borrow.Author.Rules.{rules}
 use Rattle.table_find.proofs.units_in.Goals as goal
 
 pub returns-in-There : goal.returns-in-There

@@ -5,7 +5,6 @@ use Rattle.table_find.specs.ValuesInC.{units_out}
 use Rattle.table_find.specs.declared.JustUnits.{JustUnits}
 use mathlib.Core.Path.{sym, ap, ◌∙◌}
 use Prim.Native.Nat.{ℕ}
-use borrow.Author.Rules.{rules}
 use Rattle.table_find.proofs.units_out.Goals as goal
 
 abbrev refused : ℕ → ℕ → JustUnits

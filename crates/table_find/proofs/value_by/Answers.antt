@@ -3,7 +3,6 @@ use Rattle.table_ask.proofs.Steps.{there-ready}
 use Rattle.table_find.proofs.Steps.{value_there}
 use Rattle.lookup_find.proofs.Laws.{looks-few}
 use native.Mathlib.Omega.{arith}
-use borrow.Author.Rules.{rules}
 use Rattle.table_find.proofs.value_by.Goals as goal
 
 pub find_by-looked-requires : goal.find_by-looked-requires

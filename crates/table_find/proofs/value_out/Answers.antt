@@ -6,7 +6,6 @@ use Rattle.table_find.specs.declared.JustValue.{JustValue}
 use mathlib.Core.Path.{sym, ap, ◌∙◌}
 use mathlib.Core.Bool.{false}
 use Prim.Native.Nat.{ℕ}
-use borrow.Author.Rules.{rules}
 use Rattle.table_find.proofs.value_out.Goals as goal
 
 abbrev refused : ℕ → ℕ → JustValue
