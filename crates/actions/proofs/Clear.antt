@@ -8,7 +8,7 @@ use borrow.Author.Tests.{le-leb, lt-ltb, eq-eqb, ne_eqb}
 use Rattle.fields.specs.declared.Fault.TheVariants.{Clear}
 use Rattle.fields.specs.declared.Refusal.TheVariants.{BadActions}
 use Rattle.fields.specs.Field.{u16_at, u32_at}
-use Rattle.fields.specs.Laws.{then-go, clear-inside, rule-clear}
+use Rattle.fields.proofs.Laws.{then-go, clear-inside, rule-clear}
 use Rattle.actions.specs.Faults.{glyph_fault, added_fault, count_fault, glyphs_fault, type0_fault, type2_fault, type4_fault, type5_fault, data_fault, data_size, length_fault, action_fault}
 use Rattle.actions.proofs.Steps.{added_none, added-some, glyph-inside}
 

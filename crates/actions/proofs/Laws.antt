@@ -14,7 +14,7 @@ use Rattle.fields.specs.declared.Fault.TheVariants.{Clear}
 use Rattle.fields.specs.declared.Refusal.TheVariants.{BadActions}
 use Rattle.fields.specs.Field.{u16_at, u32_at, Bytes}
 use Rattle.fields.specs.Walk.{walk}
-use Rattle.fields.specs.Laws.{then-first, then-second, rule-holds, inside-holds}
+use Rattle.fields.proofs.Laws.{then-first, then-second, rule-holds, inside-holds}
 use Rattle.meaning.specs.Meaning.{Action}
 use Rattle.actions.specs.declared.Spot.TheVariants.{At, Nowhere}
 use Rattle.actions.specs.declared.Stretch.{Stretch}

@@ -9,9 +9,10 @@ use lib.ListN.{get_or, set, replicate}
 use lib.Seq.{get_or-set_other}
 use Rattle.fields.specs.declared.Fault.{Fault}
 use Rattle.fields.specs.declared.Fault.TheVariants.{Clear}
-use Rattle.fields.specs.Laws.{then-first, then-second, then-go}
+use Rattle.fields.proofs.Laws.{then-first, then-second, then-go}
 use Rattle.fields.specs.Field.{u32_at}
-use Rattle.fields.specs.Walk.{walk, each, walk-next, walk_none}
+use Rattle.fields.specs.Walk.{walk, each}
+use Rattle.fields.proofs.Walk.{walk-next, walk_none}
 use Rattle.actions.specs.Faults.{action_fault, actions_fault}
 use Rattle.actions.specs.Notes.{Passed, Passing}
 

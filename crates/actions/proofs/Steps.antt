@@ -10,7 +10,7 @@ use Rattle.fields.specs.declared.Fault.TheVariants.{Clear, Bad}
 use Rattle.fields.specs.declared.Refusal.TheVariants.{Outside, BadActions}
 use Rattle.fields.specs.Field.{u16_at, u32_at}
 use Rattle.fields.specs.Faults.{◌then◌, rule, inside}
-use Rattle.fields.specs.Laws.{then-first, then-stop, then-clear, inside-holds, bad-inside}
+use Rattle.fields.proofs.Laws.{then-first, then-stop, then-clear, inside-holds, bad-inside}
 use Rattle.actions.specs.declared.Spot.TheVariants.{At, Nowhere}
 use Rattle.actions.specs.Faults.{glyph_fault, added_fault, type0_fault, type2_fault, type4_fault, type5_fault, data_fault, action_fault, actions_fault, list_fault}
 use Rattle.actions.specs.Actions.{place_after, spot_in_list, components_at}

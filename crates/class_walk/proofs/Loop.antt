@@ -8,7 +8,7 @@ use native.Mathlib.Omega.{arith}
 use lib.Dec.{leb}
 use lib.ListN.{length, get_or, replicate}
 use Rattle.fields.specs.Field.{u16_at, u32_at, Bytes}
-use Rattle.fields.specs.Laws.{u16_at-fits}
+use Rattle.fields.proofs.Laws.{u16_at-fits}
 use Rattle.machine.specs.Cells.{entry_at, cell_at, class_count, entry_table}
 use Rattle.machine.specs.Rows.{row_count}
 use borrow.Author.Tests.{leb-true, leb-false, le-ltb}

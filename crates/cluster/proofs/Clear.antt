@@ -8,7 +8,7 @@ use borrow.Author.Tests.{le-leb}
 use Rattle.fields.specs.declared.Fault.TheVariants.{Clear}
 use Rattle.fields.specs.declared.Refusal.TheVariants.{BadCluster}
 use Rattle.fields.specs.Field.{u16_at, u32_at}
-use Rattle.fields.specs.Laws.{then-go, clear-inside, rule-clear}
+use Rattle.fields.proofs.Laws.{then-go, clear-inside, rule-clear}
 use Rattle.units.specs.Fixed.{fixed_size}
 use Rattle.units.specs.Flags.{priority_of}
 use Rattle.meaning.specs.Limits.{em_limit}

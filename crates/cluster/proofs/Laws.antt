@@ -13,7 +13,7 @@ use Rattle.fields.specs.declared.Fault.TheVariants.{Clear}
 use Rattle.fields.specs.declared.Refusal.TheVariants.{BadCluster}
 use Rattle.fields.specs.Field.{u16_at, u32_at}
 use Rattle.fields.specs.Walk.{walk}
-use Rattle.fields.specs.Laws.{then-first, then-second, rule-holds, inside-holds}
+use Rattle.fields.proofs.Laws.{then-first, then-second, rule-holds, inside-holds}
 use Rattle.units.specs.Fixed.{fixed_size}
 use Rattle.units.specs.Flags.{priority_of, width_flags, kept_flags, is_unlimited}
 use Rattle.encoding.specs.Codes.{All}

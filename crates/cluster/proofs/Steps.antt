@@ -10,7 +10,7 @@ use Rattle.fields.specs.declared.Fault.TheVariants.{Clear, Bad}
 use Rattle.fields.specs.declared.Refusal.TheVariants.{Outside, BadCluster}
 use Rattle.fields.specs.Field.{u32_at}
 use Rattle.fields.specs.Faults.{◌then◌, rule, inside}
-use Rattle.fields.specs.Laws.{then-first, then-stop, inside-holds, bad-inside}
+use Rattle.fields.proofs.Laws.{then-first, then-stop, inside-holds, bad-inside}
 use Rattle.meaning.specs.Ask.{record_of}
 use Rattle.cluster.specs.Faults.{pair_class, pair_class_fault, pair_fault, pairs_fault, cluster_fault}
 use Rattle.cluster.specs.Pairs.{pair_at, pairs_at}

@@ -14,7 +14,7 @@ use Rattle.fields.specs.declared.Refusal.{Refusal}
 use Rattle.fields.specs.declared.Refusal.TheVariants.{ShortRoom}
 use Rattle.fields.specs.Refusals.{number_of}
 use Rattle.fields.specs.Faults.{rule}
-use Rattle.fields.specs.Laws.{then-first, then-second, then-stop, then-go}
+use Rattle.fields.proofs.Laws.{then-first, then-second, then-stop, then-go}
 use Rattle.meaning.specs.Ask.{number}
 use Rattle.answers.specs.Says.{refused, given, unless_bad}
 use Rattle.table.specs.Table.{table_fault}

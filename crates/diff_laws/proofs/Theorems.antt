@@ -12,7 +12,7 @@ use Rattle.fields.specs.declared.Fault.TheVariants.{Clear, Bad}
 use Rattle.fields.specs.declared.Refusal.{Refusal}
 use Rattle.fields.specs.declared.Refusal.TheVariants.{ShortRoom}
 use Rattle.fields.specs.Field.{Bytes}
-use Rattle.fields.specs.Laws.{then-second, rule-holds}
+use Rattle.fields.proofs.Laws.{then-second, rule-holds}
 use Rattle.types.specs.declared.Direction.{Direction}
 use Rattle.meaning.specs.Ask.{Part, sizes, class, cell, Answer, nothing, number, both, entry, pair, act}
 use Rattle.meaning.specs.Sheet.{write}

@@ -8,7 +8,7 @@ use native.Mathlib.Nat.{suc-mul}
 use lib.ListN.{length, get_or, drop, length-append}
 use lib.Seq.{drop-cons}
 use Rattle.fields.specs.Field.{be16, be32, u16_at, u32_at, Bytes}
-use Rattle.fields.specs.Laws.{u16_at-fits}
+use Rattle.fields.proofs.Laws.{u16_at-fits}
 use Rattle.encoding.specs.Codes.{All, many, counted, PrefixFree}
 
 pub be16-free : PrefixFree be16 (λ n. n < 2 ^ 16)

@@ -7,7 +7,7 @@ use native.Mathlib.Omega.{arith}
 use native.Mathlib.Nat.{mul-suc, mul-zero, mul_comm}
 use lib.ListN.{length, get_or, take, drop, length-append, length-drop}
 use Rattle.fields.specs.Field.{be32, u32_at, Bytes}
-use Rattle.fields.specs.Laws.{u32_at-fits}
+use Rattle.fields.proofs.Laws.{u32_at-fits}
 use Rattle.encoding.specs.Codes.{All, many, counted, PrefixFree, Found, Absent, items_at}
 use Rattle.encoding.proofs.CodeLaws.{be32-free, be32-at, many-free, many-length}
 

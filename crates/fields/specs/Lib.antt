@@ -1,6 +1,5 @@
 pub mod Field
 pub mod Refusals
 pub mod Faults
-pub mod Laws
 pub mod Walk
 pub mod Stores

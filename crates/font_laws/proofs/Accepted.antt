@@ -10,7 +10,7 @@ use Rattle.fields.specs.declared.Fault.TheVariants.{Clear, Bad}
 use Rattle.fields.specs.declared.Refusal.TheVariants.{FontEnds}
 use Rattle.fields.specs.Faults.{◌then◌, first_fault}
 use Rattle.fields.specs.Refusals.{number_of}
-use Rattle.fields.specs.Laws.{then-second, then-go}
+use Rattle.fields.proofs.Laws.{then-second, then-go}
 use Rattle.meaning.specs.Ask.{ask, side_of}
 use Rattle.answers.specs.Says.{judged_by, unless_bad}
 use Rattle.table.specs.Table.{table_fault, Accepted}

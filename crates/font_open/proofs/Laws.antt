@@ -11,7 +11,7 @@ use Rattle.fields.specs.declared.Fault.{Fault}
 use Rattle.fields.specs.declared.Fault.TheVariants.{Clear, Bad}
 use Rattle.fields.specs.Faults.{◌then◌, rule}
 use Rattle.fields.specs.Refusals.{number_of}
-use Rattle.fields.specs.Laws.{then-first, then-second, then-stop, then-go, then-of, rule-holds}
+use Rattle.fields.proofs.Laws.{then-first, then-second, then-stop, then-go, then-of, rule-holds}
 use Rattle.table.specs.Table.{table_fault}
 use Rattle.font_directory.specs.declared.TableRecord.{TableRecord}
 use Rattle.font_directory.specs.declared.Listing.{Listing}

@@ -13,7 +13,7 @@ use Rattle.fields.specs.declared.Refusal.TheVariants.{UnequalLengths, LongLine, 
 use Rattle.fields.specs.declared.Fault.{Fault}
 use Rattle.fields.specs.declared.Fault.TheVariants.{Clear, Bad}
 use Rattle.fields.specs.Faults.{◌then◌}
-use Rattle.fields.specs.Laws.{then-assoc, then-first, then-second, then-stop, then-go, rule-holds, rule-clear, rule-fails}
+use Rattle.fields.proofs.Laws.{then-assoc, then-first, then-second, then-stop, then-go, rule-holds, rule-clear, rule-fails}
 use Rattle.types.specs.declared.Verdict.{Verdict}
 use Rattle.meaning.specs.Meaning.{Side}
 use Rattle.meaning.specs.Ask.{side_of}

@@ -15,7 +15,7 @@ use borrow.Author.Tests.{leb-true, eq-eqb, ne_eqb, le-ltb}
 use Rattle.fields.specs.declared.Refusal.TheVariants.{UnequalLengths, LongLine, UnknownGlyph, EndlessWalk, ShortRoom}
 use Rattle.fields.specs.declared.Fault.{Fault}
 use Rattle.fields.specs.declared.Fault.TheVariants.{Clear, Bad}
-use Rattle.fields.specs.Laws.{then-first, then-second, rule-holds}
+use Rattle.fields.proofs.Laws.{then-first, then-second, rule-holds}
 use Rattle.meaning.specs.Meaning.{Side, Machine}
 use Rattle.meaning.specs.Limits.{OkEntry, OkMachine}
 use Rattle.meaning.specs.Ask.{side_of}

@@ -10,7 +10,7 @@ use borrow.Author.Tests.{leb-true}
 use Rattle.fields.specs.declared.Fault.{Fault}
 use Rattle.fields.specs.declared.Fault.TheVariants.{Clear, Bad}
 use Rattle.fields.specs.declared.Refusal.TheVariants.{ShortRoom}
-use Rattle.fields.specs.Laws.{then-second, rule-holds}
+use Rattle.fields.proofs.Laws.{then-second, rule-holds}
 use Rattle.types.specs.declared.Verdict.{Verdict}
 use Rattle.meaning.specs.Meaning.{Side}
 use Rattle.meaning.specs.Ask.{side_of}

@@ -14,7 +14,7 @@ use Rattle.fields.specs.declared.Fault.{Fault}
 use Rattle.fields.specs.declared.Fault.TheVariants.{Bad}
 use Rattle.fields.specs.Field.{u16_at, u32_at}
 use Rattle.fields.specs.Faults.{◌then◌, rule, inside}
-use Rattle.fields.specs.Laws.{rule-holds, rule-clear, rule-fails}
+use Rattle.fields.proofs.Laws.{rule-holds, rule-clear, rule-fails}
 use Rattle.fields.specs.Walk.{walk}
 use Rattle.encoding.specs.Codes.{All}
 use Rattle.units.specs.Fixed.{fixed_size}

@@ -12,7 +12,7 @@ use Rattle.fields.specs.declared.Refusal.{Refusal}
 use Rattle.fields.specs.declared.Fault.{Fault}
 use Rattle.fields.specs.declared.Fault.TheVariants.{Clear, Bad}
 use Rattle.fields.specs.Faults.{rule}
-use Rattle.fields.specs.Laws.{then-assoc, then-clear}
+use Rattle.fields.proofs.Laws.{then-assoc, then-clear}
 use Rattle.encoding.specs.Codes.{All}
 use Rattle.table.specs.Table.{table_fault}
 use Rattle.table_laws.specs.Order.{FirstIs, NoFault}

@@ -16,7 +16,7 @@ use Rattle.fields.specs.declared.Fault.{Fault}
 use Rattle.fields.specs.declared.Fault.TheVariants.{Clear, Bad}
 use Rattle.fields.specs.Field.{Bytes}
 use Rattle.fields.specs.Faults.{rule}
-use Rattle.fields.specs.Laws.{rule-holds, rule-clear, rule-fails}
+use Rattle.fields.proofs.Laws.{rule-holds, rule-clear, rule-fails}
 use Rattle.encoding.specs.Codes.{All}
 use Rattle.types.specs.declared.Direction.{Direction}
 use Rattle.types.specs.declared.Direction.TheVariants.{Horizontal, Vertical}

@@ -11,7 +11,7 @@ use lib.ListN.{length, get_or, drop, length-append}
 use borrow.Author.Tests.{eq-eqb, ne_eqb}
 use Rattle.fields.specs.declared.Fault.TheVariants.{Clear}
 use Rattle.fields.specs.Field.{u16_at, u32_at}
-use Rattle.fields.specs.Laws.{then-first, then-second}
+use Rattle.fields.proofs.Laws.{then-first, then-second}
 use Rattle.fields.specs.Walk.{walk}
 use Rattle.types.specs.declared.Direction.{Direction}
 use Rattle.meaning.specs.Meaning.{Action, Side}

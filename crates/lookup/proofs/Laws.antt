@@ -11,7 +11,7 @@ use Rattle.fields.specs.declared.Refusal.TheVariants.{Outside, BadLookup}
 use Rattle.fields.specs.declared.Fault.TheVariants.{Clear, Bad}
 use Rattle.fields.specs.Field.{u16_at, Bytes}
 use Rattle.fields.specs.Faults.{rule, inside}
-use Rattle.fields.specs.Laws.{u16_at-fits, then-go, then-stop, rule-clear, clear-inside, bad-inside}
+use Rattle.fields.proofs.Laws.{u16_at-fits, then-go, then-stop, rule-clear, clear-inside, bad-inside}
 use Rattle.fields.specs.Walk.{walk}
 use Rattle.lookup.specs.declared.Found.TheVariants.{Value, Nothing}
 use Rattle.lookup.specs.Units.{unit_size, last_of, first_of, range_fault, single_fault, unit_fault, array_fault}

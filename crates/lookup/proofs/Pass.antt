@@ -8,7 +8,7 @@ use lib.Dec.{eqb}
 use lib.ListN.{length}
 use Rattle.fields.specs.declared.Fault.TheVariants.{Clear}
 use Rattle.fields.specs.Field.{u16_at}
-use Rattle.fields.specs.Walk.{walk_none}
+use Rattle.fields.proofs.Walk.{walk_none}
 use Rattle.lookup.specs.declared.Cursor.{Cursor}
 use Rattle.lookup.specs.declared.Found.{Found}
 use Rattle.lookup.specs.declared.Found.TheVariants.{Value}

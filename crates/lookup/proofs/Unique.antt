@@ -10,8 +10,9 @@ use borrow.Author.Tests.{leb-true, lt-leb, eqb-true, eqb-false, ltb-true, ltb-fa
 use Rattle.fields.specs.declared.Refusal.TheVariants.{BadLookup}
 use Rattle.fields.specs.declared.Fault.TheVariants.{Clear}
 use Rattle.fields.specs.Field.{u16_at}
-use Rattle.fields.specs.Laws.{then-first, then-second, rule-holds, inside-holds}
-use Rattle.fields.specs.Walk.{walk, walk_none}
+use Rattle.fields.proofs.Laws.{then-first, then-second, rule-holds, inside-holds}
+use Rattle.fields.specs.Walk.{walk}
+use Rattle.fields.proofs.Walk.{walk_none}
 use Rattle.lookup.specs.declared.Found.TheVariants.{Value, Nothing}
 use Rattle.lookup.specs.Units.{unit_size, last_of, first_of, range_fault, single_fault, unit_fault, units_fault}
 use Rattle.lookup.specs.Lookup.{counted_fault, segments_fault, trimmed_fault, lookup_fault, format_fault}

@@ -9,8 +9,9 @@ use lib.Dec.{ltb, eqb}
 use borrow.Author.Tests.{le-leb, le-ltb, lt-ltb, eqb-true, eq-eqb, ne_eqb}
 use Rattle.fields.specs.declared.Fault.TheVariants.{Clear}
 use Rattle.fields.specs.Field.{u16_at, Bytes}
-use Rattle.fields.specs.Laws.{then-first, then-second, then-go}
-use Rattle.fields.specs.Walk.{walk, walk-each}
+use Rattle.fields.proofs.Laws.{then-first, then-second, then-go}
+use Rattle.fields.specs.Walk.{walk}
+use Rattle.fields.proofs.Walk.{walk-each}
 use Rattle.lookup.specs.declared.Found.{Found}
 use Rattle.lookup.specs.declared.Found.TheVariants.{Value, Nothing}
 use Rattle.lookup.specs.Units.{unit_size, last_of, first_of, unit_fault, units_fault}

@@ -15,8 +15,9 @@ use Rattle.fields.specs.declared.Fault.{Fault}
 use Rattle.fields.specs.declared.Fault.TheVariants.{Clear, Bad}
 use Rattle.fields.specs.Field.{u16_at}
 use Rattle.fields.specs.Faults.{◌then◌}
-use Rattle.fields.specs.Laws.{then-assoc, then-clear, then-second, then-stop, then-go}
-use Rattle.fields.specs.Walk.{walk, each, walk-stop, walk-next, walk_none}
+use Rattle.fields.proofs.Laws.{then-assoc, then-clear, then-second, then-stop, then-go}
+use Rattle.fields.specs.Walk.{walk, each}
+use Rattle.fields.proofs.Walk.{walk-stop, walk-next, walk_none}
 use Rattle.lookup.specs.declared.Found.{Found}
 use Rattle.lookup.specs.declared.Found.TheVariants.{Value, Nothing}
 use Rattle.lookup.proofs.Laws.{value_in_lem}

@@ -14,8 +14,9 @@ use Rattle.fields.specs.declared.Fault.{Fault}
 use Rattle.fields.specs.declared.Fault.TheVariants.{Clear}
 use Rattle.fields.specs.Field.{u16_at, Bytes}
 use Rattle.fields.specs.Faults.{◌then◌}
-use Rattle.fields.specs.Walk.{each, walk-each}
-use Rattle.fields.specs.Laws.{then-first, then-second, rule-holds, u16_at-fits}
+use Rattle.fields.specs.Walk.{each}
+use Rattle.fields.proofs.Walk.{walk-each}
+use Rattle.fields.proofs.Laws.{then-first, then-second, rule-holds, u16_at-fits}
 use Rattle.machine.specs.Cells.{class_count, class_table, state_array, class_at, entry_at, number_at, cell_at}
 use Rattle.machine.specs.Rows.{Least, entry_place, entry_fault, cell_fault, row_fault, raised, raised_by, fault_from, count_from, rows_fault, row_count}
 use Rattle.machine.specs.Machine.{head_fault, class_fault, covered, class_table_fault, machine_fault}

@@ -14,8 +14,9 @@ use Rattle.fields.specs.declared.Fault.{Fault}
 use Rattle.fields.specs.declared.Fault.TheVariants.{Clear, Bad}
 use Rattle.fields.specs.Field.{u16_at}
 use Rattle.fields.specs.Faults.{◌then◌}
-use Rattle.fields.specs.Laws.{then-first, then-second, then-go, clear-inside, inside-holds, rule-clear, rule-holds}
-use Rattle.fields.specs.Walk.{walk, walk-stop, walk-next, walk_none}
+use Rattle.fields.proofs.Laws.{then-first, then-second, then-go, clear-inside, inside-holds, rule-clear, rule-holds}
+use Rattle.fields.specs.Walk.{walk}
+use Rattle.fields.proofs.Walk.{walk-stop, walk-next, walk_none}
 use Rattle.machine.specs.declared.Scan.TheVariants.{Broken, Count}
 use Rattle.machine.specs.Cells.{class_count, class_table, class_at, entry_at, number_at, cell_at}
 use Rattle.machine.specs.Rows.{cell_place, entry_place, entry_fault, cell_fault, cells_fault, row_fault, raised, raised_by, fault_from, count_from, unless, fault_of, count_of, Met}

@@ -14,7 +14,7 @@ use Rattle.fields.specs.declared.Fault.{Fault}
 use Rattle.fields.specs.declared.Fault.TheVariants.{Clear, Bad}
 use Rattle.fields.specs.Field.{u16_at, u32_at}
 use Rattle.fields.specs.Faults.{◌then◌, rule}
-use Rattle.fields.specs.Laws.{then-go, then-stop, rule-clear, rule-fails}
+use Rattle.fields.proofs.Laws.{then-go, then-stop, rule-clear, rule-fails}
 use Rattle.encoding.specs.Codes.{All}
 use Rattle.units.specs.Fixed.{factor_of}
 use Rattle.types.specs.declared.Direction.{Direction}

@@ -11,7 +11,7 @@ use lib.Dec.{ltb}
 use lib.ListN.{length, get_or, get_elem?, drop, length-append, length-drop}
 use borrow.Author.Tests.{lt-ltb, le-ltb}
 use Rattle.fields.specs.Field.{be16, be32, u16_at, u32_at, Bytes}
-use Rattle.fields.specs.Laws.{u16_at-fits, u32_at-fits}
+use Rattle.fields.proofs.Laws.{u16_at-fits, u32_at-fits}
 use Rattle.encoding.specs.Codes.{All, counted}
 use Rattle.encoding.specs.Runs.{Run, runs}
 use Rattle.encoding.specs.Sections.{run_code, numbered}

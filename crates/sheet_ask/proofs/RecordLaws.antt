@@ -6,7 +6,7 @@ use native.Mathlib.Omega.{arith}
 use lib.ListN.{length, take, drop, length-append, length-drop}
 use lib.Seq.{get_or-drop, take_all}
 use Rattle.fields.specs.Field.{be16, be32, u16_at, u32_at, Bytes}
-use Rattle.fields.specs.Laws.{u16_at-fits, u32_at-fits}
+use Rattle.fields.proofs.Laws.{u16_at-fits, u32_at-fits}
 use Rattle.encoding.specs.Codes.{All, many}
 use Rattle.encoding.proofs.CodeLaws.{be16-free, be32-free, be16-at, be32-at}
 use Rattle.units.specs.Fixed.{fixed_size}

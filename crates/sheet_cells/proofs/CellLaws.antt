@@ -6,7 +6,7 @@ use native.Mathlib.Omega.{arith}
 use lib.ListN.{length, get_or, drop}
 use lib.Seq.{drop-cons}
 use Rattle.fields.specs.Field.{be16, u16_at, u32_at, Bytes}
-use Rattle.fields.specs.Laws.{u16_at-fits}
+use Rattle.fields.proofs.Laws.{u16_at-fits}
 use Rattle.encoding.specs.Codes.{All, counted, PrefixFree, Found, Absent, items_at}
 use Rattle.encoding.specs.Distinct.{InOrder}
 use Rattle.encoding.specs.Sections.{byte, numbered}

@@ -6,7 +6,7 @@ use native.Mathlib.Omega.{arith}
 use lib.ListN.{length, drop, length-append, length-drop}
 use lib.Seq.{drop-length}
 use Rattle.fields.specs.Field.{be32, u32_at, Bytes}
-use Rattle.fields.specs.Laws.{u32_at-fits}
+use Rattle.fields.proofs.Laws.{u32_at-fits}
 use Rattle.encoding.specs.Codes.{Found, Absent}
 use Rattle.encoding.proofs.CodeLaws.{be32-free, be32-at}
 use Rattle.encoding.proofs.ReadLaws.{first_absent, second-absent, both_found}

@@ -5,7 +5,7 @@ use mathlib.Core.List.{List, ◌++◌}
 use native.Mathlib.Omega.{arith}
 use lib.ListN.{length, drop}
 use Rattle.fields.specs.Field.{be16, be32, u16_at, u32_at, Bytes}
-use Rattle.fields.specs.Laws.{u16_at-fits, u32_at-fits}
+use Rattle.fields.proofs.Laws.{u16_at-fits, u32_at-fits}
 use Rattle.encoding.specs.Codes.{All, Found, Absent, items_at}
 use Rattle.encoding.proofs.ReadLaws.{items-length, refuse-count}
 use Rattle.types.specs.declared.Pair.{Pair}

@@ -8,7 +8,7 @@ use native.Mathlib.Omega.{arith}
 use lib.ListN.{length, get_or, take, drop, set, length-append, length-drop, take-append-drop, get_or-append}
 use lib.Seq.{slice, drop-cons, length-take-le, get_or-set_same, get_or-set_other, get_or-append_seam, take_at}
 use Rattle.fields.specs.Field.{be32, u32_at, Bytes}
-use Rattle.fields.specs.Laws.{u32_at-fits}
+use Rattle.fields.proofs.Laws.{u32_at-fits}
 use Rattle.encoding.specs.Distinct.{index, Once}
 use Rattle.encoding.specs.Codes.{All, many, counted, PrefixFree, Found, Absent}
 use Rattle.encoding.proofs.ListLaws.{all_append, all-at}

@@ -7,7 +7,7 @@ use native.Mathlib.Omega.{arith}
 use lib.ListN.{length, get_or, take, drop, length-drop, length-append, take-append-drop}
 use lib.Seq.{take_at, drop-drop, get_or-take, get_or-drop}
 use Rattle.fields.specs.Field.{be16, be32, u16_at, u32_at, Bytes}
-use Rattle.fields.specs.Laws.{u16_at-fits, u32_at-fits}
+use Rattle.fields.proofs.Laws.{u16_at-fits, u32_at-fits}
 use Rattle.encoding.specs.Codes.{All, many, Found, Absent}
 use Rattle.encoding.specs.Sections.{byte}
 use Rattle.encoding.proofs.CodeLaws.{be16-free, be32-free}

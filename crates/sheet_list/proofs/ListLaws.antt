@@ -5,7 +5,7 @@ use mathlib.Core.List.{List, [], ◌∷◌, ◌++◌, append_assoc}
 use native.Mathlib.Omega.{arith}
 use lib.ListN.{length, drop, length-drop}
 use Rattle.fields.specs.Field.{be32, u32_at, Bytes}
-use Rattle.fields.specs.Laws.{u32_at-fits}
+use Rattle.fields.proofs.Laws.{u32_at-fits}
 use Rattle.encoding.specs.Codes.{many, PrefixFree, Found, Absent}
 use Rattle.encoding.proofs.CodeLaws.{be32-free, be32-at}
 use Rattle.sheet_sections.specs.Section.{Parses}

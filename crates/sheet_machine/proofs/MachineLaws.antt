@@ -7,7 +7,7 @@ use mathlib.Core.List.{List, ◌++◌}
 use native.Mathlib.Omega.{arith}
 use lib.ListN.{length, drop, length-append, length-drop}
 use Rattle.fields.specs.Field.{be32, u32_at, Bytes}
-use Rattle.fields.specs.Laws.{u32_at-fits}
+use Rattle.fields.proofs.Laws.{u32_at-fits}
 use Rattle.encoding.specs.Codes.{PrefixFree, Found, Absent}
 use Rattle.encoding.specs.Sections.{run_section, numbered}
 use Rattle.encoding.proofs.CodeLaws.{be32-at, be32-free}

@@ -9,7 +9,7 @@ use native.Mathlib.Decide.{ℕ_discrete}
 use native.Mathlib.Nat.{mul-le-mul_right}
 use lib.ListN.{length, get_or, drop, length-append, length-drop}
 use Rattle.fields.specs.Field.{be32, u32_at, Bytes}
-use Rattle.fields.specs.Laws.{u32_at-fits}
+use Rattle.fields.proofs.Laws.{u32_at-fits}
 use Rattle.encoding.specs.Codes.{All, many, counted, Found, Absent, items_at}
 use Rattle.encoding.specs.Distinct.{distinct, numbers, elements, InOrder}
 use Rattle.encoding.specs.Sections.{byte, numbered}

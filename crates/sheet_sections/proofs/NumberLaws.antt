@@ -8,7 +8,7 @@ use native.Mathlib.Decide.{ℕ_discrete}
 use native.Mathlib.Numerals.{add-one}
 use lib.ListN.{length, drop}
 use Rattle.fields.specs.Field.{be16, u16_at, u32_at, Bytes}
-use Rattle.fields.specs.Laws.{u16_at-fits}
+use Rattle.fields.proofs.Laws.{u16_at-fits}
 use Rattle.encoding.specs.Codes.{All, counted, Found, Absent, items_at}
 use Rattle.encoding.specs.Runs.{Run, OkRuns}
 use Rattle.encoding.specs.Distinct.{InOrder}

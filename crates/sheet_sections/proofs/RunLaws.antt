@@ -6,7 +6,7 @@ use native.Mathlib.Decide.{ℕ_discrete}
 use native.Mathlib.Omega.{arith}
 use lib.ListN.{length, drop}
 use Rattle.fields.specs.Field.{be16, u16_at, u32_at, Bytes}
-use Rattle.fields.specs.Laws.{u16_at-fits}
+use Rattle.fields.proofs.Laws.{u16_at-fits}
 use Rattle.encoding.specs.Codes.{All, counted, Found, Absent, items_at}
 use Rattle.encoding.specs.Runs.{Run, runs, unrun}
 use Rattle.encoding.specs.Sections.{run_code, run_section}

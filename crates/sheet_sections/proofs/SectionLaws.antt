@@ -7,7 +7,7 @@ use native.Mathlib.Decide.{dec_le}
 use native.Mathlib.Omega.{arith}
 use lib.ListN.{length, drop, length-drop}
 use Rattle.fields.specs.Field.{be16, be32, u16_at, u32_at, Bytes}
-use Rattle.fields.specs.Laws.{u32_at-fits}
+use Rattle.fields.proofs.Laws.{u32_at-fits}
 use Rattle.encoding.specs.Codes.{All, many, counted, PrefixFree, Found, Absent, items_at}
 use Rattle.encoding.proofs.CodeLaws.{be32-free, be16-at, be32-at}
 use Rattle.encoding.proofs.ReadLaws.{refuse-short, refuse-long, refuse-items, accept-items}

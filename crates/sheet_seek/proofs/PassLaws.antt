@@ -7,7 +7,7 @@ use native.Mathlib.Nat.{mul_comm}
 use lib.ListN.{length, drop, length-append, length-drop}
 use lib.Seq.{drop-drop, drop_at, drop-length}
 use Rattle.fields.specs.Field.{be16, be32, u32_at, Bytes}
-use Rattle.fields.specs.Laws.{u32_at-fits}
+use Rattle.fields.proofs.Laws.{u32_at-fits}
 use Rattle.encoding.specs.Codes.{All, many, counted}
 use Rattle.encoding.specs.Sections.{byte}
 use Rattle.encoding.proofs.CodeLaws.{be32-free, be32-at, many-length}

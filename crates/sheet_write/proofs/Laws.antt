@@ -13,7 +13,7 @@ use Rattle.fields.specs.declared.Fault.TheVariants.{Clear, Bad}
 use Rattle.fields.specs.Field.{be32}
 use Rattle.fields.specs.Stores.{sets-out, put_two}
 use Rattle.fields.specs.Refusals.{number_of}
-use Rattle.fields.specs.Laws.{then-first}
+use Rattle.fields.proofs.Laws.{then-first}
 use Rattle.types.specs.declared.Direction.TheVariants.{Horizontal, Vertical}
 use Rattle.meaning.specs.Sheet.{write}
 use Rattle.table.specs.Table.{direction_at, header_fault, table_fault}

@@ -10,7 +10,7 @@ use borrow.Author.Tests.{eq-eqb, ne_eqb, leb-true}
 use Rattle.fields.specs.declared.Fault.{Fault}
 use Rattle.fields.specs.declared.Fault.TheVariants.{Clear}
 use Rattle.fields.specs.declared.Refusal.TheVariants.{TableLength, GlyphCount}
-use Rattle.fields.specs.Laws.{then-first, then-second, rule-holds}
+use Rattle.fields.proofs.Laws.{then-first, then-second, rule-holds}
 use Rattle.types.specs.declared.Direction.{Direction}
 use Rattle.types.specs.declared.Direction.TheVariants.{Horizontal, Vertical}
 use Rattle.lookup_targets.specs.declared.Kind.{Kind}

@@ -12,8 +12,8 @@ use borrow.Author.Tests.{eqb-true, eqb-false}
 use Rattle.fields.specs.declared.Fault.{Fault}
 use Rattle.fields.specs.declared.Fault.TheVariants.{Clear, Bad}
 use Rattle.fields.specs.Field.{u16_at, Bytes}
-use Rattle.fields.specs.Walk.{walk-each}
-use Rattle.fields.specs.Laws.{then-second}
+use Rattle.fields.proofs.Walk.{walk-each}
+use Rattle.fields.proofs.Laws.{then-second}
 use Rattle.types.specs.declared.Direction.{Direction}
 use Rattle.meaning.specs.Ask.{Answer, action, along, act, ask}
 use Rattle.answers.specs.declared.ActionAnswer.{ActionAnswer}

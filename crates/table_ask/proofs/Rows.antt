@@ -10,7 +10,7 @@ use lib.Dec.{ltb}
 use Rattle.fields.specs.declared.Fault.{Fault}
 use Rattle.fields.specs.declared.Fault.TheVariants.{Clear, Bad}
 use Rattle.fields.specs.Faults.{◌then◌}
-use Rattle.fields.specs.Laws.{then-first, then-second}
+use Rattle.fields.proofs.Laws.{then-first, then-second}
 use Rattle.machine.specs.Cells.{class_count, state_array, entry_at, cell_at}
 use Rattle.machine.specs.Rows.{row_fault, raised_by, fault_from, count_from, unless, count_of, rows_fault, row_count}
 use Rattle.machine.proofs.Steps.{raised-within}

@@ -11,7 +11,7 @@ use Rattle.lookup.specs.declared.Found.{Found}
 use Rattle.lookup_find.specs.declared.Head.{Head}
 use Rattle.lookup_find.specs.Halves.{head_at, Searchable}
 use Rattle.lookup_targets.specs.declared.Kind.{Kind}
-use Rattle.fields.specs.Laws.{then-first}
+use Rattle.fields.proofs.Laws.{then-first}
 use Rattle.types.specs.declared.Direction.{Direction}
 use Rattle.meaning.specs.Ask.{Answer}
 use Rattle.answers.specs.Says.{unless_bad}

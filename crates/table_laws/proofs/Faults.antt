@@ -16,7 +16,7 @@ use Rattle.fields.specs.declared.Fault.{Fault}
 use Rattle.fields.specs.declared.Fault.TheVariants.{Clear, Bad}
 use Rattle.fields.specs.Field.{u16_at, u32_at}
 use Rattle.fields.specs.Faults.{◌then◌, rule}
-use Rattle.fields.specs.Laws.{then-assoc, then-clear, then-first, then-second, then-stop, then-go, rule-holds, rule-clear, rule-fails}
+use Rattle.fields.proofs.Laws.{then-assoc, then-clear, then-first, then-second, then-stop, then-go, rule-holds, rule-clear, rule-fails}
 use Rattle.fields.specs.Walk.{walk, each}
 use Rattle.lookup.specs.Lookup.{lookup_fault}
 use Rattle.lookup_targets.specs.declared.Kind.{Kind}

@@ -9,7 +9,7 @@ use native.Mathlib.Omega.{arith}
 use lib.Dec.{eqb}
 use lib.ListN.{length, get_elem?, replicate, length-replicate, get_or-eq_default}
 use Rattle.fields.specs.Field.{u16_at}
-use Rattle.fields.specs.Laws.{then-first}
+use Rattle.fields.proofs.Laws.{then-first}
 use Rattle.encoding.specs.Upto.{upto}
 use Rattle.encoding.proofs.UptoLaws.{length_from, elem_past}
 use Rattle.types.specs.declared.Direction.{Direction}

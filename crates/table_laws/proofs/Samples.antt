@@ -13,7 +13,7 @@ use Rattle.fields.specs.declared.Fault.TheVariants.{Clear, Bad}
 use Rattle.fields.specs.Field.{u16_at, u32_at, be32}
 use Rattle.fields.specs.Faults.{◌then◌, rule, inside}
 use Rattle.fields.specs.Walk.{walk, each}
-use Rattle.fields.specs.Laws.{then-clear, then-go}
+use Rattle.fields.proofs.Laws.{then-clear, then-go}
 use Rattle.types.specs.declared.Direction.TheVariants.{Horizontal}
 use Rattle.meaning.specs.Sheet.{write}
 use Rattle.meaning.proofs.SheetLaws.{empty-sheet}

@@ -10,8 +10,8 @@ use lib.ListN.{length, replicate, length-replicate}
 use Rattle.fields.specs.declared.Fault.TheVariants.{Clear}
 use Rattle.fields.specs.Field.{u16_at, Bytes}
 use Rattle.fields.specs.Faults.{◌then◌}
-use Rattle.fields.specs.Walk.{walk-each}
-use Rattle.fields.specs.Laws.{then-first, then-second}
+use Rattle.fields.proofs.Walk.{walk-each}
+use Rattle.fields.proofs.Laws.{then-first, then-second}
 use Rattle.encoding.specs.Codes.{All}
 use Rattle.encoding.specs.Upto.{upto}
 use Rattle.encoding.proofs.ListLaws.{all_replicate}

@@ -11,7 +11,7 @@ use Rattle.fields.specs.declared.Refusal.TheVariants.{BadActions}
 use Rattle.fields.specs.declared.Fault.TheVariants.{Clear}
 use Rattle.fields.specs.Field.{u16_at, u32_at, be32}
 use Rattle.fields.specs.Walk.{walk, each}
-use Rattle.fields.specs.Laws.{rule-clear}
+use Rattle.fields.proofs.Laws.{rule-clear}
 use Rattle.actions.specs.Faults.{glyph_fault, count_fault, type0_fault, type5_fault, data_fault, data_size, length_fault, action_fault, actions_fault, list_fault}
 use Rattle.table_limits.specs.Full.{zeros, break_head, break, repeated, longest, copies, full_list}
 use Rattle.table_limits.proofs.Stands.{Stands, front, back, found, byte-is, u16-is, u32-is, zeros-length, zeros-at, ◌so◌, each-clear}

@@ -13,7 +13,7 @@ use Rattle.fields.specs.declared.Fault.TheVariants.{Clear}
 use Rattle.fields.specs.Field.{u16_at, u32_at, be32}
 use Rattle.fields.specs.Faults.{inside}
 use Rattle.fields.specs.Walk.{walk}
-use Rattle.fields.specs.Laws.{rule-clear}
+use Rattle.fields.proofs.Laws.{rule-clear}
 use Rattle.units.specs.Fixed.{fixed_size}
 use Rattle.units.specs.Flags.{priority_of}
 use Rattle.meaning.specs.Limits.{em_limit}

@@ -10,7 +10,7 @@ use Rattle.fields.specs.declared.Refusal.TheVariants.{BadLookup}
 use Rattle.fields.specs.declared.Fault.TheVariants.{Clear}
 use Rattle.fields.specs.Field.{u16_at}
 use Rattle.fields.specs.Walk.{walk}
-use Rattle.fields.specs.Laws.{rule-clear}
+use Rattle.fields.proofs.Laws.{rule-clear}
 use Rattle.lookup.specs.declared.Found.{Found}
 use Rattle.lookup.specs.declared.Found.TheVariants.{Value, Nothing}
 use Rattle.lookup.specs.Units.{unit_size, last_of, first_of, unit_fault, units_fault}

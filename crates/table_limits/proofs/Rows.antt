@@ -11,7 +11,7 @@ use Rattle.fields.specs.declared.Refusal.TheVariants.{BadMachine}
 use Rattle.fields.specs.declared.Fault.TheVariants.{Clear}
 use Rattle.fields.specs.Field.{u16_at}
 use Rattle.fields.specs.Faults.{◌then◌}
-use Rattle.fields.specs.Laws.{rule-clear, clear-inside}
+use Rattle.fields.proofs.Laws.{rule-clear, clear-inside}
 use Rattle.machine.specs.Cells.{class_count, entry_at, cell_at}
 use Rattle.machine.specs.Rows.{entry_place, entry_fault, cell_fault, row_fault, raised, raised_by, fault_from, count_from}
 use Rattle.machine.specs.Machine.{head_fault}

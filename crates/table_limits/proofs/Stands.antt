@@ -10,7 +10,7 @@ use Rattle.fields.specs.declared.Fault.TheVariants.{Clear}
 use Rattle.fields.specs.Field.{u16_at, u32_at}
 use Rattle.fields.specs.Faults.{◌then◌, inside}
 use Rattle.fields.specs.Walk.{walk, each}
-use Rattle.fields.specs.Laws.{then-go, clear-inside}
+use Rattle.fields.proofs.Laws.{then-go, clear-inside}
 use Rattle.table_limits.specs.Full.{zeros}
 
 -- ---- what stands at a place

@@ -9,7 +9,7 @@ use borrow.Author.Tests.{lt-ltb}
 use Rattle.fields.specs.declared.Refusal.TheVariants.{BadMachine}
 use Rattle.fields.specs.declared.Fault.TheVariants.{Clear}
 use Rattle.fields.specs.Field.{u16_at}
-use Rattle.fields.specs.Laws.{rule-clear}
+use Rattle.fields.proofs.Laws.{rule-clear}
 use Rattle.machine.specs.Cells.{class_count, class_table, entry_at, number_at, cell_at}
 use Rattle.machine.specs.Rows.{cell_place, entry_place, entry_fault, cell_fault}
 use Rattle.machine.specs.Machine.{class_fault, covered, class_table_fault, machine_fault}

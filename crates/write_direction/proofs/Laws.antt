@@ -10,7 +10,7 @@ use lib.Dec.{eqb}
 use borrow.Author.Tests.{eq-eqb, ne_eqb}
 use Rattle.fields.specs.declared.Fault.TheVariants.{Clear}
 use Rattle.fields.specs.Field.{Bytes}
-use Rattle.fields.specs.Laws.{then-first}
+use Rattle.fields.proofs.Laws.{then-first}
 use Rattle.encoding.specs.Codes.{All}
 use Rattle.encoding.specs.Upto.{from, upto}
 use Rattle.meaning.specs.Meaning.{Side, empty_side}

@@ -6,8 +6,8 @@ use native.Mathlib.Omega.{arith}
 use lib.ListN.{length, length-append}
 use Rattle.fields.specs.declared.Fault.TheVariants.{Clear}
 use Rattle.fields.specs.Field.{Bytes}
-use Rattle.fields.specs.Walk.{walk-each}
-use Rattle.fields.specs.Laws.{then-second}
+use Rattle.fields.proofs.Walk.{walk-each}
+use Rattle.fields.proofs.Laws.{then-second}
 use Rattle.encoding.specs.Codes.{All, many}
 use Rattle.encoding.proofs.CodeLaws.{many-length}
 use Rattle.encoding.proofs.ListLaws.{all_replicate}

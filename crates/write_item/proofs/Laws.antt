@@ -5,7 +5,7 @@ use mathlib.Core.List.{List, [], ◌∷◌}
 use native.Mathlib.Omega.{arith}
 use lib.ListN.{length}
 use Rattle.fields.specs.Field.{u32_at}
-use Rattle.fields.specs.Laws.{u32_at-past}
+use Rattle.fields.proofs.Laws.{u32_at-past}
 use Rattle.cluster.proofs.Laws.{cluster-length}
 use Rattle.actions.proofs.Laws.{list_length}
 use Rattle.lookup_targets.specs.declared.Kind.{Kind}

@@ -9,7 +9,7 @@ use native.Mathlib.Numerals.{add-one}
 use lib.ListN.{length, get_or, length-append}
 use borrow.Author.Tests.{eq-eqb, ne_eqb}
 use Rattle.fields.specs.Field.{u16_at, u32_at, be16, be32, Bytes}
-use Rattle.fields.specs.Laws.{u16_at-fits, u32_at-past}
+use Rattle.fields.proofs.Laws.{u16_at-fits, u32_at-past}
 use Rattle.encoding.specs.Codes.{many, counted}
 use Rattle.encoding.specs.Sections.{byte}
 use Rattle.encoding.specs.Upto.{from}

@@ -1,6 +1,6 @@
 -- `actions::action_fault` meets its contract.
 use mathlib.Core.Path.{sym}
-use Rattle.fields.specs.Laws.{then-of}
+use Rattle.fields.proofs.Laws.{then-of}
 use Rattle.actions.proofs.Steps.{action-past}
 use Rattle.actions.specs.Faults.{action_fault}
 use Rattle.actions.proofs.action_fault.Goals as goal

@@ -1,7 +1,7 @@
 use mathlib.Core.Path.{refl, sym, ◌∙◌, ap}
 use native.Mathlib.Omega.{arith}
 use Prim.Native.Nat.{ℕ, ◌+◌}
-use Rattle.fields.specs.Walk.{walk-stop, walk-next, walk_none}
+use Rattle.fields.proofs.Walk.{walk-stop, walk-next, walk_none}
 use Rattle.actions.proofs.Steps.{action-begins}
 use Rattle.actions.proofs.actions_fault.Goals as goal
 

@@ -1,6 +1,6 @@
 -- `actions::added_fault` meets its contract.
 use mathlib.Core.Path.{sym, ◌∙◌}
-use Rattle.fields.specs.Laws.{then-of}
+use Rattle.fields.proofs.Laws.{then-of}
 use Rattle.actions.proofs.Steps.{added_none, added-some}
 use Rattle.actions.proofs.added_fault.Goals as goal
 

@@ -1,5 +1,5 @@
 -- `actions::count_fault` meets its contract.
-use Rattle.fields.specs.Laws.{then-of}
+use Rattle.fields.proofs.Laws.{then-of}
 use Rattle.actions.specs.Faults.{count_fault}
 use Rattle.actions.proofs.count_fault.Goals as goal
 

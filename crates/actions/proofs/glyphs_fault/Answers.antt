@@ -1,6 +1,6 @@
 use mathlib.Core.Path.{refl, sym, ◌∙◌}
 use native.Mathlib.Omega.{arith}
-use Rattle.fields.specs.Walk.{walk-stop, walk-next, walk_none}
+use Rattle.fields.proofs.Walk.{walk-stop, walk-next, walk_none}
 use Rattle.actions.proofs.Steps.{glyph-inside}
 use Rattle.actions.proofs.glyphs_fault.Goals as goal
 

@@ -1,5 +1,5 @@
 -- `actions::length_fault` meets its contract.
-use Rattle.fields.specs.Laws.{then-of}
+use Rattle.fields.proofs.Laws.{then-of}
 use Rattle.actions.specs.Faults.{length_fault}
 use Rattle.actions.proofs.length_fault.Goals as goal
 

@@ -1,7 +1,7 @@
 -- `actions::list_fault` meets its contract.
 use mathlib.Core.Path.{sym, ◌∙◌}
 use native.Mathlib.Omega.{arith}
-use Rattle.fields.specs.Laws.{then-stop, inside-holds}
+use Rattle.fields.proofs.Laws.{then-stop, inside-holds}
 use Rattle.actions.proofs.Notes.{none-passing}
 use Rattle.actions.proofs.Steps.{list-many, list-few}
 use Rattle.actions.specs.Faults.{list_fault}

@@ -1,5 +1,5 @@
 -- `actions::type0_fault` meets its contract.
-use Rattle.fields.specs.Laws.{then-of}
+use Rattle.fields.proofs.Laws.{then-of}
 use Rattle.actions.specs.Faults.{type0_fault}
 use Rattle.actions.proofs.type0_fault.Goals as goal
 

@@ -1,7 +1,7 @@
 -- `cluster::cluster_fault` meets its contract.
 use Rattle.cluster.proofs.Steps.{cluster-low, cluster-high, cluster-pairs}
 use Rattle.cluster.specs.Faults.{cluster_fault}
-use Rattle.fields.specs.Laws.{then-stop, inside-holds}
+use Rattle.fields.proofs.Laws.{then-stop, inside-holds}
 use native.Mathlib.Omega.{arith}
 use mathlib.Core.Path.{sym, ◌∙◌}
 use Rattle.cluster.proofs.cluster_fault.Goals as goal

@@ -2,7 +2,7 @@
 use mathlib.Core.Path.{sym}
 use Rattle.cluster.specs.Faults.{pair_fault}
 use Rattle.cluster.proofs.Steps.{pair-past}
-use Rattle.fields.specs.Laws.{then-of}
+use Rattle.fields.proofs.Laws.{then-of}
 use Rattle.cluster.proofs.pair_fault.Goals as goal
 
 pub returns-then-table-at : goal.returns-then-table-at

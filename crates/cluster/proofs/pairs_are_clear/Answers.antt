@@ -2,7 +2,7 @@ use mathlib.Core.Path.{refl, sym, ◌∙◌}
 use native.Mathlib.Omega.{arith}
 use mathlib.Core.Bool.{true≢false}
 use borrow.Author.Rules.{rules}
-use Rattle.fields.specs.Walk.{walk-next, walk_none}
+use Rattle.fields.proofs.Walk.{walk-next, walk_none}
 use Rattle.cluster.proofs.Laws.{pair_inside}
 use Rattle.cluster.proofs.pairs_are_clear.Goals as goal
 

@@ -1,7 +1,7 @@
 use Prim.Native.Nat.{ℕ, ◌+◌}
 use mathlib.Core.Path.{refl, sym, ◌∙◌, ap}
 use native.Mathlib.Omega.{arith}
-use Rattle.fields.specs.Walk.{walk-stop, walk-next, walk_none}
+use Rattle.fields.proofs.Walk.{walk-stop, walk-next, walk_none}
 use Rattle.cluster.proofs.Steps.{pair-begins}
 use Rattle.cluster.proofs.pairs_fault.Goals as goal
 

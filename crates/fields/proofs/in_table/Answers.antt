@@ -1,6 +1,6 @@
 -- `fields::in_table` meets its contract.
 use Rattle.fields.specs.declared.Refusal.TheVariants.{Outside}
-use Rattle.fields.specs.Laws.{leb-left, bad-inside}
+use Rattle.fields.proofs.Laws.{leb-left, bad-inside}
 use Rattle.fields.specs.Faults.{rule, inside}
 use lib.ListN.{length}
 use mathlib.Core.Bool.{Bool}

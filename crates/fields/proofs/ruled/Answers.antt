@@ -1,6 +1,6 @@
 -- `fields::ruled` meets its contract.
 use mathlib.Core.Path.{sym}
-use Rattle.fields.specs.Laws.{rule-clear, rule-fails}
+use Rattle.fields.proofs.Laws.{rule-clear, rule-fails}
 use Rattle.fields.proofs.ruled.Goals as goal
 
 pub returns-then-test : goal.returns-then-test

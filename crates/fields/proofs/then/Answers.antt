@@ -1,5 +1,5 @@
 -- `fields::then` meets its contract.
-use Rattle.fields.specs.Laws.{then-go, then-stop}
+use Rattle.fields.proofs.Laws.{then-go, then-stop}
 use mathlib.Core.Path.{sym, ◌∙◌}
 use Rattle.fields.proofs.then.Goals as goal
 

@@ -1,5 +1,5 @@
 -- `fields::u16_at` meets its contract.
-use Rattle.fields.specs.Laws.{last_byte}
+use Rattle.fields.proofs.Laws.{last_byte}
 use native.Mathlib.Omega.{arith}
 use Rattle.fields.proofs.u16_at.Goals as goal
 

@@ -1,5 +1,5 @@
 -- `fields::u32_near_end` meets its contract.
-use Rattle.fields.specs.Laws.{u32_at-past}
+use Rattle.fields.proofs.Laws.{u32_at-past}
 use Rattle.fields.specs.Field.{u32_at}
 use native.Mathlib.Omega.{arith}
 use borrow.Author.Rules.{rules}

@@ -4,7 +4,7 @@ use mathlib.Core.Bool.{Bool}
 use mathlib.Core.Path.{ap, ◌∙◌}
 use Rattle.fields.specs.declared.Refusal.TheVariants.{UnequalLengths, UnknownEdition, PointSize}
 use Rattle.fields.specs.Faults.{rule}
-use Rattle.fields.specs.Laws.{then-of}
+use Rattle.fields.proofs.Laws.{then-of}
 use Rattle.line_input.proofs.input_fault.Goals as goal
 
 pub returns : goal.returns

@@ -1,6 +1,6 @@
 use borrow.Author.Rules.{rules}
 use mathlib.Core.Path.{refl, sym, ◌∙◌}
-use Rattle.fields.specs.Walk.{walk-stop, walk-next, walk_none}
+use Rattle.fields.proofs.Walk.{walk-stop, walk-next, walk_none}
 use Rattle.lookup.proofs.arrays_fault.Goals as goal
 
 pub loop-left-init : goal.loop-left-init

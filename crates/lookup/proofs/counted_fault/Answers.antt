@@ -1,6 +1,6 @@
 -- `lookup::counted_fault` meets its contract.
 use Rattle.lookup.specs.Lookup.{counted_fault}
-use Rattle.fields.specs.Laws.{then-of}
+use Rattle.fields.proofs.Laws.{then-of}
 use Rattle.lookup.proofs.counted_fault.Goals as goal
 
 pub returns : goal.returns

@@ -1,7 +1,7 @@
 use borrow.Author.Rules.{rules}
 use mathlib.Core.Path.{refl, sym, ◌∙◌, ap}
 use Prim.Native.Nat.{ℕ, ◌+◌}
-use Rattle.fields.specs.Walk.{walk-stop, walk-next, walk_none}
+use Rattle.fields.proofs.Walk.{walk-stop, walk-next, walk_none}
 use Rattle.lookup.proofs.each_fault.Goals as goal
 
 pub loop-left-init : goal.loop-left-init

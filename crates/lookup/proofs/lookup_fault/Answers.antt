@@ -1,6 +1,6 @@
 -- `lookup::lookup_fault` meets its contract.
 use mathlib.Core.Path.{sym, ◌∙◌}
-use Rattle.fields.specs.Laws.{then-stop}
+use Rattle.fields.proofs.Laws.{then-stop}
 use Rattle.lookup.specs.Lookup.{lookup_fault}
 use Rattle.lookup.proofs.Laws.{format-0, format-2, format-4, format-6, format-8, format-other}
 use Rattle.lookup.proofs.lookup_fault.Goals as goal

@@ -1,6 +1,6 @@
 -- `lookup::range_fault` meets its contract.
 use Rattle.lookup.specs.Units.{range_fault}
-use Rattle.fields.specs.Laws.{then-of}
+use Rattle.fields.proofs.Laws.{then-of}
 use Rattle.lookup.proofs.range_fault.Goals as goal
 
 pub returns : goal.returns

@@ -1,6 +1,6 @@
 -- `lookup::segments_fault` meets its contract.
 use mathlib.Core.Path.{sym, ◌∙◌}
-use Rattle.fields.specs.Laws.{then-stop, then-go}
+use Rattle.fields.proofs.Laws.{then-stop, then-go}
 use Rattle.lookup.specs.Lookup.{segments_fault}
 use Rattle.lookup.proofs.segments_fault.Goals as goal
 

@@ -2,7 +2,7 @@ use borrow.Author.Rules.{rules}
 use mathlib.Core.Path.{refl, sym, ◌∙◌, ap}
 use Prim.Native.Nat.{ℕ, ◌+◌}
 use native.Mathlib.Omega.{arith}
-use Rattle.fields.specs.Walk.{walk-next, walk_none}
+use Rattle.fields.proofs.Walk.{walk-next, walk_none}
 use Rattle.lookup.proofs.units_fault.Goals as goal
 
 pub loop-left-init : goal.loop-left-init

@@ -1,6 +1,6 @@
 use Rattle.lookup_targets.proofs.Laws.{part-passed, part-known, part-stops, each-noted, along-noted, noted-ahead}
 use Rattle.lookup_targets.specs.Values.{place_fault}
-use Rattle.fields.specs.Walk.{walk_none}
+use Rattle.fields.proofs.Walk.{walk_none}
 use native.Mathlib.Omega.{arith}
 use mathlib.Core.Path.{refl, sym, ◌∙◌}
 use Prim.Native.Nat.{◌+◌}

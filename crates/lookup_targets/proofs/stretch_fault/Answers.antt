@@ -1,6 +1,6 @@
 use borrow.Author.Rules.{rules}
 use native.Mathlib.Omega.{arith}
-use Rattle.fields.specs.Walk.{walk-stop, walk-next, walk_none}
+use Rattle.fields.proofs.Walk.{walk-stop, walk-next, walk_none}
 use Prim.Native.Nat.{◌+◌}
 use Rattle.lookup_targets.specs.Values.{place_fault}
 use Rattle.lookup_targets.proofs.Laws.{each-told}

@@ -1,7 +1,7 @@
 use borrow.Author.Rules.{rules}
 use native.Mathlib.Omega.{arith}
-use Rattle.fields.specs.Laws.{then-stop, then-go}
-use Rattle.fields.specs.Walk.{walk_none}
+use Rattle.fields.proofs.Laws.{then-stop, then-go}
+use Rattle.fields.proofs.Walk.{walk_none}
 use Prim.Native.Nat.{◌+◌}
 use Rattle.lookup_targets.specs.Values.{target_fault}
 use Rattle.lookup_targets.proofs.Laws.{run_end, run-judged, all_left}

@@ -1,7 +1,7 @@
 -- `lookup_targets::values_fault` meets its contract.
 use Rattle.lookup_targets.proofs.Laws.{none_ahead}
 use Rattle.lookup_targets.specs.Values.{values_fault}
-use Rattle.fields.specs.Laws.{then-stop, then-go}
+use Rattle.fields.proofs.Laws.{then-stop, then-go}
 use mathlib.Core.Path.{sym, ◌∙◌}
 use Rattle.lookup_targets.proofs.values_fault.Goals as goal
 

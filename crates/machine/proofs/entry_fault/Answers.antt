@@ -1,6 +1,6 @@
 -- `machine::entry_fault` meets its contract.
 use Rattle.machine.specs.Rows.{entry_fault}
-use Rattle.fields.specs.Laws.{then-of}
+use Rattle.fields.proofs.Laws.{then-of}
 use Rattle.machine.proofs.entry_fault.Goals as goal
 
 pub returns : goal.returns

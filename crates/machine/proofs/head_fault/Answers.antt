@@ -1,6 +1,6 @@
 -- `machine::head_fault` meets its contract.
 use Rattle.machine.specs.Machine.{head_fault}
-use Rattle.fields.specs.Laws.{then-of}
+use Rattle.fields.proofs.Laws.{then-of}
 use Rattle.machine.proofs.head_fault.Goals as goal
 
 pub returns : goal.returns

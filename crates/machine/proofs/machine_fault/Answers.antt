@@ -3,7 +3,7 @@ use mathlib.Core.Path.{sym, ◌∙◌, ap}
 use Rattle.machine.proofs.Steps.{unless-fault}
 use Rattle.machine.specs.Machine.{machine_fault}
 use Rattle.machine.specs.Rows.{fault_of}
-use Rattle.fields.specs.Laws.{then-stop, then-go}
+use Rattle.fields.proofs.Laws.{then-stop, then-go}
 use Rattle.machine.proofs.machine_fault.Goals as goal
 
 pub returns-in-Bad : goal.returns-in-Bad

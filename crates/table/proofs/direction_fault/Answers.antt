@@ -1,7 +1,7 @@
 -- `table::direction_fault` meets its contract.
 use mathlib.Core.Path.{ap, sym, ◌∙◌}
 use Rattle.table.proofs.Laws.{present-none, present-some, place-some, source-some, lists-part}
-use Rattle.fields.specs.Laws.{then-stop, then-go}
+use Rattle.fields.proofs.Laws.{then-stop, then-go}
 use Rattle.lookup_targets.specs.declared.Kind.TheVariants.{Clusters, Lists}
 use Rattle.lookup_targets.specs.Values.{source_fault}
 use Rattle.table.specs.Table.{machine_part, direction_fault}

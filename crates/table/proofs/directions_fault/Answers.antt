@@ -1,6 +1,6 @@
 -- `table::directions_fault` meets its contract.
 use mathlib.Core.Path.{sym, ap, ◌∙◌}
-use Rattle.fields.specs.Laws.{then-stop, then-go}
+use Rattle.fields.proofs.Laws.{then-stop, then-go}
 use Rattle.table.specs.Table.{direction_fault}
 use Rattle.table.proofs.Laws.{present-none}
 use Rattle.table.proofs.directions_fault.Goals as goal

@@ -1,7 +1,7 @@
 -- `table::fault_by` meets its contract.
 use Rattle.table.proofs.Laws.{few-glyphs}
 use Rattle.table.specs.Table.{table_fault}
-use Rattle.fields.specs.Laws.{then-stop, then-go}
+use Rattle.fields.proofs.Laws.{then-stop, then-go}
 use native.Mathlib.Omega.{arith}
 use mathlib.Core.Path.{sym, ◌∙◌}
 use Rattle.table.proofs.fault_by.Goals as goal

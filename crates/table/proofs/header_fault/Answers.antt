@@ -1,6 +1,6 @@
 -- `table::header_fault` meets its contract.
 use Rattle.table.specs.Table.{header_fault}
-use Rattle.fields.specs.Laws.{then-of}
+use Rattle.fields.proofs.Laws.{then-of}
 use Rattle.table.proofs.header_fault.Goals as goal
 
 pub returns : goal.returns

@@ -1,6 +1,6 @@
 -- `table::offsets_fault` meets its contract.
 use Rattle.table.specs.Table.{offsets_fault}
-use Rattle.fields.specs.Laws.{then-of}
+use Rattle.fields.proofs.Laws.{then-of}
 use Rattle.table.proofs.offsets_fault.Goals as goal
 
 pub returns : goal.returns
