@@ -11,7 +11,7 @@ room-long : (n : ℕ) → BitRoom n (replicate 2048 0)
 room-long n = record { glyphs = 1024; even = length-replicate {A = ℕ} 2048 0; few = omega arith; enough = λ e. e }
 
 pub justify_in-requires : goal.justify_in-requires
-justify_in-requires c = room-short (length c.args.glyphs.now) (omega (arith, c.if-glyphs-le128.true))
+justify_in-requires c = room-short (length c.args.glyphs.now) (omega arith)
 
 pub justify_in-requires-2 : goal.justify_in-requires-2
 justify_in-requires-2 c = room-long (length c.args.glyphs.now)
