@@ -1,5 +1,6 @@
 //! Every function of the library but `main` has a statement: an `ensures` between its signature and its body, which speaks
-//! of its answer or of what a lent slice holds afterwards.
+//! of its answer or of what a lent slice holds afterwards. That of a conversion stands in the `impl` around it: `from_gives`,
+//! of what is given and what comes of it.
 
 mod pages;
 
@@ -44,6 +45,17 @@ fn is_head(text: &str, kind: &str) -> bool {
     last == Some(kind) || before == Some(kind) && last.is_some_and(|name| name.chars().all(in_name))
 }
 
+/// Whether a function is a conversion whose `impl`, which begins before it, says what it gives: `from_gives`, of two values.
+fn is_conversion(name: &str, before: &str) -> bool {
+    let around = before.rfind("\nimpl").map_or("", |at| &before[at..]);
+    let gives = around.split("ghost from_gives = {").nth(1).unwrap_or("");
+    let mut bound = gives.split(['λ', '.']).nth(1).unwrap_or("").split_whitespace();
+    let (given, made) = (bound.next().unwrap_or(""), bound.next().unwrap_or(""));
+    let said = gives.split_once('.').map_or("", |(_, said)| said);
+    let names = |word: &str| word != "" && said.split(|c| !in_name(c)).any(|name| name == word);
+    name == "from" && around.contains(" From<") && names(given) && names(made)
+}
+
 /// What a function promises: each `ensures` of its text that comes before its body.
 fn promises(text: &str) -> Vec<&str> {
     let mut found = Vec::new();
@@ -80,7 +92,8 @@ fn every_function_is_stated() {
         let code: String = source.lines().flat_map(|line| [line.split("//").next().unwrap_or(""), "\n"]).collect();
         for (name, text) in functions(&code).into_iter().filter(|(name, _)| *name != "main") {
             seen += 1;
-            if !promises(text).into_iter().any(says_something) {
+            let before = &code[..text.as_ptr() as usize - code.as_ptr() as usize];
+            if !promises(text).into_iter().any(says_something) && !is_conversion(name, before) {
                 bare.push(format!("{}: {name}", file.display()));
             }
         }
@@ -99,6 +112,29 @@ pub fn d(self) -> u8 ensures { record { a = b } ≡ b } { 1 }
 fn e(s: &mut [u8]) requires low { 0 < length s.old } ensures same { b ≡ b } ensures after { s.new ≡ b } {}
 fn f(s: &mut [u8]) -> u8 ensures one { s.old ≡ results } ensures other { s.newer ≡ new } { result.new }
 fn g(s: &mut [u8]) -> u8 requires { x < 9 } ensures value { b ≡ b } ensures more { result ≡ b } { 1 }";
+
+/// Of these three conversions the first says what it gives; the second says nothing, the third nothing of what it is given.
+const THREE: &str = "
+impl From<A> for B {
+    ghost from_gives = { λ a b. b ≡ f a };
+    fn from(a: A) -> B { 1 }
+}
+impl From<C> for B {
+    fn from(c: C) -> B { 1 }
+}
+impl From<D> for B {
+    ghost from_gives = { λ _ b. b ≡ b };
+    fn from(d: D) -> B { 1 }
+}";
+
+#[test]
+fn what_converts_is_stated() {
+    let code = THREE.to_string();
+    let before = |text: &str| &code[..text.as_ptr() as usize - code.as_ptr() as usize];
+    let stated: Vec<bool> =
+        functions(&code).into_iter().map(|(name, text)| is_conversion(name, before(text))).collect();
+    assert_eq!(stated, [true, false, false]);
+}
 
 #[test]
 fn what_is_not_stated_is_found() {

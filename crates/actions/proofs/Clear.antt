@@ -4,8 +4,8 @@ use mathlib.Core.List.{List}
 use mathlib.Core.Path.{◌≡◌, ◌∙◌}
 use native.Mathlib.Omega.{arith}
 use lib.ListN.{length}
-use borrow.Author.Tests.{le-leb, lt-ltb, eq-eqb, ne_eqb}
-use Rattle.fields.specs.declared.Fault.TheVariants.{Clear}
+use borrow.Author.Tests.{le-leb, lt-ltb, eq-eqb}
+use Rattle.fields.specs.Faults.{Clear}
 use Rattle.fields.specs.declared.Refusal.TheVariants.{BadActions}
 use Rattle.fields.specs.Field.{u16_at, u32_at}
 use Rattle.fields.proofs.Laws.{then-go, clear-inside, rule-clear}
@@ -74,23 +74,3 @@ module _ (t : List ℕ) (glyphs at : ℕ) where
       ∙ then-go _ (rule-clear BadActions (at + 4) (eq-eqb _ _ four))
       ∙ rule-clear BadActions (at + 4) (le-leb _ _ (rw (f, g) at enough)))
       ∙ rw f at inner
-
--- how much data each type has, `k` being the type as it was read
-module _ (k : ℕ) where
-  pub size-0 : k ≡ 0 → data_size k ≡ 12
-  size-0 e = simp e
-
-  pub size-1 : k ≡ 1 → data_size k ≡ 2
-  size-1 e = simp e
-
-  pub size-2 : k ≡ 2 → data_size k ≡ 8
-  size-2 e = simp e
-
-  pub size-3 : k ≡ 3 → data_size k ≡ 0
-  size-3 e = simp e
-
-  pub size-4 : k ≡ 4 → data_size k ≡ 16
-  size-4 e = simp e
-
-  pub size-5 : (k ≡ 0 → ⊥) → (k ≡ 1 → ⊥) → (k ≡ 2 → ⊥) → (k ≡ 3 → ⊥) → (k ≡ 4 → ⊥) → data_size k ≡ 4
-  size-5 n0 n1 n2 n3 n4 = simp (ne_eqb k 0 n0, ne_eqb k 1 n1, ne_eqb k 2 n2, ne_eqb k 3 n3, ne_eqb k 4 n4)

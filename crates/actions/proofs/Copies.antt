@@ -1,5 +1,5 @@
 -- Bytes of the table copied into an action that is handed out.
-use Prim.Native.Nat.{ℕ, zero, suc, ◌+◌, ◌-◌, ◌*◌, ◌≤◌, ◌<◌}
+use Prim.Native.Nat.{ℕ, zero, suc, ◌+◌, ◌-◌, ◌*◌, ◌≤◌, ◌<◌, min}
 use mathlib.Core.Path.{◌≡◌, refl, ap, ap₂, sym, ◌∙◌, subst}
 use mathlib.Core.Bool.{Bool, true, false, cond}
 use mathlib.Core.List.{List, ◌∷◌, ◌++◌}
@@ -7,7 +7,8 @@ use native.Mathlib.Omega.{arith}
 use native.Mathlib.Decide.{ℕ_discrete}
 use native.Mathlib.Numerals.{add-one}
 use lib.ListN.{length, get_or, take, set, replicate}
-use lib.Seq.{take_all, length-take-le, set_at}
+use Rattle.std.proofs.lemmas.List.{length-take, take_all}
+use lib.Seq.{set_at}
 use lib.Dec.{eqb}
 use borrow.Author.Tests.{ne_eqb}
 use Rattle.fields.specs.Field.{u16_at}
@@ -50,15 +51,9 @@ module _ (t : List ℕ) where
   short p n h = sym (ap length (take_all 76 (bytes_at t p n) (omega (arith, bytes-length p n))) ∙ bytes-length p n)
 
   module _ (at ty : ℕ) where
-    pub size-long : (n : ℕ) → ty ≡ 0 → n ≡ u16_at t (at + 18) → 32 < n → 76 ≡ length (take 76 (content_at t at ty))
+    pub size-listed : (n : ℕ) → ty ≡ 0 → n ≡ u16_at t (at + 18) → min (12 + 2 * n) 76 ≡ length (take 76 (content_at t at ty))
     unfolding content_at
-    size-long n z e h =
-        let l : 76 ≤ length (bytes_at t (at + 8) (12 + 2 * u16_at t (at + 18))) = omega (arith, bytes-length (at + 8) (12 + 2 * u16_at t (at + 18))) in
-        simp z (sym (length-take-le 76 (bytes_at t (at + 8) (12 + 2 * u16_at t (at + 18))) l))
-
-    pub size-some : (n : ℕ) → ty ≡ 0 → n ≡ u16_at t (at + 18) → n ≤ 32 → 12 + 2 * n ≡ length (take 76 (content_at t at ty))
-    unfolding content_at
-    size-some n z e h = simp (z, ← e) (short (at + 8) (12 + 2 * n) (omega arith))
+    size-listed n z e = simp (z, ← e, length-take, bytes-length) (omega arith)
 
     -- ---- the data, `bs` being its bytes as they stand in the table, `s` of them
 

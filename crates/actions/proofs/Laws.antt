@@ -1,4 +1,5 @@
 -- What a caller may use of an action list: its length, what stands at a place, and of a list without fault the limits, and that what is read of it lies inside the table.
+use Rattle.std.specs.Prelude.{None, Some}
 use Prim.Native.Nat.{ℕ, zero, suc, ◌+◌, ◌-◌, ◌*◌, ◌≤◌, ◌<◌}
 use mathlib.Core.Path.{◌≡◌, refl, ap, ap₂, sym, ◌∙◌, subst}
 use mathlib.Core.Bool.{Bool, true, false, cond, ◌||◌}
@@ -10,13 +11,12 @@ use lib.ListN.{length, get_or, get_elem?, take, drop}
 use lib.Seq.{take_all, drop-cons}
 use lib.Dec.{ltb, eqb}
 use borrow.Author.Tests.{leb-true, ltb-true, ltb-false, eqb-true}
-use Rattle.fields.specs.declared.Fault.TheVariants.{Clear}
+use Rattle.fields.specs.Faults.{Clear}
 use Rattle.fields.specs.declared.Refusal.TheVariants.{BadActions}
 use Rattle.fields.specs.Field.{u16_at, u32_at, Bytes}
 use Rattle.fields.specs.Walk.{walk}
 use Rattle.fields.proofs.Laws.{then-first, then-second, rule-holds, inside-holds}
 use Rattle.meaning.specs.Meaning.{Action}
-use Rattle.actions.specs.declared.Spot.TheVariants.{At, Nowhere}
 use Rattle.actions.specs.declared.Stretch.{Stretch}
 use Rattle.encoding.specs.Codes.{All}
 use Rattle.encoding.specs.Upto.{from}
@@ -52,26 +52,26 @@ module _ (t : List ℕ) where
   action-past-all (suc n) at (suc k) h = action-past-all n (at + u32_at t (at + 4)) k (omega arith)
 
   -- which number a place goes with, and where it is
-  place-means : (at k p : ℕ) → spot_in_list t at k ≡ At p → (k < u32_at t at) × (p ≡ place_after t k (at + 4))
+  place-means : (at k p : ℕ) → spot_in_list t at k ≡ Some p → (k < u32_at t at) × (p ≡ place_after t k (at + 4))
   unfolding spot_in_list
   place-means at k p e = go (ltb k (u32_at t at)) refl e
     where
-      go : (b : Bool) → ltb k (u32_at t at) ≡ b → cond b (At (place_after t k (at + 4))) Nowhere ≡ At p
+      go : (b : Bool) → ltb k (u32_at t at) ≡ b → cond b (Some (place_after t k (at + 4))) None ≡ Some p
           → (k < u32_at t at) × (p ≡ place_after t k (at + 4))
       go true q f = (ltb-true _ _ q, cc)
       go false q f = let z : ◌≡◌ {A = ℕ} 0 1 = cc in absurd (omega arith)
 
-  pub place_at : (at k p : ℕ) → spot_in_list t at k ≡ At p → get_elem? (list_at t at) k ≡ some (action_at t p)
+  pub place_at : (at k p : ℕ) → spot_in_list t at k ≡ Some p → get_elem? (list_at t at) k ≡ some (action_at t p)
   unfolding list_at
   place_at at k p e =
       let m = place-means at k p e in
       action-there (u32_at t at) (at + 4) k m.0 ∙ ap (λ (q : ℕ). some (action_at t q)) (sym m.1)
 
-  pub place_none : (at k : ℕ) → spot_in_list t at k ≡ Nowhere → get_elem? (list_at t at) k ≡ none
+  pub place_none : (at k : ℕ) → spot_in_list t at k ≡ None → get_elem? (list_at t at) k ≡ none
   unfolding list_at spot_in_list
   place_none at k e = go (ltb k (u32_at t at)) refl e
     where
-      go : (b : Bool) → ltb k (u32_at t at) ≡ b → cond b (At (place_after t k (at + 4))) Nowhere ≡ Nowhere
+      go : (b : Bool) → ltb k (u32_at t at) ≡ b → cond b (Some (place_after t k (at + 4))) None ≡ None
           → get_elem? (actions_at t (u32_at t at) (at + 4)) k ≡ none
       go true q f = let z : ◌≡◌ {A = ℕ} 0 1 = cc in absurd (omega arith)
       go false q f = action-past-all (u32_at t at) (at + 4) k (ltb-false _ _ q)
@@ -323,7 +323,7 @@ module _ (t : List ℕ) (n : ℕ) where
   list_inside at e = inside-holds t at 4 (then-first _ _ e)
 
   -- the action that is found in it is without fault
-  pub list-each : (at k p : ℕ) → list_fault t n at ≡ Clear → spot_in_list t at k ≡ At p → action_fault t n p ≡ Clear
+  pub list-each : (at k p : ℕ) → list_fault t n at ≡ Clear → spot_in_list t at k ≡ Some p → action_fault t n p ≡ Clear
   unfolding list_fault
   list-each at k p e f =
       let m = place-means t at k p f in

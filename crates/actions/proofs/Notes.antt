@@ -7,12 +7,12 @@ use native.Mathlib.Decide.{ℕ_discrete}
 use native.Mathlib.Omega.{arith}
 use lib.ListN.{get_or, set, replicate}
 use lib.Seq.{get_or-set_other}
-use Rattle.fields.specs.declared.Fault.{Fault}
-use Rattle.fields.specs.declared.Fault.TheVariants.{Clear}
+use Rattle.fields.specs.Faults.{FirstFault}
+use Rattle.fields.specs.Faults.{Clear}
 use Rattle.fields.proofs.Laws.{then-first, then-second, then-go}
 use Rattle.fields.specs.Field.{u32_at}
 use Rattle.fields.specs.Walk.{walk, each}
-use Rattle.fields.proofs.Walk.{walk-next, walk_none}
+use Rattle.fields.proofs.Walk.{walk-goes, walk_none}
 use Rattle.actions.specs.Faults.{action_fault, actions_fault}
 use Rattle.actions.specs.Notes.{Passed, Passing}
 
@@ -29,7 +29,7 @@ no_note (suc n) zero = refl
 no_note (suc n) (suc i) = no_note n i
 
 -- of clear things that follow each other, fewer are clear too
-pub each_fewer : (one : ℕ → Fault) (to : ℕ → ℕ) (m n at : ℕ) → m ≤ n → each one to n at ≡ Clear → each one to m at ≡ Clear
+pub each_fewer : (one : ℕ → FirstFault) (to : ℕ → ℕ) (m n at : ℕ) → m ≤ n → each one to n at ≡ Clear → each one to m at ≡ Clear
 unfolding walk
 each_fewer one to zero n at h e = refl
 each_fewer one to (suc m) zero at h e = absurd (omega arith)
@@ -80,13 +80,22 @@ module _ {t : List ℕ} {glyphs : ℕ} where
       rest i (no n) = omega (arith, get_or-set_other notes at i byte 0 n)
 
 module _ (t : List ℕ) (glyphs : ℕ) where
-  -- what a note, `note` as it was read, tells of the action there, and of some from there on
-  pub known-clear : {notes : List ℕ} (at note : ℕ) → Passed t glyphs notes → note ≡ get_or notes at 0 → 4 ≤ note → action_fault t glyphs at ≡ Clear
+  -- the first of some actions without fault, and those after it: the next one stands at `p`
+  pub first-clear : (left at : ℕ) → 0 < left → actions_fault t glyphs left at ≡ Clear → action_fault t glyphs at ≡ Clear
   unfolding walk
-  known-clear {notes} at note p e h = then-first _ _ (each_fewer (action_fault t glyphs) (λ q. q + u32_at t (q + 4)) 1 (get_or notes at 0 / 4) at (omega arith) (p.clear at))
+  first-clear zero at h e = absurd (omega arith)
+  first-clear (suc left) at h e = then-first _ _ e
 
-  pub known-all : {notes : List ℕ} (at note left : ℕ) → Passed t glyphs notes → note ≡ get_or notes at 0 → left ≤ note / 4 → actions_fault t glyphs left at ≡ Clear
-  known-all {notes} at note left p e h = each_fewer (action_fault t glyphs) (λ q. q + u32_at t (q + 4)) left (get_or notes at 0 / 4) at (omega arith) (p.clear at)
+  pub rest-clear : (n i at p : ℕ) → i < n → actions_fault t glyphs (n - i) at ≡ Clear → p ≡ at + u32_at t (at + 4) → actions_fault t glyphs (n - (i + 1)) p ≡ Clear
+  rest-clear n i at p h e q =
+      sym (walk-goes _ _ _ n i at 0 p 0 tt h (first-clear (n - i) at (omega arith) e) q refl) ∙ e
+
+  -- what a note tells, by how many it says are known, of the actions from there on and of the first
+  pub known-all : {notes : List ℕ} (at known : ℕ) → Passed t glyphs notes → known ≡ get_or notes at 0 / 4 → actions_fault t glyphs known at ≡ Clear
+  known-all {notes} at known p e = rw e (p.clear at)
+
+  pub known-clear : {notes : List ℕ} (at known : ℕ) → Passed t glyphs notes → known ≡ get_or notes at 0 / 4 → 0 < known → action_fault t glyphs at ≡ Clear
+  known-clear {notes} at known p e h = first-clear known at h (known-all at known p e)
 
   -- a list of as many actions as have no fault, or fewer
   pub fewer-clear : (count passed at : ℕ) → count ≤ passed → actions_fault t glyphs passed at ≡ Clear → actions_fault t glyphs count at ≡ Clear
@@ -121,12 +130,3 @@ module _ (t : List ℕ) (glyphs : ℕ) where
     passed-next p e q k =
         let count : passed + 1 + k ≡ passed + suc k = omega arith in
         ap (λ (n : ℕ). actions_fault t glyphs n first) count ∙ before (suc k) ∙ then-go _ e ∙ ap (λ (x : ℕ). actions_fault t glyphs k x) (sym q)
-
-  -- the first of some actions without fault, and those after it: the next one stands at `p`
-  pub first-clear : (left at : ℕ) → 0 < left → actions_fault t glyphs left at ≡ Clear → action_fault t glyphs at ≡ Clear
-  unfolding walk
-  first-clear zero at h e = absurd (omega arith)
-  first-clear (suc left) at h e = then-first _ _ e
-
-  pub rest-clear : (left at p : ℕ) → 0 < left → actions_fault t glyphs left at ≡ Clear → p ≡ at + u32_at t (at + 4) → actions_fault t glyphs (left - 1) p ≡ Clear
-  rest-clear left at p h e q = sym (walk-next _ _ _ left at 0 p 0 h (first-clear left at h e) q refl) ∙ e

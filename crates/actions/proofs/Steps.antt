@@ -1,19 +1,18 @@
 -- The outcomes of the definitions that go by cases, and one step of each recursion, in the form that a return or a turn of a loop asks for.
-use Prim.Native.Nat.{ℕ, zero, suc, ◌+◌, ◌-◌, ◌*◌, ◌≤◌, ◌<◌}
+use Prim.Native.Nat.{ℕ, suc, ◌+◌, ◌-◌, ◌*◌, ◌≤◌, ◌<◌}
 use mathlib.Core.List.{List}
-use mathlib.Core.Path.{◌≡◌, refl, ◌∙◌}
+use mathlib.Core.Path.{◌≡◌, refl}
 use native.Mathlib.Omega.{arith}
 use lib.ListN.{length}
 use lib.Dec.{ltb}
-use borrow.Author.Tests.{le-leb, lt-leb, lt-ltb, le-ltb, ne_eqb}
-use Rattle.fields.specs.declared.Fault.TheVariants.{Clear, Bad}
-use Rattle.fields.specs.declared.Refusal.TheVariants.{Outside, BadActions}
+use borrow.Author.Tests.{ne_eqb}
+use Rattle.fields.specs.Faults.{Clear}
+use Rattle.fields.specs.declared.Refusal.TheVariants.{BadActions}
 use Rattle.fields.specs.Field.{u16_at, u32_at}
 use Rattle.fields.specs.Faults.{◌then◌, rule, inside}
 use Rattle.fields.proofs.Laws.{then-first, then-stop, then-clear, inside-holds, bad-inside}
-use Rattle.actions.specs.declared.Spot.TheVariants.{At, Nowhere}
-use Rattle.actions.specs.Faults.{glyph_fault, added_fault, type0_fault, type2_fault, type4_fault, type5_fault, data_fault, action_fault, actions_fault, list_fault}
-use Rattle.actions.specs.Actions.{place_after, spot_in_list, components_at}
+use Rattle.actions.specs.Faults.{glyph_fault, added_fault, type0_fault, type4_fault, type5_fault, data_fault, action_fault}
+use Rattle.actions.specs.Actions.{place_after, components_at}
 
 -- ---- faults
 
@@ -36,72 +35,33 @@ module _ (t : List ℕ) (glyphs at : ℕ) where
   unfolding action_fault
   action-begins e = inside-holds t at 2 (then-first _ _ e)
 
-  pub action-past : length t < at → action_fault t glyphs at ≡ Bad Outside at
-  unfolding action_fault
-  action-past h =
-      let b : inside t at 2 ≡ Bad Outside at = bad-inside t at 2 (omega arith) in
-      then-stop _ b ∙ b
+  -- the data of an action whose type is 0, is 4, or is past it
+  pub data-0 : (k : ℕ) → k ≡ 0 → data_fault t glyphs at k ≡ type0_fault t glyphs at
+  unfolding data_fault
+  data-0 k e = simp e
 
-  module _ (k : ℕ) where
-    pub data-0 : k ≡ 0 → data_fault t glyphs at k ≡ type0_fault t glyphs at
-    unfolding data_fault
-    data-0 e = simp e
+  pub data-4 : (k : ℕ) → k ≡ 4 → data_fault t glyphs at k ≡ type4_fault t at
+  unfolding data_fault
+  data-4 k e = simp e
 
-    pub data-1 : k ≡ 1 → data_fault t glyphs at k ≡ glyph_fault t glyphs (at + 8)
-    unfolding data_fault
-    data-1 e = simp e
+  pub data-5 : (k : ℕ) → (k ≡ 0 → ⊥) → (k ≡ 1 → ⊥) → (k ≡ 2 → ⊥) → (k ≡ 3 → ⊥) → (k ≡ 4 → ⊥) → data_fault t glyphs at k ≡ type5_fault t glyphs at
+  unfolding data_fault
+  data-5 k n0 n1 n2 n3 n4 = simp (ne_eqb k 0 n0, ne_eqb k 1 n1, ne_eqb k 2 n2, ne_eqb k 3 n3, ne_eqb k 4 n4)
 
-    pub data-2 : k ≡ 2 → data_fault t glyphs at k ≡ type2_fault t glyphs at
-    unfolding data_fault
-    data-2 e = simp e
-
-    pub data-3 : k ≡ 3 → data_fault t glyphs at k ≡ Clear
-    unfolding data_fault
-    data-3 e = simp e
-
-    pub data-4 : k ≡ 4 → data_fault t glyphs at k ≡ type4_fault t at
-    unfolding data_fault
-    data-4 e = simp e
-
-    pub data-5 : (k ≡ 0 → ⊥) → (k ≡ 1 → ⊥) → (k ≡ 2 → ⊥) → (k ≡ 3 → ⊥) → (k ≡ 4 → ⊥) → data_fault t glyphs at k ≡ type5_fault t glyphs at
-    unfolding data_fault
-    data-5 n0 n1 n2 n3 n4 = simp (ne_eqb k 0 n0, ne_eqb k 1 n1, ne_eqb k 2 n2, ne_eqb k 3 n3, ne_eqb k 4 n4)
-
-  -- the list's outcomes, `n` being its count as it was read
-  module _ (n : ℕ) (i : inside t at 4 ≡ Clear) (r : n ≡ u32_at t at) where
-    pub list-many : 64 < n → list_fault t glyphs at ≡ Bad BadActions at
-    unfolding list_fault ◌then◌ rule
-    list-many h = simp (i, ← r, lt-leb n 64 h)
-
-    pub list-few : n ≤ 64 → list_fault t glyphs at ≡ actions_fault t glyphs n (at + 4)
-    unfolding list_fault ◌then◌ rule
-    list-few h = simp (i, ← r, le-leb n 64 h)
+-- where a field, a glyph or an action that is clear lies inside the table
+pub ruleset ends = (inside-holds, glyph-inside, action-begins)
 
 -- ---- places
 
-down : (n : ℕ) → suc n - 1 ≡ n
-down n = omega arith
-
 module _ (t : List ℕ) where
-  pub after_next : (left at k : ℕ) → 0 < left → k ≡ u32_at t (at + 4) → place_after t left at ≡ place_after t (left - 1) (at + k)
+  -- `i` of `n` steps are made, and the next leads from `at`
+  pub after_next : (n i at k : ℕ) → i < n → k ≡ u32_at t (at + 4) → place_after t (n - i) at ≡ place_after t (n - (i + 1)) (at + k)
   unfolding place_after
-  after_next zero at k h e = absurd (omega arith)
-  after_next (suc left) at k h e = simp (down left, e)
+  after_next n i at k h e = let r : n - i ≡ suc (n - (i + 1)) = omega arith in rw (r, e) refl
 
-  pub after_none : (left at : ℕ) → left ≤ 0 → place_after t left at ≡ at
+  pub after_none : (n i at : ℕ) → n ≤ i → place_after t (n - i) at ≡ at
   unfolding place_after
-  after_none zero at h = refl
-  after_none (suc left) at h = absurd (omega arith)
-
-  -- the list's outcomes for a number, `n` being its count as it was read
-  module _ (at number n : ℕ) (r : n ≡ u32_at t at) where
-    pub place-nowhere : n ≤ number → spot_in_list t at number ≡ Nowhere
-    unfolding spot_in_list
-    place-nowhere h = simp (← r, le-ltb number n h)
-
-    pub place-there : number < n → spot_in_list t at number ≡ At (place_after t number (at + 4))
-    unfolding spot_in_list
-    place-there h = simp (← r, lt-ltb number n h)
+  after_none n i at h = let z : n - i ≡ 0 = omega arith in rw z refl
 
   -- the components of an action whose type was read as `k`, and their count as `n`
   pub components-none : (at k : ℕ) → k ≡ u16_at t (at + 2) → (k ≡ 0 → ⊥) → components_at t at ≡ record { from = 0; to = 0 }

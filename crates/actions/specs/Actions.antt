@@ -1,11 +1,10 @@
 -- What is read from an action list, each action as the sheet writes it (document 01, "The table", the list, and "The sheet", section 7): its data without padding,
 -- type 0's with its count and glyphs, type 5's with its flags zero. Fields are read as if zeros followed the table.
+use Rattle.std.specs.Prelude.{None, Option, Some}
 use Rattle.std.specs.Prelude.{ℕ, zero, suc, ◌+◌, ◌-◌, ◌*◌, ◌<◌, cond, List, [], ◌∷◌, ◌++◌, ltb, eqb, length, get_or, take, replicate}
 use Rattle.fields.specs.Field.{u16_at, u32_at}
 use Rattle.encoding.specs.Upto.{from}
 use Rattle.meaning.specs.Meaning.{Action}
-use Rattle.actions.specs.declared.Spot.{Spot}
-use Rattle.actions.specs.declared.Spot.TheVariants.{At, Nowhere}
 use Rattle.actions.specs.declared.Stretch.{Stretch}
 use Rattle.actions.specs.Faults.{data_size}
 
@@ -40,13 +39,13 @@ place_after t zero at = at
 place_after t (suc k) at = place_after t k (at + u32_at t (at + 4))
 
 -- where the action with a number stands, of the list at `at`
-unfoldable pub spot_in_list : List ℕ → ℕ → ℕ → Spot
-spot_in_list t at number = cond (ltb number (u32_at t at)) (At (place_after t number (at + 4))) Nowhere
+unfoldable pub spot_in_list : List ℕ → ℕ → ℕ → Option ℕ
+spot_in_list t at number = cond (ltb number (u32_at t at)) (Some (place_after t number (at + 4))) None
 
 -- a spot's offset, if it has one, is below a number
-abbrev pub SpotBelow : ℕ → Spot → Type 0
-SpotBelow n (At p) = p < n
-SpotBelow n Nowhere = Unit {0}
+abbrev pub SpotBelow : ℕ → Option ℕ → Type 0
+SpotBelow n (Some p) = p < n
+SpotBelow n None = Unit {0}
 
 -- where the glyphs of the action at `at` stand, without their count; an empty stretch if it is not of type 0
 unfoldable pub components_at : List ℕ → ℕ → Stretch

@@ -2,7 +2,7 @@
 -- where a list begins that was found without fault, 2 where such a cluster begins, and 4 for each action, up to 63 from the one that begins there on, that is known
 -- to have no fault: lists can overlap, and one that begins where so many are known is judged without a step.
 use Rattle.std.specs.Prelude.{ℕ, ◌/◌, ◌%◌, ◌≤◌, ◌≡◌, List, get_or}
-use Rattle.fields.specs.declared.Fault.TheVariants.{Clear}
+use Rattle.fields.specs.Faults.{Clear}
 use Rattle.actions.specs.Faults.{actions_fault}
 
 -- actions that are noted as known have no fault

@@ -1,9 +1,9 @@
 // An action list (document 01, "The table"): a 32-bit count, 0 to 64, then actions that say their own lengths: class,
 // type, length, data. Here: its first fault, where an action of it stands, and what is read from an action.
-#![tactic(auto)]
+#![tactic(auto, using(fields::proofs::Walk::walk_steps, crate::proofs::Steps::ends), unfolding(fields::specs::Faults::earlier, fields::specs::Faults::rule, crate::specs::Faults::glyph_fault, crate::specs::Faults::added_fault, crate::specs::Faults::count_fault, crate::specs::Faults::type0_fault, crate::specs::Faults::type2_fault, crate::specs::Faults::type4_fault, crate::specs::Faults::type5_fault, crate::specs::Faults::data_fault, crate::specs::Faults::length_fault, crate::specs::Faults::action_fault, crate::specs::Faults::list_fault, crate::specs::Actions::spot_in_list, crate::specs::Actions::components_at))]
 
-ghost use Rattle.std.specs.Prelude.{◌≡◌, true, ◌+◌, ◌≤◌, ◌<◌, ◌^◌, length, take};
-ghost use Rattle.fields.specs.declared.Fault.TheVariants.{Clear};
+ghost use Rattle.std.specs.Prelude.{◌≡◌, true, ◌+◌, ◌≤◌, ◌<◌, ◌^◌, length, take, IfSome};
+ghost use Rattle.fields.specs.Faults.{Clear};
 ghost use Rattle.fields.specs.Field.{u32_at};
 ghost use Rattle.meaning.specs.Ask.{held};
 ghost use Rattle.actions.specs.Faults.{glyph_fault, added_fault, count_fault, glyphs_fault, type0_fault, type2_fault, type4_fault, type5_fault, data_fault, data_size, length_fault, action_fault, actions_fault, list_fault};
@@ -12,13 +12,6 @@ ghost use Rattle.actions.specs.Actions.{bytes_at, content_at, action_at, place_a
 
 use fields::{Fault, Refusal};
 use types::HeldAction;
-
-// Where an action stands, or nowhere.
-#[derive(Clone, Copy)]
-pub enum Spot {
-    At(usize),
-    Nowhere,
-}
 
 // A part of the table, the bytes from `from` on and before `to`.
 #[derive(Clone, Copy)]
@@ -34,197 +27,181 @@ struct SteppedOver {
     over: usize,
 }
 
-fn glyph_fault(table: &[u8], glyphs: usize, at: usize) -> Fault
+// Where an action's type, its length and its data stand, from where it begins.
+const TYPE: usize = 2;
+
+const LENGTH: usize = 4;
+
+const DATA: usize = 8;
+
+// So with type 0's count and glyphs, type 2's added glyph and substitute, and type 5's glyph.
+const COUNT: usize = 18;
+
+const COMPONENTS: usize = 20;
+
+const ADDED: usize = 12;
+
+const SUBSTITUTE: usize = 14;
+
+const REPEATED: usize = 10;
+
+// The most bytes of data that an action without fault has.
+const MOST: usize = 76;
+
+// What stands for no glyph where type 2 may add one.
+const NO_GLYPH: usize = 65535;
+
+fn glyph_fault(table: &[u8], glyphs: usize, at: usize) -> Result<(), Fault>
     ensures { result ≡ glyph_fault table.now glyphs at }
 {
-    let inside = fields::in_table(table, at, 2);
-    let glyph = fields::u16_at(table, at);
-    fields::then(
-        inside,
-        fields::ruled(glyph < glyphs, Refusal::BadActions, at),
-    )
+    fields::in_table(table, at, 2)?;
+    fields::ruled(fields::u16_at(table, at) < glyphs, Refusal::BadActions, at)
 }
 
-fn added_fault(table: &[u8], glyphs: usize, at: usize) -> Fault
+fn added_fault(table: &[u8], glyphs: usize, at: usize) -> Result<(), Fault>
     ensures { result ≡ added_fault table.now glyphs at }
 {
-    let inside = fields::in_table(table, at, 2);
+    fields::in_table(table, at, 2)?;
     let glyph = fields::u16_at(table, at);
-    if glyph == 65535 {
-        return inside;
-    }
-    fields::then(
-        inside,
-        fields::ruled(glyph < glyphs, Refusal::BadActions, at),
-    )
+    fields::ruled(glyph == NO_GLYPH || glyph < glyphs, Refusal::BadActions, at)
 }
 
 // The count of the type 0 action at `at`.
-fn count_fault(table: &[u8], at: usize) -> Fault
+fn count_fault(table: &[u8], at: usize) -> Result<(), Fault>
     requires { at ≤ length table.now }
     ensures { result ≡ count_fault table.now at }
 {
-    let inside = fields::in_table(table, at + 18, 2);
-    let count = fields::u16_at(table, at + 18);
-    let length = fields::u32_at(table, at + 4);
-    let some = fields::ruled(1 <= count, Refusal::BadActions, at + 18);
-    let few = fields::ruled(count <= 32, Refusal::BadActions, at + 18);
-    let fit = fields::ruled(20 + 2 * count <= length, Refusal::BadActions, at + 18);
-    fields::then(inside, fields::then(some, fields::then(few, fit)))
+    fields::in_table(table, at + COUNT, 2)?;
+    let count = fields::u16_at(table, at + COUNT);
+    let length = fields::u32_at(table, at + LENGTH);
+    fields::ruled(1 <= count, Refusal::BadActions, at + COUNT)?;
+    fields::ruled(count <= 32, Refusal::BadActions, at + COUNT)?;
+    fields::ruled(
+        COMPONENTS + 2 * count <= length,
+        Refusal::BadActions,
+        at + COUNT,
+    )
 }
 
 // The first fault of `count` glyphs from `first` on.
-fn glyphs_fault(table: &[u8], glyphs: usize, first: usize, count: usize) -> Fault
+fn glyphs_fault(table: &[u8], glyphs: usize, first: usize, count: usize) -> Result<(), Fault>
     ensures { result ≡ glyphs_fault table.now glyphs count first }
 {
     let mut at = first;
-    let mut left = count;
-    while 0 < left {
-        let fault = glyph_fault(table, glyphs, at);
-        if let Fault::Bad { refusal: _, at: _ } = fault {
-            return fault;
-        }
+    for _ in 0..count {
+        glyph_fault(table, glyphs, at)?;
         at += 2;
-        left -= 1;
     }
-    Fault::Clear
+    Ok(())
 }
 
-fn type0_fault(table: &[u8], glyphs: usize, at: usize) -> Fault
+fn type0_fault(table: &[u8], glyphs: usize, at: usize) -> Result<(), Fault>
     requires { at ≤ length table.now }
     ensures { result ≡ type0_fault table.now glyphs at }
 {
-    let lower = fields::in_table(table, at + 8, 4);
-    let upper = fields::in_table(table, at + 12, 4);
-    let order = fields::in_table(table, at + 16, 2);
-    let count = count_fault(table, at);
-    let listed = glyphs_fault(table, glyphs, at + 20, fields::u16_at(table, at + 18));
-    let counted = fields::then(order, fields::then(count, listed));
-    fields::then(lower, fields::then(upper, counted))
+    fields::in_table(table, at + 8, 4)?;
+    fields::in_table(table, at + 12, 4)?;
+    fields::in_table(table, at + 16, 2)?;
+    count_fault(table, at)?;
+    glyphs_fault(
+        table,
+        glyphs,
+        at + COMPONENTS,
+        fields::u16_at(table, at + COUNT),
+    )
 }
 
-fn type2_fault(table: &[u8], glyphs: usize, at: usize) -> Fault
+fn type2_fault(table: &[u8], glyphs: usize, at: usize) -> Result<(), Fault>
     requires { at ≤ length table.now }
     ensures { result ≡ type2_fault table.now glyphs at }
 {
-    let threshold = fields::in_table(table, at + 8, 4);
-    let added = added_fault(table, glyphs, at + 12);
-    let substitute = glyph_fault(table, glyphs, at + 14);
-    fields::then(threshold, fields::then(added, substitute))
+    fields::in_table(table, at + 8, 4)?;
+    added_fault(table, glyphs, at + ADDED)?;
+    glyph_fault(table, glyphs, at + SUBSTITUTE)
 }
 
-fn type4_fault(table: &[u8], at: usize) -> Fault
+fn type4_fault(table: &[u8], at: usize) -> Result<(), Fault>
     requires { at ≤ length table.now }
     ensures { result ≡ type4_fault table.now at }
 {
-    let axis = fields::in_table(table, at + 8, 4);
-    let least = fields::in_table(table, at + 12, 4);
-    let usual = fields::in_table(table, at + 16, 4);
-    let most = fields::in_table(table, at + 20, 4);
-    fields::then(axis, fields::then(least, fields::then(usual, most)))
+    fields::in_table(table, at + 8, 4)?;
+    fields::in_table(table, at + 12, 4)?;
+    fields::in_table(table, at + 16, 4)?;
+    fields::in_table(table, at + 20, 4)
 }
 
-fn type5_fault(table: &[u8], glyphs: usize, at: usize) -> Fault
+fn type5_fault(table: &[u8], glyphs: usize, at: usize) -> Result<(), Fault>
     requires { at ≤ length table.now }
     ensures { result ≡ type5_fault table.now glyphs at }
 {
-    let flags = fields::in_table(table, at + 8, 2);
-    fields::then(flags, glyph_fault(table, glyphs, at + 10))
+    fields::in_table(table, at + 8, 2)?;
+    glyph_fault(table, glyphs, at + REPEATED)
 }
 
-// The first fault in the data of the action at `at`, whose type is `ty`, 0 to 5.
-fn data_fault(table: &[u8], glyphs: usize, at: usize, ty: usize) -> Fault
+// The first fault in the data of the action at `at`, whose type is `ty`, 0 to 5. A type is the number that its field has, which
+// may be any: rules and definitions go by it, here and above.
+fn data_fault(table: &[u8], glyphs: usize, at: usize, ty: usize) -> Result<(), Fault>
     requires { at ≤ length table.now }
     ensures { result ≡ data_fault table.now glyphs at ty }
 {
-    if ty == 0 {
-        return type0_fault(table, glyphs, at);
+    match ty {
+        0 => type0_fault(table, glyphs, at),
+        1 => glyph_fault(table, glyphs, at + DATA),
+        2 => type2_fault(table, glyphs, at),
+        3 => Ok(()),
+        4 => type4_fault(table, at),
+        _ => type5_fault(table, glyphs, at),
     }
-    if ty == 1 {
-        return glyph_fault(table, glyphs, at + 8);
-    }
-    if ty == 2 {
-        return type2_fault(table, glyphs, at);
-    }
-    if ty == 3 {
-        return Fault::Clear;
-    }
-    if ty == 4 {
-        return type4_fault(table, at);
-    }
-    type5_fault(table, glyphs, at)
 }
 
 // How many bytes of data a type has, type 0's glyphs left out.
 pub fn data_size(ty: usize) -> usize
     ensures { (result ≡ data_size ty) × (result ≤ 16) }
 {
-    if ty == 0 {
-        return 12;
+    match ty {
+        0 => 12,
+        1 => 2,
+        2 => 8,
+        3 => 0,
+        4 => 16,
+        _ => 4,
     }
-    if ty == 1 {
-        return 2;
-    }
-    if ty == 2 {
-        return 8;
-    }
-    if ty == 3 {
-        return 0;
-    }
-    if ty == 4 {
-        return 16;
-    }
-    4
 }
 
-fn length_fault(table: &[u8], at: usize) -> Fault
+fn length_fault(table: &[u8], at: usize) -> Result<(), Fault>
     requires { at ≤ length table.now }
     ensures { result ≡ length_fault table.now at }
 {
-    let inside = fields::in_table(table, at + 4, 4);
-    let length = fields::u32_at(table, at + 4);
-    let size = data_size(fields::u16_at(table, at + 2));
-    let whole = fields::ruled(length % 4 == 0, Refusal::BadActions, at + 4);
-    let enough = fields::ruled(8 + size <= length, Refusal::BadActions, at + 4);
-    fields::then(inside, fields::then(whole, enough))
+    fields::in_table(table, at + LENGTH, 4)?;
+    let length = fields::u32_at(table, at + LENGTH);
+    let size = data_size(fields::u16_at(table, at + TYPE));
+    fields::ruled(length % 4 == 0, Refusal::BadActions, at + LENGTH)?;
+    fields::ruled(DATA + size <= length, Refusal::BadActions, at + LENGTH)
 }
 
 // The first fault of the action at `at`.
-fn action_fault(table: &[u8], glyphs: usize, at: usize) -> Fault
+fn action_fault(table: &[u8], glyphs: usize, at: usize) -> Result<(), Fault>
     ensures { result ≡ action_fault table.now glyphs at }
 {
-    if table.len() < at {
-        return Fault::Bad {
-            refusal: Refusal::Outside,
-            at,
-        };
-    }
-    let ty = fields::u16_at(table, at + 2);
-    let class_in = fields::in_table(table, at, 2);
-    let classed = fields::ruled(fields::u16_at(table, at) <= 127, Refusal::BadActions, at);
-    let type_in = fields::in_table(table, at + 2, 2);
-    let typed = fields::ruled(ty <= 5, Refusal::BadActions, at + 2);
-    let measured = length_fault(table, at);
-    let filled = fields::then(measured, data_fault(table, glyphs, at, ty));
-    let tail = fields::then(type_in, fields::then(typed, filled));
-    fields::then(class_in, fields::then(classed, tail))
+    fields::in_table(table, at, 2)?;
+    fields::ruled(fields::u16_at(table, at) <= 127, Refusal::BadActions, at)?;
+    fields::in_table(table, at + TYPE, 2)?;
+    let ty = fields::u16_at(table, at + TYPE);
+    fields::ruled(ty <= 5, Refusal::BadActions, at + TYPE)?;
+    length_fault(table, at)?;
+    data_fault(table, glyphs, at, ty)
 }
 
 // The first fault of `count` actions from `first` on.
-fn actions_fault(table: &[u8], glyphs: usize, first: usize, count: usize) -> Fault
+fn actions_fault(table: &[u8], glyphs: usize, first: usize, count: usize) -> Result<(), Fault>
     ensures { result ≡ actions_fault table.now glyphs count first }
 {
     let mut at = first;
-    let mut left = count;
-    while 0 < left {
-        let fault = action_fault(table, glyphs, at);
-        if let Fault::Bad { refusal: _, at: _ } = fault {
-            return fault;
-        }
-        at += fields::u32_at(table, at + 4);
-        left -= 1;
+    for _ in 0..count {
+        action_fault(table, glyphs, at)?;
+        at += fields::u32_at(table, at + LENGTH);
     }
-    Fault::Clear
+    Ok(())
 }
 
 // Whether the glyph at `at` is seen to be without fault.
@@ -244,13 +221,11 @@ fn glyphs_are_clear(table: &[u8], glyphs: usize, first: usize, count: usize) -> 
     ensures { result ≡ true → glyphs_fault table.now glyphs count first ≡ Clear }
 {
     let mut at = first;
-    let mut left = count;
-    while 0 < left {
+    for _ in 0..count {
         if !glyph_is_clear(table, glyphs, at) {
             return false;
         }
         at += 2;
-        left -= 1;
     }
     true
 }
@@ -258,36 +233,27 @@ fn glyphs_are_clear(table: &[u8], glyphs: usize, first: usize, count: usize) -> 
 // Whether the data of the type 0 action at `at` is, in the action's length, `size`.
 fn type0_is_clear(table: &[u8], glyphs: usize, at: usize, size: usize) -> bool
     requires { (at + 8 ≤ length table.now) × (size ≡ u32_at table.now (at + 4)) }
-    ensures { result ≡ true → (20 ≤ size) × (type0_fault table.now glyphs at ≡ Clear) }
+    ensures { result ≡ true → type0_fault table.now glyphs at ≡ Clear }
 {
-    if table.len() < at + 20 {
+    if table.len() < at + COMPONENTS {
         return false;
     }
-    let count = fields::u16_at(table, at + 18);
-    if count < 1 {
+    let count = fields::u16_at(table, at + COUNT);
+    if count < 1 || 32 < count || size < COMPONENTS + 2 * count {
         return false;
     }
-    if 32 < count {
-        return false;
-    }
-    if size < 20 + 2 * count {
-        return false;
-    }
-    glyphs_are_clear(table, glyphs, at + 20, count)
+    glyphs_are_clear(table, glyphs, at + COMPONENTS, count)
 }
 
 fn type2_is_clear(table: &[u8], glyphs: usize, at: usize) -> bool
     requires { at + 8 ≤ length table.now }
     ensures { result ≡ true → type2_fault table.now glyphs at ≡ Clear }
 {
-    if !glyph_is_clear(table, glyphs, at + 14) {
+    if !glyph_is_clear(table, glyphs, at + SUBSTITUTE) {
         return false;
     }
-    let added = fields::u16_at(table, at + 12);
-    if added == 65535 {
-        return true;
-    }
-    added < glyphs
+    let added = fields::u16_at(table, at + ADDED);
+    added == NO_GLYPH || added < glyphs
 }
 
 // Whether the action's length, `size`, and the data of its type, 0 to 5, are.
@@ -295,62 +261,39 @@ fn data_is_clear(table: &[u8], glyphs: usize, at: usize, ty: usize, size: usize)
     requires { (at + 8 ≤ length table.now) × (size ≡ u32_at table.now (at + 4)) }
     ensures { result ≡ true → (8 + data_size ty ≤ size) × (data_fault table.now glyphs at ty ≡ Clear) }
 {
-    if ty == 0 {
-        return type0_is_clear(table, glyphs, at, size);
-    }
-    if ty == 1 {
-        if size < 10 {
-            return false;
-        }
-        return glyph_is_clear(table, glyphs, at + 8);
-    }
-    if ty == 2 {
-        if size < 16 {
-            return false;
-        }
-        return type2_is_clear(table, glyphs, at);
-    }
-    if ty == 3 {
-        return 8 <= size;
-    }
-    if ty == 4 {
-        if size < 24 {
-            return false;
-        }
-        return at + 24 <= table.len();
-    }
-    if size < 12 {
+    if size < DATA + data_size(ty) {
         return false;
     }
-    glyph_is_clear(table, glyphs, at + 10)
+    match ty {
+        0 => type0_is_clear(table, glyphs, at, size),
+        1 => glyph_is_clear(table, glyphs, at + DATA),
+        2 => type2_is_clear(table, glyphs, at),
+        3 => true,
+        4 => at + 24 <= table.len(),
+        _ => glyph_is_clear(table, glyphs, at + REPEATED),
+    }
 }
 
-// Where the action at `at` ends, where it is seen to be without fault; else 0.
-fn clear_end(table: &[u8], glyphs: usize, at: usize) -> usize
+// Where the action at `at` ends, where it is seen to be without fault.
+fn clear_end(table: &[u8], glyphs: usize, at: usize) -> Option<usize>
     requires { at ≤ length table.now + 2 ^ 32 }
-    ensures { 0 < result → (action_fault table.now glyphs at ≡ Clear) × (result ≡ at + u32_at table.now (at + 4)) × (result ≤ length table.now + 2 ^ 32) }
+    ensures { IfSome result (λ end. (action_fault table.now glyphs at ≡ Clear) × (end ≡ at + u32_at table.now (at + 4)) × (end ≤ length table.now + 2 ^ 32)) }
 {
-    if table.len() < at + 8 {
-        return 0;
+    if table.len() < at + DATA {
+        return None;
     }
     let class = fields::u16_at(table, at);
-    let ty = fields::u16_at(table, at + 2);
-    let size = fields::u32_at(table, at + 4);
-    if 127 < class {
-        return 0;
-    }
-    if 5 < ty {
-        return 0;
-    }
-    if !data_is_clear(table, glyphs, at, ty, size) {
-        return 0;
+    let ty = fields::u16_at(table, at + TYPE);
+    let size = fields::u32_at(table, at + LENGTH);
+    if 127 < class || 5 < ty || !data_is_clear(table, glyphs, at, ty, size) {
+        return None;
     }
     // The length is a multiple of 4.
     let end = at + size;
     if end % 4 != at % 4 {
-        return 0;
+        return None;
     }
-    end
+    Some(end)
 }
 
 // Steps through actions from `first` on, up to `most`, while they are seen to be without fault. Each is noted in `judged`, so
@@ -363,55 +306,49 @@ fn step_through(
     enough: usize,
     judged: &mut [u8],
 ) -> SteppedOver
-    requires first_in_bounds { (first ≤ length table.now) × (most ≤ 255) }
-    requires passed { Passed table.now glyphs judged.old }
+    requires inside { (first ≤ length table.now) × (most ≤ 255) }
+    requires known_clear { Passed table.now glyphs judged.old }
     ensures { (actions_fault table.now glyphs result.passed first ≡ Clear) × Passing table.now glyphs judged.old judged.new }
 {
     let mut at = first;
-    let mut passed: usize = 0;
     let mut over: usize = 0;
-    while passed < most {
+    for passed in 0..most {
         let note = fields::u8_at(judged, at);
-        if 4 <= note {
-            let known = note / 4;
-            if fields::lower(most - passed, enough) <= known {
+        let known = note / 4;
+        if 0 < known {
+            if (most - passed).min(enough) <= known {
                 let passed = passed + known;
                 return SteppedOver { passed, over };
             }
-            at += fields::u32_at(table, at + 4);
+            at += fields::u32_at(table, at + LENGTH);
             over += 1;
-            passed += 1;
-        } else {
-            let end = clear_end(table, glyphs, at);
-            if end == 0 {
-                return SteppedOver { passed, over };
-            }
-            fields::put_u8(judged, at, (note + 4) as u8);
-            at = end;
-            passed += 1;
+            continue;
         }
+        let Some(end) = clear_end(table, glyphs, at) else {
+            return SteppedOver { passed, over };
+        };
+        fields::put_u8(judged, at, (note + 4) as u8);
+        at = end;
     }
-    SteppedOver { passed, over }
+    SteppedOver { passed: most, over }
 }
 
 // Notes at each of `count` actions from `first` on, which have no fault, how many are known from it on: as far as a note has
 // room, and up to one that tells as much, since from there on those that follow do so too.
 fn note_ahead(table: &[u8], glyphs: usize, first: usize, count: usize, judged: &mut [u8])
-    requires first_value { actions_fault table.now glyphs count first ≡ Clear }
-    requires passed { Passed table.now glyphs judged.old }
+    requires all_clear { actions_fault table.now glyphs count first ≡ Clear }
+    requires known_clear { Passed table.now glyphs judged.old }
     ensures { Passing table.now glyphs judged.old judged.new }
 {
     let mut at = first;
-    let mut left = count;
-    while 0 < left {
-        let known = fields::lower(left, 63);
+    for passed in 0..count {
+        let known = (count - passed).min(63);
         let note = fields::u8_at(judged, at);
         if known <= note / 4 {
             return;
         }
         fields::put_u8(judged, at, (4 * known + note % 4) as u8);
-        at += fields::u32_at(table, at + 4);
-        left -= 1;
+        at += fields::u32_at(table, at + LENGTH);
     }
 }
 
@@ -425,8 +362,8 @@ fn actions_are_clear(
     count: usize,
     judged: &mut [u8],
 ) -> bool
-    requires first_in_bounds { (first ≤ length table.now) × (count ≤ 64) }
-    requires passed { Passed table.now glyphs judged.old }
+    requires inside { (first ≤ length table.now) × (count ≤ 64) }
+    requires known_clear { Passed table.now glyphs judged.old }
     ensures { (result ≡ true → actions_fault table.now glyphs count first ≡ Clear) × Passing table.now glyphs judged.old judged.new }
 {
     let list = step_through(table, glyphs, first, count, 64, judged);
@@ -443,50 +380,41 @@ fn actions_are_clear(
 
 // The first fault of the list at `at`, in a table read with `glyphs` glyphs. `judged` has a note for each position, whose
 // fourth says how many actions from there on are known to have no fault; the rest of a note is the caller's.
-pub fn list_fault(table: &[u8], glyphs: usize, at: usize, judged: &mut [u8]) -> Fault
+pub fn list_fault(table: &[u8], glyphs: usize, at: usize, judged: &mut [u8]) -> Result<(), Fault>
     requires { Passed table.now glyphs judged.old }
     ensures { (result ≡ list_fault table.now glyphs at) × Passing table.now glyphs judged.old judged.new }
 {
-    let inside = fields::in_table(table, at, 4);
-    if let Fault::Bad { refusal: _, at: _ } = inside {
-        return inside;
-    }
+    fields::in_table(table, at, 4)?;
     let count = fields::u32_at(table, at);
-    if 64 < count {
-        return Fault::Bad {
-            refusal: Refusal::BadActions,
-            at,
-        };
-    }
+    fields::ruled(count <= 64, Refusal::BadActions, at)?;
     if actions_are_clear(table, glyphs, at + 4, count, judged) {
-        return Fault::Clear;
+        return Ok(());
     }
     actions_fault(table, glyphs, at + 4, count)
 }
 
 // Where the action stands that is `count` after the one at `first`.
+#[tactic(auto, using(crate::proofs::Steps::after_next, crate::proofs::Steps::after_none))]
 fn place_after(table: &[u8], first: usize, count: u16) -> usize
     requires { first < 2 ^ 48 }
     ensures { (result ≡ place_after table.now count first) × (result < 2 ^ 50) }
 {
     let mut at = first;
-    let mut left = count;
-    while 0 < left {
-        at += fields::u32_at(table, at + 4);
-        left -= 1;
+    for _ in 0..count {
+        at += fields::u32_at(table, at + LENGTH);
     }
     at
 }
 
 // Where the action with a number stands, of the list at `at`.
-pub fn spot_in_list(table: &[u8], at: usize, number: u16) -> Spot
+pub fn spot_in_list(table: &[u8], at: usize, number: u16) -> Option<usize>
     requires { at < 2 ^ 40 }
     ensures { (result ≡ spot_in_list table.now at number) × SpotBelow (2 ^ 50) result }
 {
     if fields::u32_at(table, at) <= number as usize {
-        return Spot::Nowhere;
+        return None;
     }
-    Spot::At(place_after(table, at + 4, number))
+    Some(place_after(table, at + 4, number))
 }
 
 // How many bytes of data the action at `at` has, of type `ty`; at most 76.
@@ -497,33 +425,28 @@ fn held_size(table: &[u8], at: usize, ty: usize) -> usize
     if ty != 0 {
         return data_size(ty);
     }
-    let count = fields::u16_at(table, at + 18);
-    if 32 < count {
-        return 76;
-    }
-    12 + 2 * count
+    let count = fields::u16_at(table, at + COUNT);
+    (12 + 2 * count).min(MOST)
 }
 
 // `size` bytes of the table from `first` on, then zeros.
-fn copied(table: &[u8], first: usize, size: usize) -> [u8; 76]
+fn copied(table: &[u8], first: usize, size: usize) -> [u8; MOST]
     requires { (first < 2 ^ 63) × (size ≤ 76) }
     ensures { result ≡ padded (bytes_at table.now first size) }
 {
-    let mut bytes = [0u8; 76];
-    let mut i: usize = 0;
-    while i < size {
+    let mut bytes = [0u8; MOST];
+    for i in 0..size {
         bytes[i] = fields::u8_at(table, first + i) as u8;
-        i += 1;
     }
     bytes
 }
 
 // The data of the action at `at`, of type `ty`: at most 76 bytes, then zeros.
-fn content_at(table: &[u8], at: usize, ty: usize) -> [u8; 76]
+fn content_at(table: &[u8], at: usize, ty: usize) -> [u8; MOST]
     requires { at < 2 ^ 62 }
     ensures { result ≡ padded (take 76 (content_at table.now at ty)) }
 {
-    let mut bytes = copied(table, at + 8, held_size(table, at, ty));
+    let mut bytes = copied(table, at + DATA, held_size(table, at, ty));
     if ty != 5 {
         return bytes;
     }
@@ -539,7 +462,7 @@ pub fn action_at(table: &[u8], at: usize) -> HeldAction
     ensures { result ≡ held (clipped (action_at table.now at)) }
 {
     let class = fields::u16_at(table, at);
-    let ty = fields::u16_at(table, at + 2);
+    let ty = fields::u16_at(table, at + TYPE);
     let size = held_size(table, at, ty);
     let bytes = content_at(table, at, ty);
     HeldAction {
@@ -555,12 +478,12 @@ pub fn components_at(table: &[u8], at: usize) -> Stretch
     requires { at < 2 ^ 62 }
     ensures { result ≡ components_at table.now at }
 {
-    if fields::u16_at(table, at + 2) != 0 {
+    if fields::u16_at(table, at + TYPE) != 0 {
         return Stretch { from: 0, to: 0 };
     }
-    let count = fields::u16_at(table, at + 18);
+    let from = at + COMPONENTS;
     Stretch {
-        from: at + 20,
-        to: at + 20 + 2 * count,
+        from,
+        to: from + 2 * fields::u16_at(table, at + COUNT),
     }
 }

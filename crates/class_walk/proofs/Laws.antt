@@ -2,7 +2,7 @@
 use Prim.Native.Nat.{ℕ, zero, suc, ◌+◌, ◌≤◌, ◌<◌}
 use mathlib.Core.Path.{◌≡◌, refl, sym, ◌∙◌, subst}
 use mathlib.Core.Bool.{Bool, true, false, cond}
-use mathlib.Core.Option.{Option, none, some}
+use Rattle.std.specs.Prelude.{Option, Some, None}
 use mathlib.Core.List.{List, [], ◌∷◌}
 use mathlib.Core.Logic.{◌⊎◌, inl, inr}
 use native.Mathlib.Omega.{arith}
@@ -111,8 +111,8 @@ ends_low m l = has_end m l (λ (cs : List ℕ). (place : ℕ) → get_or cs plac
     set-low (c ∷ cs) (suc p) v h e (suc place) = set-low cs p v h (λ i. e (suc i)) place
 
     give-low : (g : Option ℕ) (v : ℕ) (cs : List ℕ) → v < 128 → ((place : ℕ) → get_or cs place 0 < 128) → (place : ℕ) → get_or (give g v cs) place 0 < 128
-    give-low none v cs h e place = e place
-    give-low (some p) v cs h e place = go (eqb v 0)
+    give-low None v cs h e place = e place
+    give-low (Some p) v cs h e place = go (eqb v 0)
       where
         go : (b : Bool) → get_or (cond b cs (set cs p v)) place 0 < 128
         go true = e place

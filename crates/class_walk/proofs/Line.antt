@@ -1,16 +1,16 @@
 -- Laws of a line by the machine of a table: its classes, what an accepted machine gives the walk, and the walk as it is handed out. Assumes nothing.
 use Prim.Native.Nat.{ℕ, zero, suc, ◌≤◌, ◌<◌}
-use mathlib.Core.Path.{◌≡◌, refl, ap, sym, ◌∙◌, subst}
+use mathlib.Core.Path.{◌≡◌, refl, ap, sym, subst}
 use mathlib.Core.Logic.{◌⊎◌, inl, inr}
-use mathlib.Core.Bool.{Bool, true, false, cond, true≢false, false≢true}
+use mathlib.Core.Bool.{Bool}
 use mathlib.Core.List.{List, [], ◌∷◌, map}
 use native.Mathlib.Omega.{arith}
 use native.Mathlib.Decide.{ℕ_discrete}
 use lib.ListN.{length, get_or, length-map}
-use borrow.Author.Tests.{eq-eqb, ne_eqb, lt-ltb, le-ltb}
+use borrow.Author.Tests.{eq-eqb, ne_eqb}
 use Rattle.machine.specs.Cells.{class_at, class_count}
-use Rattle.class_walk.specs.declared.Walked.{Walked}
-use Rattle.class_walk.specs.Walk.{Conf, Walk, going, stopped, Fits, column_at}
+use Rattle.std.specs.Prelude.{Option, Some, None}
+use Rattle.class_walk.specs.Walk.{Conf, Walk, going, stopped, Fits}
 use Rattle.class_walk.specs.Line.{machine_at, line_of, line_column, line_columns, handed_out, HandedOut, SoundMachine, Columns}
 
 -- ---- the machine's classes of a line
@@ -19,16 +19,6 @@ get_d_map : (f : ℕ → ℕ) (xs : List ℕ) (k : ℕ) → k < length xs → ge
 get_d_map f [] k h = absurd (omega arith)
 get_d_map f (x ∷ xs) zero h = refl
 get_d_map f (x ∷ xs) (suc k) h = get_d_map f xs k (omega arith)
-
--- the class at a glyph's place, and at the end position
-pub column-there : (t : List ℕ) (here : ℕ) (line : List ℕ) (ends : Bool) (place : ℕ) → place < length line
-    → column_at (line_columns t here line) ends place ≡ line_column t here (get_or line place 0)
-column-there t here line ends place h =
-    rw (length-map line (line_column t here), lt-ltb place (length line) h) (get_d_map (line_column t here) line place h)
-
-pub column-end : (t : List ℕ) (here : ℕ) (line : List ℕ) (ends : Bool) (place : ℕ) → length line ≤ place
-    → column_at (line_columns t here line) ends place ≡ cond ends 0 3
-column-end t here line ends place h = rw (length-map line (line_column t here), le-ltb place (length line) h)
 
 pub fits-of : {t : List ℕ} {here : ℕ} {columns : List ℕ} (starts ends : Bool) → SoundMachine t here → Columns t here columns → Fits (machine_at t here) (line_of columns starts ends)
 fits-of starts ends ok line =
@@ -57,29 +47,25 @@ module _ (t : List ℕ) (here n : ℕ) (four : 4 ≤ class_count t here) (below 
 
 -- ---- the walk as it is handed out
 
-pub handed-stopped : {w : Walk} (cs : List ℕ) (k : ℕ) → w ≡ stopped cs k → HandedOut w (record { ends = true; count = k }) cs
+pub handed-stopped : {w : Walk} (cs : List ℕ) (k : ℕ) → w ≡ stopped cs k → HandedOut w (Some k) cs
 unfolding handed_out
 handed-stopped cs k e = record { says = sym (ap handed_out e); classes = λ cs' k' e'. cc }
 
-pub handed-never : {w : Walk} (s : Conf) (room : List ℕ) → w ≡ going s → HandedOut w (record { ends = false; count = 0 }) room
+pub handed-never : {w : Walk} (s : Conf) (room : List ℕ) → w ≡ going s → HandedOut w None room
 unfolding handed_out
-handed-never s room e =
-    record {
-      says = sym (ap handed_out e);
-      classes = λ cs k e'. let z : ◌≡◌ {A = ℕ} 0 1 = cc in absurd (omega arith);
-    }
+handed-never s room e = record { says = sym (ap handed_out e); classes = λ cs k e'. cc }
 
 -- of two walks that are the same, the one is handed out as the other
-pub handed-same : {v w : Walk} {r : Walked} {room : List ℕ} → v ≡ w → HandedOut v r room → HandedOut w r room
+pub handed-same : {v w : Walk} {r : Option ℕ} {room : List ℕ} → v ≡ w → HandedOut v r room → HandedOut w r room
 handed-same {v} {w} {r} {room} e h = subst (λ (x : Walk). HandedOut x r room) e h
 
 -- what is known of a walk by what was handed out
-pub handed-ended : (w : Walk) (r : Walked) (room : List ℕ) → HandedOut w r room → r.ends ≡ true → w ≡ stopped room r.count
+pub handed-ended : (w : Walk) (k : ℕ) (room : List ℕ) → HandedOut w (Some k) room → w ≡ stopped room k
 unfolding handed_out
-handed-ended (going s) r room h e = absurd (false≢true (sym (ap (λ (x : Walked). x.ends) h.says) ∙ e))
-handed-ended (stopped cs k) r room h e = rw (h.says, h.classes cs k refl)
+handed-ended (going s) k room h = let e : Some k ≡ None = h.says in cc
+handed-ended (stopped cs n) k room h = let e : Some k ≡ Some n = h.says in let l = h.classes cs n refl in cc
 
-pub handed-going : (w : Walk) (r : Walked) (room : List ℕ) → HandedOut w r room → r.ends ≡ false → (s : Conf) × (w ≡ going s)
+pub handed-going : (w : Walk) (room : List ℕ) → HandedOut w None room → (s : Conf) × (w ≡ going s)
 unfolding handed_out
-handed-going (going s) r room h e = (s, refl)
-handed-going (stopped cs k) r room h e = absurd (true≢false (sym (ap (λ (x : Walked). x.ends) h.says) ∙ e))
+handed-going (going s) room h = (s, refl)
+handed-going (stopped cs n) room h = let e : None ≡ Some n = h.says in absurd (cc)

@@ -1,59 +1,41 @@
 -- What the loop of the walk keeps, and what a turn makes of it: its locals are where the walk stands. Assumes nothing.
-use Prim.Native.Nat.{ℕ, ◌+◌, ◌*◌, ◌/◌, ◌%◌, ◌≤◌, ◌<◌}
-use mathlib.Core.Path.{◌≡◌, refl, ap, ap₂, sym, ◌∙◌, subst}
-use mathlib.Core.Bool.{Bool, true, false, cond, not, ◌&&◌, false≢true}
-use mathlib.Core.Option.{Option, none, or_else}
+use Prim.Native.Nat.{ℕ, ◌+◌, ◌*◌, ◌/◌, ◌%◌, ◌≤◌, ◌<◌, ◌^◌}
+use mathlib.Core.Path.{◌≡◌, refl, ap, ap₂, sym, ◌∙◌}
+use mathlib.Core.Bool.{Bool, true, false, cond}
 use mathlib.Core.List.{List}
 use native.Mathlib.Omega.{arith}
-use lib.Dec.{leb}
-use lib.ListN.{length, get_or, replicate}
+use lib.Dec.{ltb}
+use lib.ListN.{length, get_or, replicate, length-map}
+use borrow.Author.Tests.{ltb-true, ltb-false}
+use Rattle.std.specs.Prelude.{Option, Some, None, is_some, IfSome}
+use Rattle.std.specs.Option.{option_or}
 use Rattle.fields.specs.Field.{u16_at, u32_at, Bytes}
 use Rattle.fields.proofs.Laws.{u16_at-fits}
 use Rattle.machine.specs.Cells.{entry_at, cell_at, class_count, entry_table}
 use Rattle.machine.specs.Rows.{row_count}
-use borrow.Author.Tests.{leb-true, leb-false, le-ltb}
 use Rattle.types.specs.declared.Entry.{Entry}
 use Rattle.units.specs.Flags.{sets_mark, stays, mark_class, current_class}
-use Rattle.class_walk.specs.Walk.{Machine, Line, Conf, going, stopped, Fits, glyphs, column_at, current, give, met, given_by, on_at, begin, Ends, walked}
-use Rattle.class_walk.specs.Line.{HandedOut, row_place, SoundMachine}
-use Rattle.class_walk.proofs.Theory.{give-length, At, at_first, at-stays, at-moves, at_stops, spent-never}
+use Rattle.class_walk.specs.declared.Met.{Met}
+use Rattle.class_walk.specs.Walk.{Line, Conf, stopped, Fits, glyphs, column_at, current, give, met, given_by, on_at, begin, Ends, walked}
+use Rattle.class_walk.specs.Line.{machine_at, line_of, line_column, line_columns, row_place, HandedOut, SoundMachine, Columns}
+use Rattle.class_walk.proofs.Theory.{At, at_first, at-stays, at-moves, at_stops, spent-never, column-low}
 use Rattle.class_walk.proofs.Laws.{ends-walked, never_walked}
-use Rattle.class_walk.proofs.Line.{handed-stopped, handed-never}
+use Rattle.class_walk.proofs.Line.{fits-of, handed-stopped, handed-never}
 
--- where the walk stands by the loop's locals; a mark is a place, and the end position is none
-abbrev pub conf_of : Line → ℕ → ℕ → ℕ → List ℕ → ℕ → Conf
-conf_of l row place mark given count = record { row = row; place = place; mark = current (glyphs l) mark; given = given; count = count }
+-- a place is a glyph's where there is a glyph
+current-some : (n place : ℕ) → is_some (current n place) ≡ ltb place n
+current-some n place = go (ltb place n)
+  where
+    go : (b : Bool) → is_some (cond b (Some place) None) ≡ b
+    go true = refl
+    go false = refl
 
--- what the code has after an entry
-pub record Entered (m : Machine) (l : Line) (row place mark : ℕ) (out : List ℕ) (e : Entry) (marked : ℕ) (out' : List ℕ) : Type 0 where
-  pub entry-is : e ≡ m.cell row (column_at l.columns l.ends place)
-  pub mark-is : current (glyphs l) marked ≡ cond (sets_mark e.flags) (or_else (current (glyphs l) place) (current (glyphs l) mark)) (current (glyphs l) mark)
-  pub out-is : out' ≡ give (current (glyphs l) place) (current_class e.flags) (give (current (glyphs l) mark) (mark_class e.flags) out)
-
--- by its callees' equations, `n` being the line's length
-pub entered : (m : Machine) (l : Line) (row place mark : ℕ) (out : List ℕ) (n column marked : ℕ) (e : Entry) (flags : ℕ) (out' : List ℕ)
-    → n ≡ glyphs l
-    → length out ≡ glyphs l
-    → column ≡ column_at l.columns l.ends place
-    → e ≡ m.cell row column
-    → flags ≡ e.flags
-    → current n marked ≡ cond (sets_mark flags) (or_else (current n place) (current n mark)) (current n mark)
-    → out' ≡ give (current (length out) place) (current_class flags) (give (current (length out) mark) (mark_class flags) out)
-    → Entered m l row place mark out e marked out'
-entered m l row place mark out n column marked e flags out' en eo ek ee ef em eg =
-    record {
-      entry-is = ee ∙ ap (m.cell row) ek;
-      mark-is = rw (en, ef) at em;
-      out-is = eg ∙ ap₂ (λ (f k : ℕ). give (current k place) (current_class f) (give (current k mark) (mark_class f) out)) ef eo;
-    }
-
--- the room for the classes stays as long as it is
-pub entered-length : {m : Machine} {l : Line} {row place mark : ℕ} {out : List ℕ} {e : Entry} {marked : ℕ} {out' : List ℕ}
-    → Entered m l row place mark out e marked out' → length out' ≡ length out
-entered-length {m} {l} {row} {place} {mark} {out} {e} {marked} {out'} t =
-    ap length t.out-is
-    ∙ give-length (current (glyphs l) place) (current_class e.flags) (give (current (glyphs l) mark) (mark_class e.flags) out)
-    ∙ give-length (current (glyphs l) mark) (mark_class e.flags) out
+-- the marked glyph after an entry is a glyph too
+pub mark-within : (b : Bool) (n : ℕ) (glyph mark : Option ℕ) → IfSome glyph (λ at. at < n) → IfSome mark (λ at. at < n)
+    → IfSome (cond b (option_or glyph mark) mark) (λ at. at < n)
+mark-within true n None mark g m = m
+mark-within true n (Some x) mark g m = g
+mark-within false n glyph mark g m = m
 
 -- the two fields of an entry, in one number
 pub entry-fields : (t : List ℕ) (at : ℕ) → Bytes t → (u32_at t at / 65536 ≡ u16_at t at) × (u32_at t at % 65536 ≡ u16_at t (at + 2))
@@ -71,61 +53,118 @@ module _ (t : List ℕ) (here row column k : ℕ) (ek : k ≡ entry_table t here
       → r ≡ row_place t here (cell_at t here row column).row
   met-base ok r e h q = e ∙ ap₂ (λ (x y : ℕ). here + u16_at t (x + 4 * get_or t (y + column) 0)) ek eb ∙ ok.exact row column h q
 
-module _ (m : Machine) (l : Line) (ok : Fits m l) where
-  -- no glyph is marked at first
-  pub keeps-first : (row n : ℕ) (out : List ℕ) → row ≡ cond l.starts 0 1 → n ≡ glyphs l → out ≡ replicate n 0
-      → At m l 256 (conf_of l row 0 n out 0) 0
-  unfolding begin
-  keeps-first row n out er en eo =
-      let unmarked : current (glyphs l) n ≡ none = rw (le-ltb n (glyphs l) (omega arith)) in
-      rw (er, unmarked, eo, en) (at_first m l ok 256)
+module _ (t : List ℕ) (here : ℕ) (line : List ℕ) (starts ends : Bool) where
+  abbrev pub line_by : Line
+  line_by = line_of (line_columns t here line) starts ends
 
-  -- S entries at one place
-  pub keeps-never : (s : Conf) (spent : ℕ) (out : List ℕ) → At m l 256 s spent → m.rows ≤ 256 → 256 ≤ spent
-      → HandedOut (walked m l) (record { ends = false; count = 0 }) out
-  keeps-never s spent out w r h =
-      let g : (s' : Conf) × (walked m l ≡ going s') = never_walked m l (spent-never m l ok 256 s spent w (omega arith)) in
-      handed-never g.0 out g.1
+  -- the walk stands where the loop's locals say: the row is known by where it stands, and the class at the place is at hand
+  pub record Stands (base column place : ℕ) (mark : Option ℕ) (given : List ℕ) (count spent : ℕ) : Type 0 where
+    pub row : ℕ
+    pub base-is : base ≡ row_place t here row
+    pub near : base < 2 ^ 34
+    pub column-is : column ≡ column_at (line_columns t here line) ends place
+    pub marked : IfSome mark (λ at. at < length line)
+    pub at : At (machine_at t here) line_by 256 (record { row = row; place = place; mark = mark; given = given; count = count }) spent
 
-  module _ (row place mark spent count : ℕ) (out : List ℕ) (e : Entry) (marked : ℕ) (out' : List ℕ)
-      (w : At m l 256 (conf_of l row place mark out count) spent) (few : spent < 256) (t : Entered m l row place mark out e marked out') where
-    abbrev s : Conf
-    s = conf_of l row place mark out count
+  module _ (sound : SoundMachine t here) (fit : Columns t here (line_columns t here line)) where
+    fits : Fits (machine_at t here) line_by
+    fits = fits-of starts ends sound fit
 
-    out-given : given_by (met m l s) l s ≡ out'
-    out-given = sym (rw t.entry-is at t.out-is)
+    -- no glyph is marked at first
+    pub stands-first : {base column : ℕ} {given : List ℕ} → base ≡ row_place t here (cond starts 0 1) → base < 2 ^ 34
+        → column ≡ column_at (line_columns t here line) ends 0 → given ≡ replicate (length line) 0 → Stands base column 0 None given 0 0
+    unfolding begin
+    stands-first b n k g = record {
+      row = cond starts 0 1;
+      base-is = b;
+      near = n;
+      column-is = k;
+      marked = tt;
+      at = rw (g, ← length-map line (line_column t here)) (at_first (machine_at t here) line_by fits 256);
+    }
 
-    on-is : (p : ℕ) → on_at p (met m l s) l s ≡ conf_of l e.row p marked out' (count + 1)
-    on-is p =
-        ap₂ (λ (x : Entry) (g : Option ℕ). record { row = x.row; place = p; mark = g; given = given_by (met m l s) l s; count = count + 1 })
-        (sym t.entry-is)
-        (sym (rw t.entry-is at t.mark-is))
-        ∙ ap (λ (o : List ℕ). conf_of l e.row p marked o (count + 1)) out-given
+    module _ {base column place : ℕ} {mark : Option ℕ} {given : List ℕ} {count spent : ℕ} (w : Stands base column place mark given count spent) where
+      pub column-small : column < class_count t here
+      column-small = rw w.column-is (column-low fits place)
 
-    stay-is : (b : Bool) → stays e.flags ≡ b → stays (met m l s).flags ≡ b
-    stay-is b h = rw t.entry-is at h
+      pub count_small : count ≤ 262400
+      count_small = omega (arith, w.at.place-low, w.at.count_low, w.at.spent-low, fit.short)
 
-    pub keeps-stays : stays e.flags ≡ true → At m l 256 (conf_of l e.row place marked out' (count + 1)) (spent + 1)
-    keeps-stays h = subst (λ (x : Conf). At m l 256 x (spent + 1)) (on-is place) (at-stays m l ok 256 s spent w few (stay-is true h))
+      -- S entries at one place
+      pub stands-never : (room : List ℕ) → 256 ≤ spent → HandedOut (walked (machine_at t here) line_by) None room
+      stands-never room h =
+          let g = never_walked (machine_at t here) line_by (spent-never (machine_at t here) line_by fits 256 _ spent w.at (omega (arith, sound.rows-high))) in
+          handed-never g.0 room g.1
 
-    pub keeps-moves : stays e.flags ≡ false → place < glyphs l → At m l 256 (conf_of l e.row (place + 1) marked out' (count + 1)) 0
-    keeps-moves h p = subst (λ (x : Conf). At m l 256 x 0) (on-is (place + 1)) (at-moves m l ok 256 s spent w few (stay-is false h) p)
+      -- an entry is taken: its number stands where the row's cells and the column say
+      module _ (few : spent < 256) {entries : ℕ} (k : entries ≡ entry_table t here) {m : Met}
+          (b : m.base ≡ here + u16_at t (entries + 4 * get_or t (base + column) 0)) (f : m.flags ≡ u16_at t (entries + 4 * get_or t (base + column) 0 + 2))
+          {glyph marked : Option ℕ} (g : glyph ≡ current (length line) place) (within : IfSome glyph (λ at. at < length line))
+          (mk : marked ≡ cond (sets_mark m.flags) (option_or glyph mark) mark)
+          {given' : List ℕ} (o : given' ≡ give glyph (current_class m.flags) (give mark (mark_class m.flags) given)) where
+        abbrev s : Conf
+        s = record { row = w.row; place = place; mark = mark; given = given; count = count }
 
-    pub keeps-stops : stays e.flags ≡ false → glyphs l ≤ place → HandedOut (walked m l) (record { ends = true; count = count + 1 }) out'
-    unfolding Ends
-    keeps-stops h p =
-        let q : walked m l ≡ stopped (given_by (met m l s) l s) (count + 1) =
-        ends-walked m l ok _ _ (count + 1, at_stops m l ok 256 s spent w few (stay-is false h) p)
-        in
-        handed-stopped out' (count + 1) (q ∙ ap (λ (o : List ℕ). stopped o (count + 1)) out-given)
+        abbrev e : Entry
+        e = cell_at t here w.row column
 
-pub count_small : (m : Machine) (l : Line) (s : Conf) (spent : ℕ) → At m l 256 s spent → glyphs l ≤ 1024 → s.count ≤ 262400
-count_small m l s spent w n = omega (arith, w.place-low, w.count_low, w.spent-low)
+        same : length line ≡ glyphs line_by
+        same = sym (length-map line (line_column t here))
 
--- an entry stops the walk exactly where it does not stay at the end position
-pub stops_true : (b : Bool) (n place : ℕ) → (not b && leb n place) ≡ true → (b ≡ false) × (n ≤ place)
-stops_true false n place e = (refl, leb-true n place e)
-stops_true true n place e = absurd (false≢true e)
+        entry-is : e ≡ met (machine_at t here) line_by s
+        entry-is = ap (cell_at t here w.row) w.column-is
 
-pub stops_false : (b : Bool) (n place : ℕ) → (not b && leb n place) ≡ false → b ≡ false → place < n
-stops_false b n place e h = leb-false n place (rw h at e)
+        flags-are : m.flags ≡ (met (machine_at t here) line_by s).flags
+        flags-are = met-flags t here w.row column entries k base w.base-is m.flags f ∙ ap (λ (x : Entry). x.flags) entry-is
+
+        glyph-is : glyph ≡ current (glyphs line_by) place
+        glyph-is = g ∙ ap (λ (n : ℕ). current n place) same
+
+        given-is : given' ≡ given_by (met (machine_at t here) line_by s) line_by s
+        given-is = o ∙ ap₂ (λ (x : ℕ) (y : Option ℕ). give y (current_class x) (give mark (mark_class x) given)) flags-are glyph-is
+
+        goes-on : (p : ℕ) → on_at p (met (machine_at t here) line_by s) line_by s ≡ record { row = e.row; place = p; mark = marked; given = given'; count = count + 1 }
+        goes-on p =
+            let d = mk ∙ ap₂ (λ (x : ℕ) (y : Option ℕ). cond (sets_mark x) (option_or y mark) mark) flags-are glyph-is in
+            sym (ap₂ (λ (x : Entry) (y : Option ℕ). record { row = x.row; place = p; mark = y; given = given'; count = count + 1 }) entry-is d
+            ∙ ap (λ (y : List ℕ). on_with p y) given-is)
+          where
+            on_with : ℕ → List ℕ → Conf
+            on_with p y = record (on_at p (met (machine_at t here) line_by s) line_by s) { given = y }
+
+        glyph-at : {b : Bool} → is_some glyph ≡ b → ltb place (length line) ≡ b
+        glyph-at h = sym (current-some (length line) place) ∙ sym (ap is_some g) ∙ h
+
+        base-after : m.base ≡ row_place t here e.row
+        base-after = met-base t here w.row column entries k base w.base-is sound m.base b w.at.row_low column-small
+
+        marked-after : IfSome marked (λ at. at < length line)
+        marked-after = rw mk (mark-within (sets_mark m.flags) (length line) glyph mark within w.marked)
+
+        pub turn-stays : m.base < 2 ^ 34 → stays m.flags ≡ true → Stands m.base column place marked given' (count + 1) (spent + 1)
+        turn-stays n h = record {
+          row = e.row;
+          base-is = base-after;
+          near = n;
+          column-is = w.column-is;
+          marked = marked-after;
+          at = rw goes-on at (at-stays (machine_at t here) line_by fits 256 s spent w.at few (sym (ap stays flags-are) ∙ h));
+        }
+
+        pub turn-moves : {column' : ℕ} → m.base < 2 ^ 34 → stays m.flags ≡ false → is_some glyph ≡ true → column' ≡ column_at (line_columns t here line) ends (place + 1)
+            → Stands m.base column' (place + 1) marked given' (count + 1) 0
+        turn-moves n h p q = record {
+          row = e.row;
+          base-is = base-after;
+          near = n;
+          column-is = q;
+          marked = marked-after;
+          at = rw goes-on at (at-moves (machine_at t here) line_by fits 256 s spent w.at few (sym (ap stays flags-are) ∙ h) (omega (arith, same, ltb-true _ _ (glyph-at p))));
+        }
+
+        -- at the end position an entry that does not stay stops the walk
+        pub turn-stops : stays m.flags ≡ false → is_some glyph ≡ false → HandedOut (walked (machine_at t here) line_by) (Some (count + 1)) given'
+        unfolding Ends
+        turn-stops h p =
+            let q = ends-walked (machine_at t here) line_by fits _ _ (count + 1, at_stops (machine_at t here) line_by fits 256 s spent w.at few (sym (ap stays flags-are) ∙ h) (omega (arith, same, ltb-false _ _ (glyph-at p)))) in
+            handed-stopped given' (count + 1) (q ∙ ap (λ (x : List ℕ). stopped x (count + 1)) (sym given-is))

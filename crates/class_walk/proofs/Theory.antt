@@ -1,9 +1,9 @@
 -- The walk, step by step: what holds where it stands, what an entry makes of it, and why S entries that stay at one place mean that it never ends.
 -- Assumes nothing.
 use Prim.Native.Nat.{ℕ, zero, suc, ◌+◌, ◌-◌, ◌*◌, ◌≤◌, ◌<◌}
-use mathlib.Core.Path.{◌≡◌, refl, ap, ap₂, sym, ◌∙◌}
+use mathlib.Core.Path.{◌≡◌, refl, ap, sym, ◌∙◌}
 use mathlib.Core.Bool.{Bool, true, false, cond}
-use mathlib.Core.Option.{Option, none, some}
+use Rattle.std.specs.Prelude.{Option, Some, None}
 use mathlib.Core.List.{List}
 use native.Mathlib.Omega.{arith}
 use native.Mathlib.Decide.{ℕ_discrete, dec_le}
@@ -18,18 +18,12 @@ use Rattle.class_walk.specs.Walk.{Machine, Line, Conf, going, stopped, Fits, gly
 use Rattle.class_walk.proofs.Cycle.{iter, forever}
 
 pub give-length : (g : Option ℕ) (v : ℕ) (cs : List ℕ) → length (give g v cs) ≡ length cs
-give-length none v cs = refl
-give-length (some p) v cs = go (eqb v 0)
+give-length None v cs = refl
+give-length (Some p) v cs = go (eqb v 0)
   where
     go : (b : Bool) → length (cond b cs (set cs p v)) ≡ length cs
     go true = refl
     go false = length-set cs p v
-
--- a class is given, and then another
-pub give-then : (cs cs' out : List ℕ) (mark place v w : ℕ) → cs' ≡ give (current (length cs) mark) v cs → out ≡ give (current (length cs') place) w cs'
-    → out ≡ give (current (length cs) place) w (give (current (length cs) mark) v cs)
-give-then cs cs' out mark place v w e f =
-    f ∙ ap₂ (λ (n : ℕ) (x : List ℕ). give (current n place) w x) (ap length e ∙ give-length (current (length cs) mark) v cs) e
 
 -- ---- steps
 

@@ -1,10 +1,9 @@
 -- The walk of a line by the machine in a table's bytes: the line's glyphs as the machine's classes (document 01, "The table", Machine: a deleted glyph is
 -- class 2), and the walk as it is handed out.
-use Rattle.std.specs.Prelude.{ℕ, ◌+◌, ◌*◌, ◌<◌, ◌≤◌, ◌^◌, ◌≡◌, Bool, true, false, cond, List, map, eqb, length, get_or}
+use Rattle.std.specs.Prelude.{ℕ, ◌+◌, ◌*◌, ◌<◌, ◌≤◌, ◌^◌, ◌≡◌, Bool, cond, List, map, eqb, length, get_or, Option, Some, None}
 use Rattle.fields.specs.Field.{u16_at}
 use Rattle.machine.specs.Cells.{cell_at, class_at, class_count, number_at, state_array}
 use Rattle.machine.specs.Rows.{entry_place, row_count}
-use Rattle.class_walk.specs.declared.Walked.{Walked}
 use Rattle.class_walk.specs.Walk.{Machine, Line, Walk, going, stopped}
 
 -- the machine of a table
@@ -25,13 +24,13 @@ line_column t here glyph = cond (eqb glyph 0xFFFF) 2 (class_at t here glyph)
 abbrev pub line_columns : List ℕ → ℕ → List ℕ → List ℕ
 line_columns t here line = map (line_column t here) line
 
--- a walk as it is handed out
-unfoldable pub handed_out : Walk → Walked
-handed_out (stopped cs k) = record { ends = true; count = k }
-handed_out (going s) = record { ends = false; count = 0 }
+-- a walk as it is handed out: the count of the entries that it took, or nothing where it never ends
+unfoldable pub handed_out : Walk → Option ℕ
+handed_out (stopped cs k) = Some k
+handed_out (going s) = None
 
 -- a walk as it is handed out beside the room that was lent for the classes; of one that never ends, what is left in the room is not said
-pub record HandedOut (w : Walk) (r : Walked) (room : List ℕ) : Type 0 where
+pub record HandedOut (w : Walk) (r : Option ℕ) (room : List ℕ) : Type 0 where
   pub says : r ≡ handed_out w
   pub classes : (cs : List ℕ) (k : ℕ) → w ≡ stopped cs k → room ≡ cs
 

@@ -1,8 +1,8 @@
 -- The class walk (document 01, "The class walk"; a walk that never ends is refusal 14). The walk is a step from where it stands to where it stands next;
 -- that it ends, or never ends, is said of all numbers of steps, with no budget. It is defined over any machine and any line: which bytes they come from
 -- is said in `Line`. The machine's class of a glyph is called its column here, to tell it from the class that entries give the glyph.
-use Rattle.std.specs.Prelude.{ℕ, zero, suc, ◌+◌, ◌*◌, ◌<◌, ◌≤◌, ◌≡◌, Bool, cond, List, eqb, ltb, length, get_or, set, replicate}
-use Rattle.std.proofs.Math.Option.{Option, none, some, or_else}
+use Rattle.std.specs.Prelude.{ℕ, zero, suc, ◌+◌, ◌*◌, ◌<◌, ◌≤◌, ◌≡◌, Bool, cond, List, eqb, ltb, length, get_or, set, replicate, Option, Some, None}
+use Rattle.std.specs.Option.{option_or}
 use Rattle.types.specs.declared.Entry.{Entry}
 use Rattle.units.specs.Flags.{sets_mark, stays, mark_class, current_class}
 
@@ -41,12 +41,12 @@ column_at columns ends place = cond (ltb place (length columns)) (get_or columns
 
 -- the current glyph, by its place, in a line of n glyphs: none at the end position
 abbrev pub current : ℕ → ℕ → Option ℕ
-current n place = cond (ltb place n) (some place) none
+current n place = cond (ltb place n) (Some place) None
 
 -- a class goes to a glyph if it is not 0 and there is a glyph
 abbrev pub give : Option ℕ → ℕ → List ℕ → List ℕ
-give none class given = given
-give (some place) class given = cond (eqb class 0) given (set given place class)
+give None class given = given
+give (Some place) class given = cond (eqb class 0) given (set given place class)
 
 -- the entry that is met
 abbrev pub met : Machine → Line → Conf → Entry
@@ -58,7 +58,7 @@ given_by e l s = give (current (glyphs l) s.place) (current_class e.flags) (give
 
 -- the marked glyph after it: set mark marks the current glyph, and does nothing where there is none
 abbrev pub mark_by : Entry → Line → Conf → Option ℕ
-mark_by e l s = cond (sets_mark e.flags) (or_else (current (glyphs l) s.place) s.mark) s.mark
+mark_by e l s = cond (sets_mark e.flags) (option_or (current (glyphs l) s.place) s.mark) s.mark
 
 -- the walk goes on at a place
 abbrev pub on_at : ℕ → Entry → Line → Conf → Conf
@@ -81,7 +81,7 @@ step m l (stopped cs k) = stopped cs k
 
 -- at first: row 0 if the line starts the text, else row 1; the first place; no glyph marked; every class 0; no entry taken
 unfoldable pub begin : Line → Conf
-begin l = record { row = cond l.starts 0 1; place = 0; mark = none; given = replicate (glyphs l) 0; count = 0 }
+begin l = record { row = cond l.starts 0 1; place = 0; mark = None; given = replicate (glyphs l) 0; count = 0 }
 
 -- the walk after n steps
 unfoldable pub after : Machine → Line → ℕ → Walk

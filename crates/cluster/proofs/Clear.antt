@@ -5,7 +5,7 @@ use mathlib.Core.Path.{◌≡◌, ◌∙◌}
 use native.Mathlib.Omega.{arith}
 use lib.ListN.{length}
 use borrow.Author.Tests.{le-leb}
-use Rattle.fields.specs.declared.Fault.TheVariants.{Clear}
+use Rattle.fields.specs.Faults.{Clear}
 use Rattle.fields.specs.declared.Refusal.TheVariants.{BadCluster}
 use Rattle.fields.specs.Field.{u16_at, u32_at}
 use Rattle.fields.proofs.Laws.{then-go, clear-inside, rule-clear}
@@ -50,3 +50,5 @@ module _ (t : List ℕ) (at : ℕ) where
       ∙ then-go _ (rw q at after.1)
       ∙ then-go _ flags.0
       ∙ rw r at flags.1
+
+pub ruleset clear_steps = (grow-clear, shrink-clear, flags-clear, pair-clear)

@@ -1,13 +1,12 @@
 -- What is read from a width cluster, each pair as the sheet writes it (document 01, "The table", the cluster, and "The sheet", section 5): the class is the low 7
 -- bits of its field, a shrink limit is its size, ignored bits of flags are zero. Fields are read as if zeros followed the table.
+use Rattle.std.specs.Prelude.{None, Option, Some}
 use Rattle.std.specs.Prelude.{ℕ, zero, suc, ◌+◌, List, [], ◌∷◌}
-use Rattle.std.proofs.Math.Option.{Option, none, some}
+use Rattle.std.proofs.Math.Option as math
 use Rattle.fields.specs.Field.{u16_at, u32_at}
 use Rattle.units.specs.Fixed.{fixed_size}
 use Rattle.units.specs.Flags.{kept_flags}
 use Rattle.types.specs.declared.Pair.{Pair}
-use Rattle.cluster.specs.declared.Sought.{Sought}
-use Rattle.cluster.specs.declared.Sought.TheVariants.{Record, Nothing}
 use Rattle.cluster.specs.Faults.{pair_class}
 
 unfoldable pub pair_at : List ℕ → ℕ → Pair
@@ -29,6 +28,6 @@ unfoldable pub cluster_at : List ℕ → ℕ → List Pair
 cluster_at t at = pairs_at t (u32_at t at) (at + 4)
 
 -- what the answer of `record_of` says
-abbrev pub sought_pair : Sought → Option Pair
-sought_pair (Record p) = some p
-sought_pair Nothing = none
+abbrev pub sought_pair : Option Pair → math.Option Pair
+sought_pair (Some p) = math.some p
+sought_pair None = math.none

@@ -1,9 +1,9 @@
 // A width cluster (document 01, "The table"): a 32-bit count, 1 to 128, then pairs of 24 bytes: class, before grow,
 // before shrink, after grow, after shrink, grow flags, shrink flags. Here: its first fault, and what is read from it.
-#![tactic(auto)]
+#![tactic(auto, using(fields::proofs::Walk::walk_steps, crate::proofs::Steps::cluster_steps, crate::proofs::Clear::clear_steps), unfolding(fields::specs::Faults::earlier, fields::specs::Faults::rule, crate::specs::Faults::pair_class, crate::specs::Faults::pair_class_fault, crate::specs::Faults::grow_fault, crate::specs::Faults::shrink_fault, crate::specs::Faults::flags_fault, crate::specs::Faults::pair_fault, crate::specs::Faults::cluster_fault, crate::specs::Pairs::pair_at, crate::specs::Pairs::cluster_at))]
 
-ghost use Rattle.std.specs.Prelude.{◌≡◌, true, ◌+◌, ◌*◌, ◌≤◌, ◌<◌, ◌^◌, length};
-ghost use Rattle.fields.specs.declared.Fault.TheVariants.{Clear};
+ghost use Rattle.std.specs.Prelude.{◌≡◌, true, ◌+◌, ◌*◌, ◌≤◌, ◌<◌, ◌^◌, length, IfSome, OnOk};
+ghost use Rattle.fields.specs.Faults.{Clear};
 ghost use Rattle.fields.specs.Field.{u16_at, u32_at};
 ghost use Rattle.units.specs.Fixed.{fixed_size};
 ghost use Rattle.units.specs.Flags.{kept_flags};
@@ -14,12 +14,14 @@ ghost use Rattle.cluster.specs.Pairs.{pair_at, pairs_at, cluster_at, sought_pair
 use fields::{Fault, Refusal};
 use types::{Flags, Limits, Pair};
 
-// The width record of a class, or nothing.
-#[derive(Clone, Copy)]
-pub enum Sought {
-    Record(Pair),
-    Nothing,
-}
+// The bytes of a pair.
+const PAIR: usize = 24;
+
+// The most pairs of a cluster.
+const MOST_PAIRS: usize = 128;
+
+// The largest limit, 16 ems.
+const MOST_EMS: u32 = 1048576;
 
 // A pair's class: the low 7 bits of its field.
 pub fn pair_class(table: &[u8], at: usize) -> u32
@@ -56,90 +58,62 @@ pub fn kept_at(table: &[u8], at: usize) -> u16
     units::kept_flags(flags_field(table, at))
 }
 
-fn pair_class_fault(table: &[u8], at: usize, least: u32) -> Fault
-    ensures { result ≡ pair_class_fault table.now at least }
+fn pair_class_fault(table: &[u8], at: usize, least: u32) -> Result<(), Fault>
+    ensures first { result ≡ pair_class_fault table.now at least }
+    ensures inside { OnOk result (at + 4 ≤ length table.now) }
 {
-    let inside = fields::in_table(table, at, 4);
-    let class = pair_class(table, at);
-    fields::then(
-        inside,
-        fields::ruled(least <= class, Refusal::BadCluster, at),
-    )
+    fields::in_table(table, at, 4)?;
+    fields::ruled(least <= pair_class(table, at), Refusal::BadCluster, at)
 }
 
-fn grow_fault(table: &[u8], at: usize) -> Fault
+fn grow_fault(table: &[u8], at: usize) -> Result<(), Fault>
     ensures { result ≡ grow_fault table.now at }
 {
-    let inside = fields::in_table(table, at, 4);
-    let limit = fixed_at(table, at);
-    fields::then(
-        inside,
-        fields::ruled(limit <= 1048576, Refusal::BadCluster, at),
-    )
+    fields::in_table(table, at, 4)?;
+    fields::ruled(fixed_at(table, at) <= MOST_EMS, Refusal::BadCluster, at)
 }
 
-fn shrink_fault(table: &[u8], at: usize) -> Fault
+fn shrink_fault(table: &[u8], at: usize) -> Result<(), Fault>
     ensures { result ≡ shrink_fault table.now at }
 {
-    let inside = fields::in_table(table, at, 4);
-    let limit = size_at(table, at);
-    fields::then(
-        inside,
-        fields::ruled(limit <= 1048576, Refusal::BadCluster, at),
-    )
+    fields::in_table(table, at, 4)?;
+    fields::ruled(size_at(table, at) <= MOST_EMS, Refusal::BadCluster, at)
 }
 
-fn flags_fault(table: &[u8], at: usize) -> Fault
-    ensures { result ≡ flags_fault table.now at }
+fn flags_fault(table: &[u8], at: usize) -> Result<(), Fault>
+    ensures first { result ≡ flags_fault table.now at }
+    ensures inside { OnOk result (at + 2 ≤ length table.now) }
 {
-    let inside = fields::in_table(table, at, 2);
+    fields::in_table(table, at, 2)?;
     let priority = units::priority(flags_field(table, at));
-    fields::then(
-        inside,
-        fields::ruled(priority <= 3, Refusal::BadCluster, at),
-    )
+    fields::ruled(priority <= 3, Refusal::BadCluster, at)
 }
 
 // The first fault of the pair at `at`, whose class must be `least` or more.
-fn pair_fault(table: &[u8], at: usize, least: u32) -> Fault
-    ensures { result ≡ pair_fault table.now at least }
+fn pair_fault(table: &[u8], at: usize, least: u32) -> Result<(), Fault>
+    ensures first { result ≡ pair_fault table.now at least }
+    ensures inside { OnOk result (at + 24 ≤ length table.now) }
 {
-    if table.len() < at {
-        return Fault::Bad {
-            refusal: Refusal::Outside,
-            at,
-        };
-    }
-    let class = pair_class_fault(table, at, least);
-    let before_grow = grow_fault(table, at + 4);
-    let before_shrink = shrink_fault(table, at + 8);
-    let after_grow = grow_fault(table, at + 12);
-    let after_shrink = shrink_fault(table, at + 16);
-    let grow_flags = flags_fault(table, at + 20);
-    let shrink_flags = flags_fault(table, at + 22);
-    let flags = fields::then(grow_flags, shrink_flags);
-    let after = fields::then(after_grow, fields::then(after_shrink, flags));
-    let before = fields::then(before_grow, fields::then(before_shrink, after));
-    fields::then(class, before)
+    pair_class_fault(table, at, least)?;
+    grow_fault(table, at + 4)?;
+    shrink_fault(table, at + 8)?;
+    grow_fault(table, at + 12)?;
+    shrink_fault(table, at + 16)?;
+    flags_fault(table, at + 20)?;
+    flags_fault(table, at + 22)
 }
 
 // The first fault of `count` pairs from `first` on.
-fn pairs_fault(table: &[u8], first: usize, count: usize) -> Fault
+fn pairs_fault(table: &[u8], first: usize, count: usize) -> Result<(), Fault>
     ensures { result ≡ pairs_fault table.now count first 0 }
 {
-    let mut at = first;
     let mut least: u32 = 0;
-    let mut left = count;
-    while 0 < left {
-        let fault = pair_fault(table, at, least);
-        if let Fault::Bad { refusal: _, at: _ } = fault {
-            return fault;
-        }
+    for pair in 0..count {
+        let at = first + PAIR * pair;
+        pair_fault(table, at, least)?;
         least = pair_class(table, at) + 1;
-        at += 24;
-        left -= 1;
     }
-    Fault::Clear
+    Ok(())
 }
 
 // Whether the limits at `at`, grow and then shrink, are seen to be without fault.
@@ -147,10 +121,9 @@ fn limits_are_clear(table: &[u8], at: usize) -> bool
     requires { at + 8 ≤ length table.now }
     ensures { result ≡ true → (grow_fault table.now at ≡ Clear) × (shrink_fault table.now (at + 4) ≡ Clear) }
 {
-    if 1048576 < fields::u32_in(table, at) {
-        return false;
-    }
-    units::fixed_size(fields::u32_in(table, at + 4) as u32) <= 1048576
+    let grow = fields::u32_in(table, at) as u32;
+    let shrink = units::fixed_size(fields::u32_in(table, at + 4) as u32);
+    grow <= MOST_EMS && shrink <= MOST_EMS
 }
 
 // Whether the flags at `at`, grow and then shrink, are.
@@ -158,34 +131,29 @@ fn flags_are_clear(table: &[u8], at: usize) -> bool
     requires { at + 4 ≤ length table.now }
     ensures { result ≡ true → (flags_fault table.now at ≡ Clear) × (flags_fault table.now (at + 2) ≡ Clear) }
 {
-    if 3 < units::priority(fields::u16_in(table, at) as u16) {
-        return false;
-    }
-    units::priority(fields::u16_in(table, at + 2) as u16) <= 3
+    let grow = units::priority(fields::u16_in(table, at) as u16);
+    let shrink = units::priority(fields::u16_in(table, at + 2) as u16);
+    grow <= 3 && shrink <= 3
 }
 
-// The least class that may follow the pair at `at`, where that pair is seen to be without fault; else 0.
-fn clear_least(table: &[u8], at: usize, least: u32) -> u32
+// The least class that may follow the pair at `at`, where that pair is seen to be without fault.
+fn clear_least(table: &[u8], at: usize, least: u32) -> Option<u32>
     requires { at ≤ length table.now }
-    ensures { 0 < result → (pair_fault table.now at least ≡ Clear) × (result ≡ pair_class table.now at + 1) }
+    ensures clear { IfSome result (λ next. (pair_fault table.now at least ≡ Clear) × (next ≡ pair_class table.now at + 1)) }
+    ensures inside { IfSome result (λ _. at + 24 ≤ length table.now) }
 {
-    if table.len() - at < 24 {
-        return 0;
+    if table.len() - at < PAIR {
+        return None;
     }
     let class = pair_class(table, at);
-    if class < least {
-        return 0;
+    if class < least
+        || !limits_are_clear(table, at + 4)
+        || !limits_are_clear(table, at + 12)
+        || !flags_are_clear(table, at + 20)
+    {
+        return None;
     }
-    if !limits_are_clear(table, at + 4) {
-        return 0;
-    }
-    if !limits_are_clear(table, at + 12) {
-        return 0;
-    }
-    if !flags_are_clear(table, at + 20) {
-        return 0;
-    }
-    class + 1
+    Some(class + 1)
 }
 
 // Whether `count` pairs from `first` on are seen to be without fault: most are, and a chain of fields is slower.
@@ -193,43 +161,26 @@ fn pairs_are_clear(table: &[u8], first: usize, count: usize) -> bool
     requires { first ≤ length table.now }
     ensures { result ≡ true → pairs_fault table.now count first 0 ≡ Clear }
 {
-    let mut at = first;
     let mut least: u32 = 0;
-    let mut left = count;
-    while 0 < left {
-        least = clear_least(table, at, least);
-        if least == 0 {
+    for pair in 0..count {
+        let Some(next) = clear_least(table, first + PAIR * pair, least) else {
             return false;
-        }
-        at += 24;
-        left -= 1;
+        };
+        least = next;
     }
     true
 }
 
 // The first fault of the cluster at `at`.
-pub fn cluster_fault(table: &[u8], at: usize) -> Fault
+pub fn cluster_fault(table: &[u8], at: usize) -> Result<(), Fault>
     ensures { result ≡ cluster_fault table.now at }
 {
-    let inside = fields::in_table(table, at, 4);
-    if let Fault::Bad { refusal: _, at: _ } = inside {
-        return inside;
-    }
+    fields::in_table(table, at, 4)?;
     let count = fields::u32_at(table, at);
-    if count < 1 {
-        return Fault::Bad {
-            refusal: Refusal::BadCluster,
-            at,
-        };
-    }
-    if 128 < count {
-        return Fault::Bad {
-            refusal: Refusal::BadCluster,
-            at,
-        };
-    }
+    let counted = 1 <= count && count <= MOST_PAIRS;
+    fields::ruled(counted, Refusal::BadCluster, at)?;
     if pairs_are_clear(table, at + 4, count) {
-        return Fault::Clear;
+        return Ok(());
     }
     pairs_fault(table, at + 4, count)
 }
@@ -257,24 +208,21 @@ pub fn pair_at(table: &[u8], at: usize) -> Pair
 }
 
 // The first of `count` pairs from `first` on that has the class.
-fn record_from(table: &[u8], first: usize, count: usize, class: u8) -> Sought
+fn record_from(table: &[u8], first: usize, count: usize, class: u8) -> Option<Pair>
     requires { first + 24 * count < 2 ^ 62 }
     ensures { sought_pair result ≡ record_of class (pairs_at table.now count first) }
 {
-    let mut at = first;
-    let mut left = count;
-    while 0 < left {
-        if pair_class(table, at) == class as u32 {
-            return Sought::Record(pair_at(table, at));
+    for pair in 0..count {
+        let at = first + PAIR * pair;
+        if pair_class(table, at) == u32::from(class) {
+            return Some(pair_at(table, at));
         }
-        at += 24;
-        left -= 1;
     }
-    Sought::Nothing
+    None
 }
 
 // The record of a class in the cluster at `at`.
-pub fn record_of(table: &[u8], at: usize, class: u8) -> Sought
+pub fn record_of(table: &[u8], at: usize, class: u8) -> Option<Pair>
     requires { at < 2 ^ 40 }
     ensures { sought_pair result ≡ record_of class (cluster_at table.now at) }
 {

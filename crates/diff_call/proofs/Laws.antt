@@ -8,9 +8,9 @@ use lib.Dec.{leb}
 use lib.ListN.{length}
 use lib.Seq.{sets}
 use borrow.Author.Tests.{le-leb, lt-leb}
+use Rattle.std.specs.Prelude.{Err}
 use Rattle.fields.specs.declared.Fault.{Fault}
-use Rattle.fields.specs.declared.Fault.TheVariants.{Clear, Bad}
-use Rattle.fields.specs.declared.Refusal.{Refusal}
+use Rattle.fields.specs.Faults.{FirstFault, Clear, Bad}
 use Rattle.fields.specs.declared.Refusal.TheVariants.{ShortRoom}
 use Rattle.fields.specs.Refusals.{number_of}
 use Rattle.fields.specs.Faults.{rule}
@@ -28,10 +28,6 @@ use Rattle.diff_call.specs.Calls.{differences_of, either_fault, differences_coun
 module _ (t u : List ℕ) (n : ℕ) where
   -- ---- the tables
 
-  pub first-bad : (r : Refusal) (at : ℕ) → table_fault t n ≡ Bad r at → table_fault t n ≡ either_fault t u n
-  unfolding either_fault
-  first-bad r at e = sym (then-stop (table_fault u n) e)
-
   pub first-clear : table_fault t n ≡ Clear → table_fault u n ≡ either_fault t u n
   unfolding either_fault
   first-clear e = sym (then-go (table_fault u n) e)
@@ -42,9 +38,9 @@ module _ (t u : List ℕ) (n : ℕ) where
 
   -- ---- how many
 
-  pub count-bad : (r : Refusal) (at : ℕ) → either_fault t u n ≡ Bad r at → refused (number_of r) at ≡ differences_counted t u n
+  pub count-bad : (f : Fault) → either_fault t u n ≡ Err f → refused (number_of f.refusal) f.at ≡ differences_counted t u n
   unfolding differences_counted
-  count-bad r at e = ap (λ (f : Fault). unless_bad f (number (length (differences_of t u n)))) (sym e)
+  count-bad f e = ap (λ (x : FirstFault). unless_bad x (number (length (differences_of t u n)))) (sym e)
 
   module _ (size : ℕ) (e : size ≡ length (all_numbers (differences (meaning_of t n) (meaning_of u n)))) where
     size_is : size ≡ 5 * length (differences_of t u n)
@@ -57,20 +53,20 @@ module _ (t u : List ℕ) (n : ℕ) where
     pub count-clear : either_fault t u n ≡ Clear → given (number (size / 5)) ≡ differences_counted t u n
     unfolding differences_counted
     count-clear c =
-        ap (λ (k : ℕ). given (number k)) found-is ∙ ap (λ (f : Fault). unless_bad f (number (length (differences_of t u n)))) (sym c)
+        ap (λ (k : ℕ). given (number k)) found-is ∙ ap (λ (f : FirstFault). unless_bad f (number (length (differences_of t u n)))) (sym c)
 
   -- ---- the list
 
   module _ (room : List ℕ) where
-    by-fault : (f : Fault) → f ≡ listing_fault t u n (length room)
+    by-fault : (f : FirstFault) → f ≡ listing_fault t u n (length room)
         → record { said = unless_bad f (number (length (differences_of t u n))); room = stored_unless f (differences_of t u n) room } ≡ differences_listed t u n room
     unfolding differences_listed
     by-fault f e =
-        ap (λ (x : Fault). record { said = unless_bad x (number (length (differences_of t u n))); room = stored_unless x (differences_of t u n) room }) e
+        ap (λ (x : FirstFault). record { said = unless_bad x (number (length (differences_of t u n))); room = stored_unless x (differences_of t u n) room }) e
 
-    pub list-bad : (r : Refusal) (at : ℕ) → either_fault t u n ≡ Bad r at → record { said = refused (number_of r) at; room = room } ≡ differences_listed t u n room
+    pub list-bad : (f : Fault) → either_fault t u n ≡ Err f → record { said = refused (number_of f.refusal) f.at; room = room } ≡ differences_listed t u n room
     unfolding listing_fault
-    list-bad r at e = by-fault (Bad r at) (sym e ∙ sym (then-stop (rule (leb (length (differences_of t u n)) (length room / 5)) ShortRoom 0) e))
+    list-bad f e = by-fault (Err f) (sym e ∙ sym (then-stop (rule (leb (length (differences_of t u n)) (length room / 5)) ShortRoom 0) e))
 
     module _ (c : either_fault t u n ≡ Clear) (size : ℕ) (e : size ≡ length (all_numbers (differences (meaning_of t n) (meaning_of u n)))) where
       by-room : (b : Bool) → leb (length (differences_of t u n)) (length room / 5) ≡ b → rule b ShortRoom 0 ≡ listing_fault t u n (length room)
@@ -102,3 +98,8 @@ module _ (t u : List ℕ) (n : ℕ) where
           let k : 0 ≡ size / 5 = omega (arith, z) in
           ap (λ (j : ℕ). record { said = given (number j); room = room }) k
           ∙ all-stored room (omega arith) (nothing (differences (meaning_of t n) (meaning_of u n)) (size_is size e) z)
+
+-- the cases of the two calls
+pub ruleset counting = (both-clear, count-bad, count-clear)
+
+pub ruleset listing = (both-clear, list-bad, too_long, none-stored)

@@ -1,8 +1,9 @@
 -- The steps of the merge, and what is left after them.
 use Prim.Native.Nat.{ℕ, zero, suc, ◌+◌, ◌-◌, ◌≤◌, ◌<◌}
-use mathlib.Core.Path.{◌≡◌, refl, sym, ap, ap₂, ◌∙◌, subst}
+use mathlib.Core.Path.{◌≡◌, sym, ap, ap₂, ◌∙◌, subst}
 use mathlib.Core.List.{List, [], ◌∷◌, ◌++◌, append_assoc, append-nil}
-use mathlib.Core.Option.{Option, some}
+use mathlib.Core.Option.{some}
+use Rattle.std.specs.Prelude.{Option, Some}
 use native.Mathlib.Omega.{arith}
 use Rattle.types.specs.declared.Direction.{Direction}
 use Rattle.types.specs.declared.Pair.{Pair}
@@ -14,47 +15,18 @@ use Rattle.write_cluster.proofs.Laws.{pairs-cons, pairs-none}
 use Rattle.diff_rule.specs.declared.Aspect.TheVariants.{Width}
 use Rattle.diff_rule.specs.declared.Mark.{Mark}
 use Rattle.diff_rule.specs.declared.Mark.TheVariants.{OnlyFirst, OnlySecond}
-use Rattle.diff_rule.specs.declared.Comparison.{Comparison}
-use Rattle.diff_rule.specs.declared.Comparison.TheVariants.{Differs}
 use Rattle.diff_rule.specs.declared.Difference.{Difference}
-use Rattle.diff_rule.specs.Differences.{mark_of, noted, mark_seen, through, record_differs, records_differ}
+use Rattle.diff_rule.specs.Differences.{mark_of, noted, through, record_differs, records_differ}
 use Rattle.diff_rule.specs.Order.{Stores}
 use Rattle.diff_rule.proofs.Stored.{stores-none, stores-two, stores-other}
 use Rattle.diff_rule.proofs.Merge.{merge-first, merge-second, merge-both, merge-end}
 use Rattle.diff_clusters.specs.declared.Pairs.{Pairs}
 use Rattle.diff_clusters.specs.declared.MergeStep.{MergeStep}
-use Rattle.diff_clusters.specs.Merge.{pairs_in, left_of, FirstClass, Steps}
+use Rattle.diff_clusters.specs.Merge.{pairs_in, left_of, after_first, Steps}
 
 class-fits : (t : List ℕ) (at : ℕ) → pair_class t at < 128
 unfolding pair_class
 class-fits t at = omega arith
-
--- ---- the next class
-
-abbrev after_first : Pairs → Pairs
-after_first p = record { at = p.at + 24; count = p.count - 1 }
-
--- a class below 128 is that of a pair
-pub some_left : (t : List ℕ) (p : Pairs) (c : ℕ) → FirstClass t p c → c < 128 → 0 < p.count
-some_left t p c w h = at p.count refl
-  where
-    at : (n : ℕ) → n ≡ p.count → 0 < p.count
-    at zero e = absurd (omega (arith, w.past (sym e)))
-    at (suc n) e = omega arith
-
--- of two that are the same, if pairs are left at all
-pub both_left : (t u : List ℕ) (p q : Pairs) (c k : ℕ) → FirstClass t p c → FirstClass u q k → c ≡ k → 0 < p.count + q.count → c < 128
-both_left t u p q c k w v e h = at p.count refl
-  where
-    at : (n : ℕ) → n ≡ p.count → c < 128
-    at zero z =
-        let m : 0 < q.count = omega arith in
-        let f : pair_class u q.at < 128 = class-fits u q.at in
-        omega (arith, v.read m)
-    at (suc n) z =
-        let m : 0 < p.count = omega arith in
-        let f : pair_class t p.at < 128 = class-fits t p.at in
-        omega (arith, w.read m)
 
 -- ---- steps
 
@@ -70,7 +42,7 @@ opened t i p h r = subst (Rising i) (pairs-cons t p.count p.at h) r
 
 module _ (t u : List ℕ) (p q : Pairs) where
   first_by : 0 < p.count → (0 < q.count → pair_class t p.at < pair_class u q.at)
-      → Steps t u p q (record { class = pair_class t p.at; comparison = Differs OnlyFirst; ones = after_first p; others = q })
+      → Steps t u p q (record { class = pair_class t p.at; mark = Some OnlyFirst; ones = after_first p; others = q })
   unfolding pair_at
   first_by h f = record {
     class = class-fits t p.at;
@@ -87,7 +59,7 @@ module _ (t u : List ℕ) (p q : Pairs) where
   }
 
   second-by : 0 < q.count → (0 < p.count → pair_class u q.at < pair_class t p.at)
-      → Steps t u p q (record { class = pair_class u q.at; comparison = Differs OnlySecond; ones = p; others = after_first q })
+      → Steps t u p q (record { class = pair_class u q.at; mark = Some OnlySecond; ones = p; others = after_first q })
   unfolding pair_at
   second-by h f = record {
     class = class-fits u q.at;
@@ -103,9 +75,9 @@ module _ (t u : List ℕ) (p q : Pairs) where
         (above t (pair_class u q.at) i p.count p.at f r) (opened u i q h s) (omega arith) (omega arith);
   }
 
-  both_by : (o : Comparison) → 0 < p.count → 0 < q.count → pair_class t p.at ≡ pair_class u q.at
-      → mark_seen o ≡ mark_of Pair-discrete (some (pair_at t p.at)) (some (pair_at u q.at))
-      → Steps t u p q (record { class = pair_class t p.at; comparison = o; ones = after_first p; others = after_first q })
+  both_by : (o : Option Mark) → 0 < p.count → 0 < q.count → pair_class t p.at ≡ pair_class u q.at
+      → o ≡ mark_of Pair-discrete (some (pair_at t p.at)) (some (pair_at u q.at))
+      → Steps t u p q (record { class = pair_class t p.at; mark = o; ones = after_first p; others = after_first q })
   unfolding pair_at
   both_by o h k e eo = record {
     class = class-fits t p.at;
@@ -123,26 +95,20 @@ module _ (t u : List ℕ) (p q : Pairs) where
         ++ through (record_differs d g (left_of t (after_first p)) (left_of u (after_first q))) (128 - suc (pair_class t p.at)) (suc (pair_class t p.at))) (sym eo);
   }
 
-  module _ (c k : ℕ) (w : FirstClass t p c) (v : FirstClass u q k) where
-    pub first-steps : (r : Pairs) → c < k → r ≡ after_first p → Steps t u p q (record { class = c; comparison = Differs OnlyFirst; ones = r; others = q })
-    first-steps r l er =
-        let h : 0 < p.count = some_left t p c w (omega (arith, v.most)) in
-        let e : pair_class t p.at ≡ c = sym (w.read h) in
-        subst (Steps t u p q) (λ i. record { class = e i; comparison = Differs OnlyFirst; ones = sym er i; others = q }) (first_by h (λ m. omega (arith, v.read m)))
+  -- the same, with the classes as they were read
+  pub first-steps : (c : ℕ) (r : MergeStep) → c ≡ pair_class t p.at → 0 < p.count → (0 < q.count → c < pair_class u q.at)
+      → r ≡ record { class = c; mark = Some OnlyFirst; ones = after_first p; others = q } → Steps t u p q r
+  first-steps c r e h f er = subst (Steps t u p q) (sym (er ∙ λ i. record { class = e i; mark = Some OnlyFirst; ones = after_first p; others = q })) (first_by h (λ m. omega (arith, f m)))
 
-    pub second-steps : (r : Pairs) → k < c → r ≡ after_first q → Steps t u p q (record { class = k; comparison = Differs OnlySecond; ones = p; others = r })
-    second-steps r l er =
-        let h : 0 < q.count = some_left u q k v (omega (arith, w.most)) in
-        let e : pair_class u q.at ≡ k = sym (v.read h) in
-        subst (Steps t u p q) (λ i. record { class = e i; comparison = Differs OnlySecond; ones = p; others = sym er i }) (second-by h (λ m. omega (arith, w.read m)))
+  pub second-steps : (c : ℕ) (r : MergeStep) → c ≡ pair_class u q.at → 0 < q.count → (0 < p.count → c < pair_class t p.at)
+      → r ≡ record { class = c; mark = Some OnlySecond; ones = p; others = after_first q } → Steps t u p q r
+  second-steps c r e h f er = subst (Steps t u p q) (sym (er ∙ λ i. record { class = e i; mark = Some OnlySecond; ones = p; others = after_first q })) (second-by h (λ m. omega (arith, f m)))
 
-    pub both-steps : (o : Comparison) (r s : Pairs) → c ≡ k → c < 128 → mark_seen o ≡ mark_of Pair-discrete (some (pair_at t p.at)) (some (pair_at u q.at))
-        → r ≡ after_first p → s ≡ after_first q → Steps t u p q (record { class = c; comparison = o; ones = r; others = s })
-    both-steps o r s e l eo er es =
-        let h : 0 < p.count = some_left t p c w l in
-        let m : 0 < q.count = some_left u q k v (omega arith) in
-        let a : pair_class t p.at ≡ c = sym (w.read h) in
-        subst (Steps t u p q) (λ i. record { class = a i; comparison = o; ones = sym er i; others = sym es i }) (both_by o h m (a ∙ e ∙ v.read m) eo)
+  pub both-steps : (c : ℕ) (o : Option Mark) (r s : Pairs) → c ≡ pair_class t p.at → c ≡ pair_class u q.at → 0 < p.count → 0 < q.count
+      → o ≡ mark_of Pair-discrete (some (pair_at t p.at)) (some (pair_at u q.at)) → r ≡ after_first p → s ≡ after_first q
+      → Steps t u p q (record { class = c; mark = o; ones = r; others = s })
+  both-steps c o r s e f h k eo er es =
+      subst (Steps t u p q) (λ i. record { class = sym e i; mark = o; ones = sym er i; others = sym es i }) (both_by o h k (sym e ∙ f) eo)
 
 -- the differences `done` are followed by those of what is left
 pub record Rest (t u : List ℕ) (first second : ℕ) (p q : Pairs) (done : Direction → ℕ → List Difference) : Type 0 where
@@ -169,7 +135,7 @@ module _ (t u : List ℕ) (first second : ℕ) (p q : Pairs) where
       }
 
   rest-next : (done : Direction → ℕ → List Difference) (r : MergeStep) → Steps t u p q r → Rest t u first second p q done
-      → Rest t u first second r.ones r.others (λ d g. done d g ++ noted d Width g r.class (mark_seen r.comparison))
+      → Rest t u first second r.ones r.others (λ d g. done d g ++ noted d Width g r.class r.mark)
   rest-next done r s w = record {
     next = suc r.class;
     most = omega (arith, s.class);
@@ -179,7 +145,7 @@ module _ (t u : List ℕ) (first second : ℕ) (p q : Pairs) where
         let m : w.next + (128 - w.next) ≡ 128 = omega (arith, w.most) in
         w.whole d g
         ∙ ap (λ (l : List Difference). done d g ++ l) (s.next d g w.next (128 - w.next) m w.ones w.others)
-        ∙ sym (append_assoc (done d g) (noted d Width g r.class (mark_seen r.comparison))
+        ∙ sym (append_assoc (done d g) (noted d Width g r.class r.mark)
         (through (record_differs d g (left_of t r.ones) (left_of u r.others)) (128 - suc r.class) (suc r.class)));
   }
 
@@ -205,12 +171,12 @@ module _ (t u : List ℕ) (first second : ℕ) (p q : Pairs) (direction : Direct
   put_all ep eq r s = record { done = λ d g. []; rest = rest_all t u first second p q ep eq r s; stores = stores-none l₀ to }
 
   pub put-more : (l : List ℕ) (end : ℕ) (r : MergeStep) (l₁ : List ℕ) (end₁ : ℕ) → Put t u first second p q direction glyph l₀ l to end → Steps t u p q r
-      → Stores l l₁ end end₁ (noted direction Width glyph r.class (mark_seen r.comparison))
+      → Stores l l₁ end end₁ (noted direction Width glyph r.class r.mark)
       → Put t u first second r.ones r.others direction glyph l₀ l₁ to end₁
   put-more l end r l₁ end₁ w s e = record {
-    done = λ d g. w.done d g ++ noted d Width g r.class (mark_seen r.comparison);
+    done = λ d g. w.done d g ++ noted d Width g r.class r.mark;
     rest = rest-next t u first second p q w.done r s w.rest;
-    stores = stores-two (w.done direction glyph) (noted direction Width glyph r.class (mark_seen r.comparison)) l₀ l l₁ to end end₁ w.stores e;
+    stores = stores-two (w.done direction glyph) (noted direction Width glyph r.class r.mark) l₀ l l₁ to end end₁ w.stores e;
   }
 
   pub put-end : (l : List ℕ) (end : ℕ) → Put t u first second p q direction glyph l₀ l to end → p.count + q.count ≤ 0

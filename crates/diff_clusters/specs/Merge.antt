@@ -4,10 +4,9 @@ use Rattle.fields.specs.Field.{u32_at}
 use Rattle.types.specs.declared.Direction.{Direction}
 use Rattle.types.specs.declared.Pair.{Pair}
 use Rattle.meaning.specs.Limits.{Rising}
-use Rattle.cluster.specs.Faults.{pair_class}
 use Rattle.cluster.specs.Pairs.{pairs_at}
 use Rattle.diff_rule.specs.declared.Aspect.TheVariants.{Width}
-use Rattle.diff_rule.specs.Differences.{noted, mark_seen, through, record_differs}
+use Rattle.diff_rule.specs.Differences.{noted, through, record_differs}
 use Rattle.diff_clusters.specs.declared.Pairs.{Pairs}
 use Rattle.diff_clusters.specs.declared.MergeStep.{MergeStep}
 
@@ -19,11 +18,9 @@ pairs_in t place = record { at = place + 4; count = u32_at t place }
 abbrev pub left_of : List ℕ → Pairs → List Pair
 left_of t p = pairs_at t p.count p.at
 
--- the class of the first, above every other where there is none
-pub record FirstClass (t : List ℕ) (p : Pairs) (c : ℕ) : Type 0 where
-  pub read : 0 < p.count → c ≡ pair_class t p.at
-  pub past : p.count ≡ 0 → c ≡ 128
-  pub most : c ≤ 128
+-- all but the first
+abbrev pub after_first : Pairs → Pairs
+after_first p = record { at = p.at + 24; count = p.count - 1 }
 
 -- a step gives the next class of the two and how it differs, and leaves the classes after it
 pub record Steps (t u : List ℕ) (p q : Pairs) (r : MergeStep) : Type 0 where
@@ -35,5 +32,5 @@ pub record Steps (t u : List ℕ) (p q : Pairs) (r : MergeStep) : Type 0 where
   pub others : (i : ℕ) → Rising i (left_of t p) → Rising i (left_of u q) → Rising (suc r.class) (left_of u r.others)
   pub next : (d : Direction) (g i n : ℕ) → i + n ≡ 128 → Rising i (left_of t p) → Rising i (left_of u q)
       → through (record_differs d g (left_of t p) (left_of u q)) n i
-      ≡ (noted d Width g r.class (mark_seen r.comparison)
+      ≡ (noted d Width g r.class r.mark
       ++ through (record_differs d g (left_of t r.ones) (left_of u r.others)) (128 - suc r.class) (suc r.class))

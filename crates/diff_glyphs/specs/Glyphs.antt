@@ -1,12 +1,12 @@
 -- What differs in the glyphs' clusters, or in their action lists, in two tables t and u (document 02, 6/14), by where each table's come from: a source each.
-use Rattle.std.specs.Prelude.{ℕ, ◌*◌, ◌/◌, ◌%◌, ◌≤◌, ◌<◌, ◌≡◌, ◌⊎◌, List, [], length, get_or, replicate}
+use Rattle.std.specs.Prelude.{ℕ, ◌*◌, ◌≤◌, ◌<◌, ◌≡◌, List, [], length, get_or, Option, Some, None}
 use Rattle.types.specs.declared.Direction.{Direction}
 use Rattle.meaning.specs.Limits.{Rising}
 use Rattle.lookup_targets.specs.declared.Kind.{Kind}
 use Rattle.lookup_targets.specs.declared.Kind.TheVariants.{Clusters, Lists}
 use Rattle.lookup_targets.specs.declared.Source.{Source}
 use Rattle.write_item.specs.Items.{Item, item_at}
-use Rattle.diff_stretches.specs.declared.Places.{Places}
+use Rattle.diff_stretches.specs.declared.Both.{Both}
 use Rattle.diff_stretches.specs.declared.Sources.{Sources}
 use Rattle.diff_stretches.specs.Stretches.{item_by, BothSound}
 use Rattle.diff_rule.specs.declared.Difference.{Difference}
@@ -21,7 +21,7 @@ item_differs Clusters d g x y = records_differ d g x y
 item_differs Lists d g x y = list_differs d g x y
 
 -- of one whose clusters, or lists, stand at two places
-unfoldable pub places_differ : (kind : Kind) → Direction → List ℕ → List ℕ → Places → ℕ → List Difference
+unfoldable pub places_differ : (kind : Kind) → Direction → List ℕ → List ℕ → Both ℕ → ℕ → List Difference
 places_differ kind d t u places g = item_differs kind d g (item_at kind t places.first) (item_at kind u places.second)
 
 -- of a glyph, and of all
@@ -37,7 +37,7 @@ Rises Clusters ps = Rising 0 ps
 Rises Lists l = Unit {0}
 
 -- those of each glyph's
-pub record AllRise (kind : Kind) (t : List ℕ) (n : ℕ) (source : Source) : Type 0 where
+pub record AllRise (kind : Kind) (t : List ℕ) (n : ℕ) (source : Option Source) : Type 0 where
   pub each : (g : ℕ) → g < n → Rises kind (item_by kind t n source g)
 
 -- two tables whose sources can be compared
@@ -52,20 +52,7 @@ pub record LastCompared (kind : Kind) (d : Direction) (t u block : List ℕ) (c 
   pub few : c.each ≤ 128
   pub again : (g : ℕ) → again c.each block g 0 ≡ all_numbers (places_differ kind d t u c.places g)
 
--- the two places that one number stands for
-abbrev pub places_in : ℕ → Places
-places_in pair = record { first = pair / 65536; second = pair % 65536 }
-
--- each pair of places that is kept, as one number, holds the same: a glyph that has them has no difference
-pub record SamePairs (kind : Kind) (d : Direction) (t u same : List ℕ) : Type 0 where
+-- each pair of places that is kept holds the same: a glyph that has them has no difference
+pub record SamePairs (kind : Kind) (d : Direction) (t u : List ℕ) (same : List (Option (Both ℕ))) : Type 0 where
   pub room : 64 ≤ length same
-  pub alike : (i : ℕ) → i < 64 → (g : ℕ) → places_differ kind d t u (places_in (get_or same i 0)) g ≡ []
-
--- two places are kept, in a slot, if comparing them left no numbers; every other slot is as it was
-pub record KeepsPair (before after : List ℕ) (places : Places) (size : ℕ) : Type 0 where
-  pub room : length after ≡ length before
-  pub each : (i : ℕ) → (get_or after i 0 ≡ get_or before i 0) ⊎ ((size ≡ 0) × (places_in (get_or after i 0) ≡ places))
-
--- at first two places where nothing stands are kept in each slot
-abbrev pub AllNowhere : List ℕ → Type 0
-AllNowhere same = same ≡ replicate {A = ℕ} 64 4294967295
+  pub alike : (i : ℕ) (places : Both ℕ) → get_or same i None ≡ Some places → (g : ℕ) → places_differ kind d t u places g ≡ []

@@ -3,6 +3,7 @@ use Prim.Native.Nat.{ℕ}
 use mathlib.Core.Path.{◌≡◌, refl, ap, ap₂}
 use mathlib.Core.Bool.{Bool, true, false, cond, ◌&&◌}
 use mathlib.Core.Option.{Option, none, some}
+use Rattle.std.specs.Prelude.{Some}
 use mathlib.Core.List.{◌++◌}
 use native.Mathlib.Omega.{arith}
 use lib.Dec.{eqb}
@@ -41,7 +42,7 @@ module _ (n : ℕ) (d : Direction) where
   machines-aside (some a) (some b) k = go (eqb a.rows b.rows && eqb a.classes b.classes) refl
     where
       go : (t : Bool) → (eqb a.rows b.rows && eqb a.classes b.classes) ≡ t
-          → All (Aside d) (cond t (classes_differ d n a b ++ cells_differ d a b) (noted d Sizes 0 0 (some Changed)))
+          → All (Aside d) (cond t (classes_differ d n a b ++ cells_differ d a b) (noted d Sizes 0 0 (Some Changed)))
       go true t =
           let s = empty.both (eqb a.rows b.rows) (eqb a.classes b.classes) t in
           absurd (k (ap₂ both (eqb-true a.rows b.rows s.0) (eqb-true a.classes b.classes s.1)))

@@ -2,7 +2,8 @@
 use Prim.Native.Nat.{ℕ, zero, suc, ◌+◌, ◌*◌, ◌≤◌, ◌<◌}
 use mathlib.Core.Path.{◌≡◌, refl, sym, ap, ap₂, ◌∙◌, subst}
 use mathlib.Core.Bool.{Bool, true, false, cond, ◌&&◌}
-use mathlib.Core.Option.{Option, none, some}
+use mathlib.Core.Option.{Option as Maybe, none, some}
+use Rattle.std.specs.Prelude.{Option, None, Some}
 use mathlib.Core.List.{List, [], ◌∷◌, ◌++◌}
 use native.Mathlib.Decide.{ℕ_discrete, dec_lt}
 use native.Mathlib.Omega.{arith}
@@ -52,9 +53,9 @@ module _ (P : Difference → Type 0) where
   all-place f n w k h = let z : 0 + k ≡ k = omega arith in subst (λ (j : ℕ). All P (f j)) z (all-later f n 0 w k h)
 
   no_note : (d : Direction) (a : Aspect) (x y : ℕ) (o : Option Mark) → All P (noted d a x y o)
-      → ((mark : Mark) → P (record { direction = d; aspect = a; mark = mark; subject = x; class = y }) → ⊥) → o ≡ none
-  no_note d a x y none w k = refl
-  no_note d a x y (some mark) w k = absurd (k mark w.0)
+      → ((mark : Mark) → P (record { direction = d; aspect = a; mark = mark; subject = x; class = y }) → ⊥) → o ≡ None
+  no_note d a x y None w k = refl
+  no_note d a x y (Some mark) w k = absurd (k mark w.0)
 
 -- ---- past the limits, nothing
 
@@ -146,21 +147,21 @@ module _ (n : ℕ) (d : Direction) (x y : Machine) (okx : OkMachine n x) (oky : 
 -- ---- the machines
 
 -- two of one size, or none in both
-abbrev Paired : Option Machine → Option Machine → Type 0
+abbrev Paired : Maybe Machine → Maybe Machine → Type 0
 Paired none none = Unit {0}
 Paired (some x) none = ⊥
 Paired none (some y) = ⊥
 Paired (some x) (some y) = (x.rows ≡ y.rows) × (x.classes ≡ y.classes)
 
 module _ (n : ℕ) (d : Direction) where
-  paired : (p q : Option Machine) → Unnamed d sizes (machines_differ d n p q) → Paired p q
+  paired : (p q : Maybe Machine) → Unnamed d sizes (machines_differ d n p q) → Paired p q
   paired none none w = tt
   paired (some x) none w = w.0 (refl, refl)
   paired none (some y) w = w.0 (refl, refl)
   paired (some x) (some y) w = go (eqb x.rows y.rows && eqb x.classes y.classes) refl w
     where
       go : (t : Bool) → (eqb x.rows y.rows && eqb x.classes y.classes) ≡ t
-          → Unnamed d sizes (cond t (classes_differ d n x y ++ cells_differ d x y) (noted d Sizes 0 0 (some Changed)))
+          → Unnamed d sizes (cond t (classes_differ d n x y ++ cells_differ d x y) (noted d Sizes 0 0 (Some Changed)))
           → (x.rows ≡ y.rows) × (x.classes ≡ y.classes)
       go true t v =
           let s = empty.both (eqb x.rows y.rows) (eqb x.classes y.classes) t in
@@ -171,16 +172,16 @@ module _ (n : ℕ) (d : Direction) where
   parts-unnamed : (part : Part) (x y : Machine) → x.rows ≡ y.rows → x.classes ≡ y.classes → Unnamed d part (machines_differ d n (some x) (some y))
       → Unnamed d part (classes_differ d n x y ++ cells_differ d x y)
   parts-unnamed part x y er ec w =
-      subst (λ (t : Bool). Unnamed d part (cond t (classes_differ d n x y ++ cells_differ d x y) (noted d Sizes 0 0 (some Changed))))
+      subst (λ (t : Bool). Unnamed d part (cond t (classes_differ d n x y ++ cells_differ d x y) (noted d Sizes 0 0 (Some Changed))))
       (ap₂ (λ (a b : Bool). a && b) (eq-eqb x.rows y.rows er) (eq-eqb x.classes y.classes ec)) w
 
-  sizes-answers : (p q : Option Machine) → Paired p q → maybe (λ (x : Machine). both x.rows x.classes) p ≡ maybe (λ (x : Machine). both x.rows x.classes) q
+  sizes-answers : (p q : Maybe Machine) → Paired p q → maybe (λ (x : Machine). both x.rows x.classes) p ≡ maybe (λ (x : Machine). both x.rows x.classes) q
   sizes-answers none none e = refl
   sizes-answers (some x) none e = absurd e
   sizes-answers none (some y) e = absurd e
   sizes-answers (some x) (some y) e = ap₂ both e.0 e.1
 
-  class-answers : (g : ℕ) (p q : Option Machine) → OkMaybe n p → OkMaybe n q → Paired p q → Unnamed d (class g) (machines_differ d n p q)
+  class-answers : (g : ℕ) (p q : Maybe Machine) → OkMaybe n p → OkMaybe n q → Paired p q → Unnamed d (class g) (machines_differ d n p q)
       → maybe (λ (x : Machine). maybe number (get_elem? x.columns g)) p ≡ maybe (λ (x : Machine). maybe number (get_elem? x.columns g)) q
   class-answers g none none a b e w = refl
   class-answers g (some x) none a b e w = absurd e
@@ -189,7 +190,7 @@ module _ (n : ℕ) (d : Direction) where
       ap (maybe number) (class-alike n d x y a b e.0 e.1 g
       (all_first (λ (z : Difference). Names d (class g) z → ⊥) (classes_differ d n x y) (cells_differ d x y) (parts-unnamed (class g) x y e.0 e.1 w)))
 
-  cell-answers : (r c : ℕ) (p q : Option Machine) → OkMaybe n p → OkMaybe n q → Paired p q → Unnamed d (cell r c) (machines_differ d n p q)
+  cell-answers : (r c : ℕ) (p q : Maybe Machine) → OkMaybe n p → OkMaybe n q → Paired p q → Unnamed d (cell r c) (machines_differ d n p q)
       → maybe (λ (x : Machine). maybe entry (cell_of x r c)) p ≡ maybe (λ (x : Machine). maybe entry (cell_of x r c)) q
   cell-answers r c none none a b e w = refl
   cell-answers r c (some x) none a b e w = absurd e

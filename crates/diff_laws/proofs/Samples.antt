@@ -1,7 +1,8 @@
 -- Tables and meanings compared by hand (document 02, 6/14): a record that one table has; machines of unlike sizes; an empty list, which is none.
+use Rattle.fields.specs.Faults.{earlier}
 use Prim.Native.Nat.{ℕ}
 use mathlib.Core.Path.{◌≡◌, refl, sym, ap}
-use mathlib.Core.Option.{Option, some}
+use Rattle.std.specs.Prelude.{Option, Some}
 use mathlib.Core.List.{[], ◌∷◌, ◌++◌}
 use native.Mathlib.Omega.{arith}
 use Rattle.fields.specs.Field.{u16_at, u32_at}
@@ -45,12 +46,12 @@ record-first = refl
 pub unlike-machines : all_numbers (differences (glyph_with 4 1 1) (glyph_with 5 2 2)) ≡ 0 ∷ 0 ∷ 0 ∷ 0 ∷ 0 ∷ 0 ∷ 3 ∷ 0 ∷ 0 ∷ 5 ∷ []
 unfolding glyph_with empty_side differences sides_differ widths_differ records_differ lists_differ through all_numbers numbers_of
 unlike-machines =
-    ap (λ (o : Option Mark). all_numbers (noted Horizontal Sizes 0 0 (some Changed) ++ ((((noted Horizontal Width 0 5 o ++ []) ++ []) ++ []) ++ [])))
+    ap (λ (o : Option Mark). all_numbers (noted Horizontal Sizes 0 0 (Some Changed) ++ ((((noted Horizontal Width 0 5 o ++ []) ++ []) ++ []) ++ [])))
     (sym (mark-apart Pair-discrete (growing 1) (growing 2) (λ e. let z : ◌≡◌ {A = ℕ} 1 2 = ap (λ (p : Pair). p.before.grow) e in omega arith)))
 
 -- an empty list is none
 pub empty-accepted : Accepted empty_list 1
-unfolding empty_list Accepted table_fault header_fault direction_fault present offsets_fault machine_part action_part u16_at u32_at inside rule ◌then◌ walk values_fault lookup_fault format_fault trimmed_fault target_fault value_of value_from trimmed_value has_units unit_count list_fault
+unfolding empty_list Accepted table_fault header_fault direction_fault present offsets_fault machine_part action_part u16_at u32_at inside rule earlier walk values_fault lookup_fault format_fault trimmed_fault target_fault value_of value_from trimmed_value has_units unit_count list_fault
 empty-accepted = refl
 
 pub empty-none : differences_of bare_table empty_list 1 ≡ []

@@ -7,17 +7,15 @@ use lib.Dec.{leb}
 use lib.ListN.{length}
 use lib.Seq.{sets}
 use borrow.Author.Tests.{leb-true}
+use Rattle.std.specs.Prelude.{Result, Ok, Err}
 use Rattle.fields.specs.declared.Fault.{Fault}
-use Rattle.fields.specs.declared.Fault.TheVariants.{Clear, Bad}
-use Rattle.fields.specs.declared.Refusal.{Refusal}
+use Rattle.fields.specs.Faults.{FirstFault, Clear}
 use Rattle.fields.specs.declared.Refusal.TheVariants.{ShortRoom}
 use Rattle.fields.specs.Field.{Bytes}
 use Rattle.fields.proofs.Laws.{then-second, rule-holds}
 use Rattle.types.specs.declared.Direction.{Direction}
 use Rattle.meaning.specs.Ask.{Part, sizes, class, cell, Answer, nothing, number, both, entry, pair, act}
 use Rattle.meaning.specs.Sheet.{write}
-use Rattle.answers.specs.declared.CountAnswer.{CountAnswer}
-use Rattle.answers.specs.declared.CountAnswer.TheVariants.{Count, Refused}
 use Rattle.answers.specs.Says.{Reply, refused, given, unless_bad, says_count}
 use Rattle.table.specs.Table.{Accepted}
 use Rattle.table.specs.Means.{meaning_of}
@@ -66,7 +64,7 @@ module _ (t u : List ℕ) (n : ℕ) where
   unfolding differences_counted Accepted
   counted_is a d =
       let e : either_fault t u n ≡ Clear = sym (first-clear t u n a) ∙ d in
-      ap (λ (f : Fault). unless_bad f (number (length (differences_of t u n)))) e
+      ap (λ (f : FirstFault). unless_bad f (number (length (differences_of t u n)))) e
 
   empty : Bytes t → Bytes u → Accepted t n → Accepted u n
       → (differences_of t u n ≡ [] → write (meaning_of t n) ≡ write (meaning_of u n)) × (write (meaning_of t n) ≡ write (meaning_of u n) → differences_of t u n ≡ [])
@@ -77,17 +75,17 @@ module _ (t u : List ℕ) (n : ℕ) where
   no_length [] e = refl
   no_length (x ∷ xs) e = absurd (omega arith)
 
-  none-counted : Accepted t n → Accepted u n → CountAnswered t u n (Count 0) → differences_of t u n ≡ []
+  none-counted : Accepted t n → Accepted u n → CountAnswered t u n (Ok 0) → differences_of t u n ≡ []
   unfolding total amount
   none-counted a d e = no_length (differences_of t u n) (ap total (e ∙ counted_is a d))
 
-  counted_none : Accepted t n → Accepted u n → (answer : CountAnswer) → CountAnswered t u n answer → differences_of t u n ≡ [] → answer ≡ Count 0
+  counted_none : Accepted t n → Accepted u n → (answer : Result ℕ Fault) → CountAnswered t u n answer → differences_of t u n ≡ [] → answer ≡ Ok 0
   unfolding total amount answered
-  counted_none a d (Count k) e q = ap Count (ap total (e ∙ counted_is a d) ∙ ap length q)
-  counted_none a d (Refused r at) e q = let z : ◌≡◌ {A = ℕ} 0 1 = ap answered (e ∙ counted_is a d) in absurd (omega arith)
+  counted_none a d (Ok k) e q = ap Ok (ap total (e ∙ counted_is a d) ∙ ap length q)
+  counted_none a d (Err f) e q = let z : ◌≡◌ {A = ℕ} 0 1 = ap answered (e ∙ counted_is a d) in absurd (omega arith)
 
   empty-by : (s s' : List ℕ) → Bytes t → Bytes u → Accepted t n → Accepted u n → SheetBy t n s → SheetBy u n s'
-      → (answer : CountAnswer) → CountAnswered t u n answer → (answer ≡ Count 0 → s ≡ s') × (s ≡ s' → answer ≡ Count 0)
+      → (answer : Result ℕ Fault) → CountAnswered t u n answer → (answer ≡ Ok 0 → s ≡ s') × (s ≡ s' → answer ≡ Ok 0)
   empty-by s s' b c a d w v answer e = (
     (λ q. sym (meant t s n a w) ∙ (empty b c a d).0 (none-counted a d (ap says_count (sym q) ∙ e)) ∙ meant u s' n d v),
     (λ q. counted_none a d answer e ((empty b c a d).1 (meant t s n a w ∙ q ∙ sym (meant u s' n d v)))),
@@ -96,19 +94,19 @@ module _ (t u : List ℕ) (n : ℕ) where
 -- ---- the list
 
 module _ (t u before after : List ℕ) (n : ℕ) where
-  fault-clear : (f : Fault) (count : ℕ) (xs : List Difference)
+  fault-clear : (f : FirstFault) (count : ℕ) (xs : List Difference)
       → ◌≡◌ {A = ListAnswer} (record { said = given (number count); room = after }) (record { said = unless_bad f (number (length xs)); room = stored_unless f xs before })
       → (f ≡ Clear) × (count ≡ length xs) × (after ≡ sets before 0 (all_numbers xs))
   unfolding total amount answered
-  fault-clear Clear count xs e = (refl, ap (λ (o : ListAnswer). total o.said) e, ap (λ (o : ListAnswer). o.room) e)
-  fault-clear (Bad r at) count xs e = let z : ◌≡◌ {A = ℕ} 1 0 = ap (λ (o : ListAnswer). answered o.said) e in absurd (omega arith)
+  fault-clear (Ok u) count xs e = (refl, ap (λ (o : ListAnswer). total o.said) e, ap (λ (o : ListAnswer). o.room) e)
+  fault-clear (Err f) count xs e = let z : ◌≡◌ {A = ℕ} 1 0 = ap (λ (o : ListAnswer). answered o.said) e in absurd (omega arith)
 
-  fault-bad : (f : Fault) (k at : ℕ) (xs : List Difference)
+  fault-bad : (f : FirstFault) (k at : ℕ) (xs : List Difference)
       → ◌≡◌ {A = ListAnswer} (record { said = refused k at; room = after }) (record { said = unless_bad f (number (length xs)); room = stored_unless f xs before })
       → after ≡ before
   unfolding answered
-  fault-bad Clear k at xs e = let z : ◌≡◌ {A = ℕ} 0 1 = ap (λ (o : ListAnswer). answered o.said) e in absurd (omega arith)
-  fault-bad (Bad r p) k at xs e = ap (λ (o : ListAnswer). o.room) e
+  fault-bad (Ok u) k at xs e = let z : ◌≡◌ {A = ℕ} 0 1 = ap (λ (o : ListAnswer). answered o.said) e in absurd (omega arith)
+  fault-bad (Err f) k at xs e = ap (λ (o : ListAnswer). o.room) e
 
   room-enough : listing_fault t u n (length before) ≡ Clear → 5 * length (differences_of t u n) ≤ length before
   unfolding listing_fault
@@ -117,16 +115,16 @@ module _ (t u before after : List ℕ) (n : ℕ) where
       leb-true _ _ (rule-holds (leb (length (differences_of t u n)) (length before / 5)) ShortRoom 0 (then-second (either_fault t u n) _ e)) in
       omega (arith, h)
 
-  list-by : (count : ℕ) → ListAnswered t u n before (Count count) after
+  list-by : (count : ℕ) → ListAnswered t u n before (Ok count) after
       → (count ≡ length (differences_of t u n)) × (after ≡ sets before 0 (all_numbers (differences_of t u n))) × (5 * count ≤ length before)
   unfolding differences_listed
   list-by count e =
       let w = fault-clear (listing_fault t u n (length before)) count (differences_of t u n) e in
       (w.1, w.2, omega (arith, w.1, room-enough w.0))
 
-  refused-by : (refusal : Refusal) (at : ℕ) → ListAnswered t u n before (Refused refusal at) after → after ≡ before
+  refused-by : (fault : Fault) → ListAnswered t u n before (Err fault) after → after ≡ before
   unfolding differences_listed
-  refused-by refusal at e = fault-bad (listing_fault t u n (length before)) _ at (differences_of t u n) e
+  refused-by fault e = fault-bad (listing_fault t u n (length before)) _ fault.at (differences_of t u n) e
 
 -- ---- order and marks
 

@@ -1,7 +1,8 @@
 -- What holds of each difference that may be noted at a place of a direction holds of each that is listed.
 use Prim.Native.Nat.{ℕ, zero, suc, ◌+◌, ◌≤◌, ◌<◌}
 use mathlib.Core.Bool.{Bool, true, false, cond, ◌&&◌}
-use mathlib.Core.Option.{Option, none, some}
+use mathlib.Core.Option.{Option as Maybe, none, some}
+use Rattle.std.specs.Prelude.{Option, None, Some}
 use mathlib.Core.List.{List, [], ◌++◌}
 use native.Mathlib.Decide.{ℕ_discrete}
 use native.Mathlib.Omega.{arith}
@@ -29,8 +30,8 @@ module _ (P : Difference → Type 0) where
 
   all_noted : (d : Direction) (a : Aspect) (x y : ℕ) (o : Option Mark)
       → ((mark : Mark) → P (record { direction = d; aspect = a; mark = mark; subject = x; class = y })) → All P (noted d a x y o)
-  all_noted d a x y none h = tt
-  all_noted d a x y (some mark) h = (h mark, tt)
+  all_noted d a x y None h = tt
+  all_noted d a x y (Some mark) h = (h mark, tt)
 
   module _ (d : Direction) (n : ℕ) where
     pub of-glyphs : (a b : Side)
@@ -62,11 +63,11 @@ module _ (P : Difference → Type 0) where
         (λ c i j. all_noted d Cell r c (mark_of Entry-discrete (cell_of a r c) (cell_of b r c)) (λ mark. cell mark r c (omega arith) (omega arith)))))
 
     -- the cells of the first machine, if there is one
-    abbrev pub EachCell : Option Machine → Type 0
+    abbrev pub EachCell : Maybe Machine → Type 0
     EachCell none = Unit {0}
     EachCell (some a) = (mark : Mark) (r c : ℕ) → r < a.rows → c < a.classes → P (record { direction = d; aspect = Cell; mark = mark; subject = r; class = c })
 
-    of-machines : (p q : Option Machine)
+    of-machines : (p q : Maybe Machine)
         → ((mark : Mark) → P (record { direction = d; aspect = Sizes; mark = mark; subject = 0; class = 0 }))
         → ((mark : Mark) (g : ℕ) → g < n → P (record { direction = d; aspect = Class; mark = mark; subject = g; class = 0 }))
         → EachCell p → All P (machines_differ d n p q)
@@ -75,7 +76,7 @@ module _ (P : Difference → Type 0) where
     of-machines none (some b) size class cell = (size OnlySecond, tt)
     of-machines (some a) (some b) size class cell = go (eqb a.rows b.rows && eqb a.classes b.classes)
       where
-        go : (t : Bool) → All P (cond t (classes_differ d n a b ++ cells_differ d a b) (noted d Sizes 0 0 (some Changed)))
+        go : (t : Bool) → All P (cond t (classes_differ d n a b ++ cells_differ d a b) (noted d Sizes 0 0 (Some Changed)))
         go true = of_parts a b class cell
         go false = (size Changed, tt)
 

@@ -3,7 +3,8 @@ use Prim.Native.Nat.{ℕ}
 use mathlib.Core.Path.{◌≡◌, refl, sym, ap, ap₂, ◌∙◌, subst}
 use mathlib.Core.Bool.{Bool, true, false, cond, ◌&&◌}
 use mathlib.Core.Logic.{ite}
-use mathlib.Core.Option.{Option, none, some}
+use mathlib.Core.Option.{Option as Maybe, none, some}
+use Rattle.std.specs.Prelude.{Option, None, Some}
 use mathlib.Core.List.{List, [], ◌∷◌, ◌++◌}
 use native.Mathlib.Decide.{ℕ_discrete}
 use native.Mathlib.Omega.{arith}
@@ -32,58 +33,58 @@ use Rattle.diff_laws.specs.Unlike.{AllAlike, named_part, Marked, ZeroUnused, Fou
 
 -- a mark, if there is one
 abbrev MarkedIf : Option Mark → Answer → Answer → Type 0
-MarkedIf none a b = Unit {0}
-MarkedIf (some mark) a b = Marked mark a b
+MarkedIf None a b = Unit {0}
+MarkedIf (Some mark) a b = Marked mark a b
 
 seen_by : (o : Option Mark) (a a' b b' : Answer) → a ≡ a' → b ≡ b' → MarkedIf o a' b' → MarkedIf o a b
 seen_by o a a' b b' e f w = subst (λ (y : Answer). MarkedIf o a y) (sym f) (subst (λ (x : Answer). MarkedIf o x b') (sym e) w)
 
 module _ {A : Type 0} (eq : Discrete A) where
-  self-unmarked : (x : Option A) (mark : Mark) → mark_of eq x x ≡ some mark → ⊥
-  self-unmarked x mark e = let f : none ≡ some mark = sym (same_none eq x) ∙ e in let z : ◌≡◌ {A = ℕ} 0 1 = cc in omega arith
+  self-unmarked : (x : Maybe A) (mark : Mark) → mark_of eq x x ≡ Some mark → ⊥
+  self-unmarked x mark e = let f : None ≡ Some mark = sym (same_none eq x) ∙ e in let z : ◌≡◌ {A = ℕ} 0 1 = cc in omega arith
 
   module _ (f : A → Answer) (same : (x y : A) → f x ≡ f y → x ≡ y) (given : (x : A) → f x ≡ nothing → ⊥) where
-    mark-seen : (p q : Option A) → MarkedIf (mark_of eq p q) (maybe f p) (maybe f q)
+    mark-seen : (p q : Maybe A) → MarkedIf (mark_of eq p q) (maybe f p) (maybe f q)
     mark-seen none none = tt
     mark-seen (some x) none = (given x, refl)
     mark-seen none (some y) = (refl, given y)
     mark-seen (some x) (some y) = go (eq x y)
       where
-        go : (d : Dec (x ≡ y)) → MarkedIf (ite d none (some Changed)) (f x) (f y)
+        go : (d : Dec (x ≡ y)) → MarkedIf (ite d None (Some Changed)) (f x) (f y)
         go (yes e) = tt
         go (no e) = (given x, given y)
 
-    marked-unlike : (p q : Option A) (mark : Mark) → mark_of eq p q ≡ some mark → maybe f p ≡ maybe f q → ⊥
+    marked-unlike : (p q : Maybe A) (mark : Mark) → mark_of eq p q ≡ Some mark → maybe f p ≡ maybe f q → ⊥
     marked-unlike none none mark e h = let z : ◌≡◌ {A = ℕ} 0 1 = cc in omega arith
     marked-unlike (some x) none mark e h = given x h
     marked-unlike none (some y) mark e h = given y (sym h)
     marked-unlike (some x) (some y) mark e h = self-unmarked (some x) mark (ap (λ (z : A). mark_of eq (some x) (some z)) (same x y h) ∙ e)
 
-number-unlike : (p q : Option ℕ) (mark : Mark) → mark_of ℕ_discrete p q ≡ some mark → maybe number p ≡ maybe number q → ⊥
+number-unlike : (p q : Maybe ℕ) (mark : Mark) → mark_of ℕ_discrete p q ≡ Some mark → maybe number p ≡ maybe number q → ⊥
 number-unlike = marked-unlike ℕ_discrete number (λ a b e. cc) (λ a e. let z : ◌≡◌ {A = ℕ} 0 1 = cc in omega arith)
 
-number-seen : (p q : Option ℕ) → MarkedIf (mark_of ℕ_discrete p q) (maybe number p) (maybe number q)
+number-seen : (p q : Maybe ℕ) → MarkedIf (mark_of ℕ_discrete p q) (maybe number p) (maybe number q)
 number-seen = mark-seen ℕ_discrete number (λ a b e. cc) (λ a e. let z : ◌≡◌ {A = ℕ} 0 1 = cc in omega arith)
 
-entry-unlike : (p q : Option Entry) (mark : Mark) → mark_of Entry-discrete p q ≡ some mark → maybe entry p ≡ maybe entry q → ⊥
+entry-unlike : (p q : Maybe Entry) (mark : Mark) → mark_of Entry-discrete p q ≡ Some mark → maybe entry p ≡ maybe entry q → ⊥
 entry-unlike = marked-unlike Entry-discrete entry (λ a b e. cc) (λ a e. let z : ◌≡◌ {A = ℕ} 0 1 = cc in omega arith)
 
-entry_seen : (p q : Option Entry) → MarkedIf (mark_of Entry-discrete p q) (maybe entry p) (maybe entry q)
+entry_seen : (p q : Maybe Entry) → MarkedIf (mark_of Entry-discrete p q) (maybe entry p) (maybe entry q)
 entry_seen = mark-seen Entry-discrete entry (λ a b e. cc) (λ a e. let z : ◌≡◌ {A = ℕ} 0 1 = cc in omega arith)
 
-pair-unlike : (p q : Option Pair) (mark : Mark) → mark_of Pair-discrete p q ≡ some mark → maybe pair p ≡ maybe pair q → ⊥
+pair-unlike : (p q : Maybe Pair) (mark : Mark) → mark_of Pair-discrete p q ≡ Some mark → maybe pair p ≡ maybe pair q → ⊥
 pair-unlike = marked-unlike Pair-discrete pair (λ a b e. cc) (λ a e. let z : ◌≡◌ {A = ℕ} 0 1 = cc in omega arith)
 
-pair-seen : (p q : Option Pair) → MarkedIf (mark_of Pair-discrete p q) (maybe pair p) (maybe pair q)
+pair-seen : (p q : Maybe Pair) → MarkedIf (mark_of Pair-discrete p q) (maybe pair p) (maybe pair q)
 pair-seen = mark-seen Pair-discrete pair (λ a b e. cc) (λ a e. let z : ◌≡◌ {A = ℕ} 0 1 = cc in omega arith)
 
-act-alike : (p q : Option Action) → maybe act p ≡ maybe act q → p ≡ q
+act-alike : (p q : Maybe Action) → maybe act p ≡ maybe act q → p ≡ q
 act-alike none none e = refl
 act-alike (some x) none e = let z : ◌≡◌ {A = ℕ} 0 1 = cc in absurd (omega arith)
 act-alike none (some y) e = let z : ◌≡◌ {A = ℕ} 0 1 = cc in absurd (omega arith)
 act-alike (some x) (some y) e = cc
 
-lists-unlike : (xs ys : List Action) (mark : Mark) → mark_of list-discrete (some_list xs) (some_list ys) ≡ some mark
+lists-unlike : (xs ys : List Action) (mark : Mark) → mark_of list-discrete (some_list xs) (some_list ys) ≡ Some mark
     → ((k : ℕ) → maybe act (get_elem? xs k) ≡ maybe act (get_elem? ys k)) → ⊥
 lists-unlike xs ys mark e h =
     let q : xs ≡ ys = elem-ext xs ys (λ k. act-alike (get_elem? xs k) (get_elem? ys k) (h k)) in
@@ -96,7 +97,7 @@ lists-seen (x ∷ xs) [] = ((λ e. let z : ◌≡◌ {A = ℕ} 0 1 = cc in omega
 lists-seen [] (y ∷ ys) = (refl, λ e. let z : ◌≡◌ {A = ℕ} 0 1 = cc in omega arith)
 lists-seen (x ∷ xs) (y ∷ ys) = go (list-discrete (x ∷ xs) (y ∷ ys))
   where
-    go : (d : Dec ((x ∷ xs) ≡ (y ∷ ys))) → MarkedIf (ite d none (some Changed)) (act x) (act y)
+    go : (d : Dec ((x ∷ xs) ≡ (y ∷ ys))) → MarkedIf (ite d None (Some Changed)) (act x) (act y)
     go (yes e) = tt
     go (no e) = ((λ e. let z : ◌≡◌ {A = ℕ} 0 1 = cc in omega arith), λ e. let z : ◌≡◌ {A = ℕ} 0 1 = cc in omega arith)
 
@@ -104,20 +105,20 @@ lists-seen (x ∷ xs) (y ∷ ys) = go (list-discrete (x ∷ xs) (y ∷ ys))
 
 module _ (m m' : Meaning) (d : Direction) where
   told : (a : Aspect) (x y : ℕ) (o : Option Mark) → MarkedIf o (ask m (along d (named_part a x y))) (ask m' (along d (named_part a x y)))
-      → ((mark : Mark) → o ≡ some mark → AllAlike a m m' d x y → ⊥) → ZeroUnused a x y → All (Founded m m') (noted d a x y o)
-  told a x y none s h u = tt
-  told a x y (some mark) s h u = (record { marked = s; unlike = h mark refl; unused = u }, tt)
+      → ((mark : Mark) → o ≡ Some mark → AllAlike a m m' d x y → ⊥) → ZeroUnused a x y → All (Founded m m') (noted d a x y o)
+  told a x y None s h u = tt
+  told a x y (Some mark) s h u = (record { marked = s; unlike = h mark refl; unused = u }, tt)
 
-  sizes_of : Option Machine → Answer
+  sizes_of : Maybe Machine → Answer
   sizes_of = maybe (λ (x : Machine). both x.rows x.classes)
 
-  class_of : ℕ → Option Machine → Answer
+  class_of : ℕ → Maybe Machine → Answer
   class_of g = maybe (λ (x : Machine). maybe number (get_elem? x.columns g))
 
-  cell_in : ℕ → ℕ → Option Machine → Answer
+  cell_in : ℕ → ℕ → Maybe Machine → Answer
   cell_in r c = maybe (λ (x : Machine). maybe entry (cell_of x r c))
 
-  module _ (p q : Option Machine) (ep : (side_of d m).machine ≡ p) (eq : (side_of d m').machine ≡ q) where
+  module _ (p q : Maybe Machine) (ep : (side_of d m).machine ≡ p) (eq : (side_of d m').machine ≡ q) where
     -- a mark of the machines' answers
     sizes-seen : (o : Option Mark) → MarkedIf o (sizes_of p) (sizes_of q) → MarkedIf o (ask m (along d sizes)) (ask m' (along d sizes))
     unfolding ask ask_side sizes_of
@@ -157,12 +158,12 @@ module _ (m m' : Meaning) (d : Direction) where
   unfolding sizes_of
   some-sizes a e = let z : ◌≡◌ {A = ℕ} 0 1 = cc in omega arith
 
-  sizes-told : (p q : Option Machine) → (side_of d m).machine ≡ p → (side_of d m').machine ≡ q → (mark : Mark) → Marked mark (sizes_of p) (sizes_of q)
-      → (sizes_of p ≡ sizes_of q → ⊥) → All (Founded m m') (noted d Sizes 0 0 (some mark))
+  sizes-told : (p q : Maybe Machine) → (side_of d m).machine ≡ p → (side_of d m').machine ≡ q → (mark : Mark) → Marked mark (sizes_of p) (sizes_of q)
+      → (sizes_of p ≡ sizes_of q → ⊥) → All (Founded m m') (noted d Sizes 0 0 (Some mark))
   sizes-told p q ep eq mark w k =
-      told Sizes 0 0 (some mark) (sizes-seen p q ep eq (some mark) w) (λ mark e h. k (sizes-alike p q ep eq h)) (refl, refl)
+      told Sizes 0 0 (Some mark) (sizes-seen p q ep eq (Some mark) w) (λ mark e h. k (sizes-alike p q ep eq h)) (refl, refl)
 
-  machines-told : (n : ℕ) (p q : Option Machine) → (side_of d m).machine ≡ p → (side_of d m').machine ≡ q → All (Founded m m') (machines_differ d n p q)
+  machines-told : (n : ℕ) (p q : Maybe Machine) → (side_of d m).machine ≡ p → (side_of d m').machine ≡ q → All (Founded m m') (machines_differ d n p q)
   unfolding classes_differ cells_differ sizes_of class_of cell_in
   machines-told n none none ep eq = tt
   machines-told n (some a) none ep eq = sizes-told (some a) none ep eq OnlyFirst (some-sizes a, refl) (some-sizes a)
@@ -170,7 +171,7 @@ module _ (m m' : Meaning) (d : Direction) where
   machines-told n (some a) (some b) ep eq = go (eqb a.rows b.rows && eqb a.classes b.classes) refl
     where
       go : (t : Bool) → (eqb a.rows b.rows && eqb a.classes b.classes) ≡ t
-          → All (Founded m m') (cond t (classes_differ d n a b ++ cells_differ d a b) (noted d Sizes 0 0 (some Changed)))
+          → All (Founded m m') (cond t (classes_differ d n a b ++ cells_differ d a b) (noted d Sizes 0 0 (Some Changed)))
       go true t =
           all_append (Founded m m') (classes_differ d n a b) (cells_differ d a b)
           (all-through (Founded m m') (λ g. noted d Class g 0 (mark_of ℕ_discrete (get_elem? a.columns g) (get_elem? b.columns g))) n 0

@@ -1,13 +1,11 @@
 -- What is demanded of the calls for what differs between two tables (document 02, 6/14), over any outcomes of them: no more is known of an outcome than the
 -- calls promise.
-use Rattle.std.specs.Prelude.{ℕ, ◌*◌, ◌≤◌, ◌<◌, ◌^◌, ◌≡◌, List, map, length}
+use Rattle.std.specs.Prelude.{ℕ, ◌*◌, ◌≤◌, ◌<◌, ◌^◌, ◌≡◌, List, map, length, Result, Ok, Err}
 use Rattle.std.proofs.lemmas.List.Edits.{sets}
 use Rattle.fields.specs.Field.{Bytes}
-use Rattle.fields.specs.declared.Refusal.{Refusal}
+use Rattle.fields.specs.declared.Fault.{Fault}
 use Rattle.types.specs.declared.Direction.{Direction}
 use Rattle.meaning.specs.Ask.{Part, sizes, class, cell}
-use Rattle.answers.specs.declared.CountAnswer.{CountAnswer}
-use Rattle.answers.specs.declared.CountAnswer.TheVariants.{Count, Refused}
 use Rattle.answers.specs.Says.{says_count}
 use Rattle.encoding.specs.Codes.{All}
 use Rattle.table.specs.Table.{Accepted}
@@ -21,21 +19,21 @@ use Rattle.diff_laws.specs.Reach.{InReach, Precedes}
 use Rattle.diff_laws.specs.Unlike.{SameAnswer, Founded, Unnamed, Listable}
 
 -- an answer of `difference_count` for the tables t and u read with n
-abbrev pub CountAnswered : List ℕ → List ℕ → ℕ → CountAnswer → Type 0
+abbrev pub CountAnswered : List ℕ → List ℕ → ℕ → Result ℕ Fault → Type 0
 CountAnswered t u n answer = says_count answer ≡ differences_counted t u n
 
 -- an answer of `differences`, with the room as it was lent and as it is handed back
-abbrev pub ListAnswered : List ℕ → List ℕ → ℕ → List ℕ → CountAnswer → List ℕ → Type 0
+abbrev pub ListAnswered : List ℕ → List ℕ → ℕ → List ℕ → Result ℕ Fault → List ℕ → Type 0
 ListAnswered t u n before answer after = ◌≡◌ {A = ListAnswer} (record { said = says_count answer; room = after }) (differences_listed t u n before)
 
 pub record Changes : Type 0 where
   -- there is no difference exactly when the sheets that are written for the two tables are equal
   pub empty-exactly : (t u s s' : List ℕ) (n : ℕ) → Bytes t → Bytes u → Accepted t n → Accepted u n → SheetBy t n s → SheetBy u n s'
-      → (answer : CountAnswer) → CountAnswered t u n answer → (answer ≡ Count 0 → s ≡ s') × (s ≡ s' → answer ≡ Count 0)
+      → (answer : Result ℕ Fault) → CountAnswered t u n answer → (answer ≡ Ok 0 → s ≡ s') × (s ≡ s' → answer ≡ Ok 0)
   -- the list is what the room holds from its start on, and is counted; after a refusal the room is as it was
-  pub the-list : (t u before after : List ℕ) (n count : ℕ) → ListAnswered t u n before (Count count) after
+  pub the-list : (t u before after : List ℕ) (n count : ℕ) → ListAnswered t u n before (Ok count) after
       → (count ≡ length (differences_of t u n)) × (after ≡ sets before 0 (all_numbers (differences_of t u n))) × (5 * count ≤ length before)
-  pub refused-unchanged : (t u before after : List ℕ) (n : ℕ) (refusal : Refusal) (at : ℕ) → ListAnswered t u n before (Refused refusal at) after → after ≡ before
+  pub refused-unchanged : (t u before after : List ℕ) (n : ℕ) (fault : Fault) → ListAnswered t u n before (Err fault) after → after ≡ before
   -- each difference stands once, in order: direction, what differs and the two numbers, as one number, rise strictly; the two stay in reach, where a greater
   -- number stands for what comes later, by direction, then by what differs, then by the first number, then by the second
   pub in_order : (t u : List ℕ) (n : ℕ) → Bytes t → Accepted t n → Between 0 (10 * 2 ^ 24) (differences_of t u n)

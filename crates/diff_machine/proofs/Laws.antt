@@ -4,13 +4,14 @@ use mathlib.Core.Path.{◌≡◌, sym, ap, ap₂, ◌∙◌}
 use mathlib.Core.Bool.{Bool, true, false, cond, ◌&&◌}
 use mathlib.Core.List.{List, [], ◌++◌}
 use mathlib.Core.Option.{Option, none, some}
+use Rattle.std.specs.Prelude.{Some}
 use native.Mathlib.Omega.{arith}
 use native.Mathlib.Decide.{ℕ_discrete}
 use lib.Arith.{digits_lt}
 use lib.Dec.{eqb, ltb}
 use lib.ListN.{get_or, get_elem?}
 use borrow.Author.Tests.{eq-eqb, ne_eqb, lt-ltb}
-use Rattle.fields.specs.declared.Fault.TheVariants.{Clear}
+use Rattle.fields.specs.Faults.{Clear}
 use Rattle.encoding.specs.Upto.{upto}
 use Rattle.encoding.proofs.UptoLaws.{elem-upto}
 use Rattle.types.specs.declared.Entry.{Entry}
@@ -31,10 +32,10 @@ use Rattle.diff_rule.specs.declared.Mark.TheVariants.{Changed}
 use Rattle.diff_rule.specs.declared.Difference.{Difference}
 use Rattle.diff_rule.specs.Differences.{mark_of, noted, through, classes_differ, cells_differ}
 use Rattle.diff_rule.proofs.Marks.{mark-same}
-use Rattle.diff_rule.proofs.Through.{through_same, from_start}
+use Rattle.diff_rule.proofs.Through.{through_same}
 use Rattle.diff_rule.proofs.Filled.{through-within}
 use Rattle.diff_machine.specs.declared.Machines.{Machines}
-use Rattle.diff_machine.specs.declared.Span.{Span}
+use Rattle.std.specs.declared.ops.Range.{Range}
 use Rattle.diff_machine.specs.Machines.{SizesAt, Spans, class_differs, classes_by, cell_differs, row_by, cells_by, machines_by}
 
 module _ (t u : List ℕ) (m : Machines) where
@@ -42,23 +43,15 @@ module _ (t u : List ℕ) (m : Machines) where
   class-equal x p q = ap (noted m.direction Class x 0) (sym (mark-same ℕ_discrete (class_at t m.first x) (class_at u m.second x) (p ∙ sym q)))
 
   -- glyphs that neither class table covers are of class 1 in both
-  pub classes-whole : (ones others : ClassTable) (span : Span) → ClassesAt t m.first ones → ClassesAt u m.second others
-      → Spans ones others m.glyphs span → through (class_differs t u m) (span.until - span.from) span.from ≡ classes_by t u m
+  pub classes-whole : (ones others : ClassTable) (span : Range ℕ) → ClassesAt t m.first ones → ClassesAt u m.second others
+      → Spans ones others m.glyphs span → through (class_differs t u m) (span.end - span.start) span.start ≡ classes_by t u m
   unfolding classes_by
   classes-whole ones others span w v s =
-      sym (through-within (class_differs t u m) m.glyphs span.from span.until s.rises s.most
+      sym (through-within (class_differs t u m) m.glyphs span.start span.end s.rises s.most
       (λ x l. class-equal x (class-before t m.first x (omega (arith, w.first, (s.low x l).0))) (class-before u m.second x (omega (arith, v.first, (s.low x l).1))))
       (λ x l k. class-equal x
       (class-after t m.first x (omega (arith, w.first, (s.high x l k).0)) (omega (arith, w.first, w.count, (s.high x l k).0)))
       (class-after u m.second x (omega (arith, v.first, (s.high x l k).1)) (omega (arith, v.first, v.count, (s.high x l k).1)))))
-
-  pub row-whole : (r : ℕ) → through (cell_differs t u m r) (m.classes - 0) 0 ≡ row_by t u m r
-  unfolding row_by
-  row-whole r = from_start (cell_differs t u m r) m.classes
-
-  pub cells_whole : through (row_by t u m) (m.rows - 0) 0 ≡ cells_by t u m
-  unfolding cells_by
-  cells_whole = from_start (row_by t u m) m.rows
 
 -- ---- machines of tables
 
@@ -106,19 +99,19 @@ module _ (t u : List ℕ) (m : Machines) where
       (class_differs t u m) m.glyphs 0
       (λ g h l. ap₂ (λ (x y : Option ℕ). noted m.direction Class g 0 (mark_of ℕ_discrete x y)) (elem-upto (class_at t m.first) m.glyphs g (omega arith)) (elem-upto (class_at u m.second) m.glyphs g (omega arith)))
 
-  sizes-apart : (same_rows && same-classes) ≡ false → noted m.direction Sizes 0 0 (some Changed) ≡ machines_by t u m
+  sizes-apart : (same_rows && same-classes) ≡ false → noted m.direction Sizes 0 0 (Some Changed) ≡ machines_by t u m
   unfolding machine_at
-  sizes-apart b = ap (λ (x : Bool). cond x parts (noted m.direction Sizes 0 0 (some Changed))) (sym b)
+  sizes-apart b = ap (λ (x : Bool). cond x parts (noted m.direction Sizes 0 0 (Some Changed))) (sym b)
 
   module _ (s : SizesAt t m) where
-    pub rows_apart : (m.rows ≡ row_count u m.second → ⊥) → noted m.direction Sizes 0 0 (some Changed) ≡ machines_by t u m
+    pub rows_apart : (m.rows ≡ row_count u m.second → ⊥) → noted m.direction Sizes 0 0 (Some Changed) ≡ machines_by t u m
     rows_apart h = sizes-apart (ap (λ (x : Bool). x && same-classes) (ne_eqb rows (row_count u m.second) (λ q. h (s.rows ∙ q))))
 
     module _ (er : m.rows ≡ row_count u m.second) where
       rows_same : same_rows ≡ true
       rows_same = eq-eqb rows (row_count u m.second) (sym s.rows ∙ er)
 
-      pub classes-apart : (m.classes ≡ class_count u m.second → ⊥) → noted m.direction Sizes 0 0 (some Changed) ≡ machines_by t u m
+      pub classes-apart : (m.classes ≡ class_count u m.second → ⊥) → noted m.direction Sizes 0 0 (Some Changed) ≡ machines_by t u m
       classes-apart h = sizes-apart (ap₂ (λ (x y : Bool). x && y) rows_same (ne_eqb classes (class_count u m.second) (λ q. h (s.classes ∙ q))))
 
       module _ (ec : m.classes ≡ class_count u m.second) where
@@ -145,7 +138,7 @@ module _ (t u : List ℕ) (m : Machines) where
         both-same =
             let b : (same_rows && same-classes) ≡ true = ap₂ (λ (x y : Bool). x && y) rows_same (eq-eqb classes (class_count u m.second) (sym s.classes ∙ ec)) in
             ap₂ (λ (x y : List Difference). x ++ y) (sym classes-differ) (sym cells-differ)
-            ∙ ap (λ (x : Bool). cond x parts (noted m.direction Sizes 0 0 (some Changed))) (sym b)
+            ∙ ap (λ (x : Bool). cond x parts (noted m.direction Sizes 0 0 (Some Changed))) (sym b)
 
 -- ---- a machine, or none
 

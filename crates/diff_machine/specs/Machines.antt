@@ -11,7 +11,7 @@ use Rattle.diff_rule.specs.declared.Aspect.TheVariants.{Class, Cell}
 use Rattle.diff_rule.specs.declared.Difference.{Difference}
 use Rattle.diff_rule.specs.Differences.{mark_of, noted, through, machines_differ}
 use Rattle.diff_machine.specs.declared.Machines.{Machines}
-use Rattle.diff_machine.specs.declared.Span.{Span}
+use Rattle.std.specs.declared.ops.Range.{Range}
 
 abbrev pub class_differs : List ℕ → List ℕ → Machines → ℕ → List Difference
 class_differs t u m g = noted m.direction Class g 0 (mark_of ℕ_discrete (some (class_at t m.first g)) (some (class_at u m.second g)))
@@ -48,9 +48,9 @@ pub record WithClasses (t u : List ℕ) (m : Machines) : Type 0 where
   pub ones : 0 < class_count t m.first
   pub others : 0 < class_count u m.second
 
--- the glyphs below n from `from` on and before `until` hold all that one of two class tables covers; there may be others among them
-pub record Spans (ones others : ClassTable) (n : ℕ) (s : Span) : Type 0 where
-  pub rises : s.from ≤ s.until
-  pub most : s.until ≤ n
-  pub low : (x : ℕ) → x < s.from → (x < ones.first) × (x < others.first)
-  pub high : (x : ℕ) → s.until ≤ x → x < n → (ones.first + ones.count ≤ x) × (others.first + others.count ≤ x)
+-- the glyphs below n of a stretch hold all that one of two class tables covers; there may be others among them
+pub record Spans (ones others : ClassTable) (n : ℕ) (s : Range ℕ) : Type 0 where
+  pub rises : s.start ≤ s.end
+  pub most : s.end ≤ n
+  pub low : (x : ℕ) → x < s.start → (x < ones.first) × (x < others.first)
+  pub high : (x : ℕ) → s.end ≤ x → x < n → (ones.first + ones.count ≤ x) × (others.first + others.count ≤ x)

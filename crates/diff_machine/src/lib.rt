@@ -2,7 +2,7 @@
 // is no room they are only counted, by where they would end.
 #![tactic(auto)]
 
-ghost use Rattle.std.specs.Prelude.{◌≡◌, ◌++◌, ℕ, ◌+◌, ◌≤◌, ◌<◌, ◌^◌};
+ghost use Rattle.std.specs.Prelude.{◌≡◌, ◌++◌, ℕ, ◌+◌, ◌≤◌, ◌<◌, ◌^◌, Some};
 ghost use Rattle.std.proofs.Math.Option.{some};
 ghost use Rattle.std.proofs.Math.Decide.{ℕ_discrete};
 ghost use Rattle.meaning.specs.Discrete.{Entry-discrete};
@@ -11,13 +11,14 @@ ghost use Rattle.machine.specs.Classes.{Near, ClassesAt};
 ghost use Rattle.machine.specs.Machine.{machine_fault};
 ghost use Rattle.table.specs.Table.{machine_part};
 ghost use Rattle.table.specs.Means.{machine_of};
-ghost use Rattle.fields.specs.declared.Fault.TheVariants.{Clear};
-ghost use Rattle.diff_rule.specs.Differences.{mark_of, mark_seen, noted, machines_differ};
+ghost use Rattle.fields.specs.Faults.{Clear};
+ghost use Rattle.diff_rule.specs.Differences.{mark_of, noted, machines_differ};
 ghost use Rattle.diff_rule.specs.Order.{Stores};
 ghost use Rattle.diff_machine.specs.Machines.{classes_by, row_by, cells_by, machines_by, WithClasses, SizesAt, Spans};
 
-use diff_rule::{Aspect, Comparison, Mark};
+use diff_rule::{Aspect, Mark};
 use machine::ClassTable;
+use std::ops::Range;
 use types::Direction;
 
 // Where the machines of one direction stand in two tables that are read with one glyph count, and the sizes of the first.
@@ -31,13 +32,6 @@ struct Machines {
     classes: usize,
 }
 
-// The glyphs from `from` on and before `until`.
-#[derive(Clone, Copy)]
-struct Span {
-    from: usize,
-    until: usize,
-}
-
 // How the cells of a row and a class differ.
 fn compare_cells<'a>(
     one: &'a [u8],
@@ -46,19 +40,14 @@ fn compare_cells<'a>(
     there: usize,
     row: usize,
     class: usize,
-) -> Comparison
+) -> Option<Mark>
     requires { (here < 2 ^ 32) × (there < 2 ^ 32) × (row < 2 ^ 16) × (class < 2 ^ 16) × (0 < class_count one.now here) × (0 < class_count other.now there) }
-    ensures { mark_seen result ≡ mark_of Entry-discrete (some (cell_at one.now here row class)) (some (cell_at other.now there row class)) }
+    ensures { result ≡ mark_of Entry-discrete (some (cell_at one.now here row class)) (some (cell_at other.now there row class)) }
 {
-    let a = machine::cell(one, here, row, class);
-    let b = machine::cell(other, there, row, class);
-    if a.row != b.row {
-        return Comparison::Differs(Mark::Changed);
+    if machine::cell(one, here, row, class) == machine::cell(other, there, row, class) {
+        return None;
     }
-    if a.flags != b.flags {
-        return Comparison::Differs(Mark::Changed);
-    }
-    Comparison::Same
+    Some(Mark::Changed)
 }
 
 // Stores the differences of a row's cells, and answers where they end.
@@ -73,11 +62,10 @@ fn put_row<'a>(
     requires { WithClasses one.now other.now machines × (row < 2 ^ 16) × (to < 2 ^ 57) }
     ensures { Stores list.old list.new to result (row_by one.now other.now machines row) × (result ≤ to + 2 ^ 20) }
 {
-    let mut class: usize = 0;
     let mut at = to;
-    while class < machines.classes {
+    for class in 0..machines.classes {
         let direction = machines.direction;
-        let comparison = compare_cells(one, other, machines.first, machines.second, row, class);
+        let mark = compare_cells(one, other, machines.first, machines.second, row, class);
         at = diff_rule::put_noted(
             list,
             at,
@@ -85,9 +73,8 @@ fn put_row<'a>(
             Aspect::Cell,
             row as u16,
             class as u16,
-            comparison,
+            mark,
         );
-        class += 1;
     }
     at
 }
@@ -103,27 +90,21 @@ fn put_cells<'a>(
     requires { WithClasses one.now other.now machines × (to < 2 ^ 56) }
     ensures { Stores list.old list.new to result (cells_by one.now other.now machines) × (result ≤ to + 2 ^ 36) }
 {
-    let mut row: usize = 0;
     let mut at = to;
-    while row < machines.rows {
+    for row in 0..machines.rows {
         at = put_row(one, other, machines, row, list, at);
-        row += 1;
     }
     at
 }
 
 // The glyphs that one of two class tables covers; all others are of class 1 in both.
-fn class_span(ones: ClassTable, others: ClassTable, glyphs: usize) -> Span
+fn class_span(ones: ClassTable, others: ClassTable, glyphs: usize) -> Range<usize>
     requires { Near ones × Near others }
     ensures { Spans ones others glyphs result }
 {
-    let end = fields::larger(ones.first + ones.count, others.first + others.count);
-    let until = fields::lower(end, glyphs);
-    let start = fields::lower(ones.first, others.first);
-    Span {
-        from: fields::lower(start, until),
-        until,
-    }
+    let end = (ones.first + ones.count).max(others.first + others.count);
+    let until = end.min(glyphs);
+    ones.first.min(others.first).min(until)..until
 }
 
 // How a glyph's classes differ.
@@ -133,15 +114,15 @@ fn compare_classes<'a>(
     ones: ClassTable,
     others: ClassTable,
     glyph: u16,
-) -> Comparison
+) -> Option<Mark>
     requires { Near ones × Near others }
     ensures { (here there : ℕ) → ClassesAt one.now here ones → ClassesAt other.now there others
-        → mark_seen result ≡ mark_of ℕ_discrete (some (class_at one.now here glyph)) (some (class_at other.now there glyph)) }
+        → result ≡ mark_of ℕ_discrete (some (class_at one.now here glyph)) (some (class_at other.now there glyph)) }
 {
     if machine::class_by(one, ones, glyph) == machine::class_by(other, others, glyph) {
-        return Comparison::Same;
+        return None;
     }
-    Comparison::Differs(Mark::Changed)
+    Some(Mark::Changed)
 }
 
 // Stores the differences of the glyphs' classes, and answers where they end.
@@ -158,21 +139,11 @@ fn put_classes<'a>(
     let ones = machine::class_table(one, machines.first);
     let others = machine::class_table(other, machines.second);
     let span = class_span(ones, others, machines.glyphs);
-    let mut glyph = span.from;
     let mut at = to;
-    while glyph < span.until {
+    for glyph in span.start..span.end {
         let direction = machines.direction;
-        let comparison = compare_classes(one, other, ones, others, glyph as u16);
-        at = diff_rule::put_noted(
-            list,
-            at,
-            direction,
-            Aspect::Class,
-            glyph as u16,
-            0,
-            comparison,
-        );
-        glyph += 1;
+        let mark = compare_classes(one, other, ones, others, glyph as u16);
+        at = diff_rule::put_noted(list, at, direction, Aspect::Class, glyph as u16, 0, mark);
     }
     at
 }
@@ -180,17 +151,9 @@ fn put_classes<'a>(
 // The one difference of machines that differ in size, or of which there is one only.
 fn put_sizes(mark: Mark, direction: Direction, list: &mut [u16], to: usize) -> usize
     requires { to < 2 ^ 56 }
-    ensures { Stores list.old list.new to result (noted direction Aspect.Sizes 0 0 (some mark)) × (result ≤ to + 2 ^ 37) }
+    ensures { Stores list.old list.new to result (noted direction Aspect.Sizes 0 0 (Some mark)) × (result ≤ to + 2 ^ 37) }
 {
-    diff_rule::put_noted(
-        list,
-        to,
-        direction,
-        Aspect::Sizes,
-        0,
-        0,
-        Comparison::Differs(mark),
-    )
+    diff_rule::put_noted(list, to, direction, Aspect::Sizes, 0, 0, Some(mark))
 }
 
 // Stores the differences of classes and cells of two machines of one size.
@@ -230,7 +193,8 @@ fn put_both<'a>(
     put_parts(one, other, machines, list, to)
 }
 
-// Stores the differences of the machines whose offsets are these, 0 for none, and answers where they end.
+// Stores the differences of the machines whose offsets are these, 0 for none as the table has it, and answers where they
+// end.
 pub fn put_machines<'a>(
     one: &'a [u8],
     other: &'a [u8],
@@ -244,23 +208,21 @@ pub fn put_machines<'a>(
     requires { (first < 2 ^ 16) × (second < 2 ^ 16) × (glyphs < 2 ^ 16) × (to < 2 ^ 55) × (machine_part one.now glyphs first ≡ Clear) × (machine_part other.now glyphs second ≡ Clear) }
     ensures { Stores list.old list.new to result (machines_differ direction glyphs (machine_of one.now glyphs first) (machine_of other.now glyphs second)) × (result ≤ to + 2 ^ 37) }
 {
-    if first == 0 {
-        if second == 0 {
-            return to;
+    match (first, second) {
+        (0, 0) => to,
+        (0, _) => put_sizes(Mark::OnlySecond, direction, list, to),
+        (_, 0) => put_sizes(Mark::OnlyFirst, direction, list, to),
+        _ => {
+            let here = first + machine::UNREAD;
+            let machines = Machines {
+                direction,
+                glyphs,
+                first: here,
+                second: second + machine::UNREAD,
+                rows: machine::row_count(one, here),
+                classes: machine::class_count(one, here),
+            };
+            put_both(one, other, machines, list, to)
         }
-        return put_sizes(Mark::OnlySecond, direction, list, to);
     }
-    if second == 0 {
-        return put_sizes(Mark::OnlyFirst, direction, list, to);
-    }
-    let here = first + machine::UNREAD;
-    let machines = Machines {
-        direction,
-        glyphs,
-        first: here,
-        second: second + machine::UNREAD,
-        rows: machine::row_count(one, here),
-        classes: machine::class_count(one, here),
-    };
-    put_both(one, other, machines, list, to)
 }

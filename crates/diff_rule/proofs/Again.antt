@@ -1,7 +1,7 @@
 -- What is stored again for another glyph is what that glyph has.
 use Prim.Native.Nat.{ℕ, zero, suc, ◌+◌, ◌-◌, ◌*◌, ◌≤◌, ◌<◌}
 use mathlib.Core.Path.{◌≡◌, refl, sym, ap, ap₂, ◌∙◌, subst}
-use mathlib.Core.Option.{Option, none, some}
+use Rattle.std.specs.Prelude.{Option, None, Some}
 use mathlib.Core.List.{List, [], ◌∷◌, ◌++◌, map, map-append, append_assoc}
 use native.Mathlib.Omega.{arith}
 use lib.ListN.{length, length-append, get_or, drop}
@@ -24,13 +24,15 @@ use Rattle.diff_rule.proofs.Through.{through_same}
 -- ---- the numbers
 
 module _ (block : List ℕ) (g : ℕ) where
-  pub again-next : (k p : ℕ) → 0 < k
-      → again k block g p ≡ (get_or block p 0 ∷ get_or block (p + 1) 0 ∷ get_or block (p + 2) 0 ∷ g ∷ get_or block (p + 4) 0 ∷ []) ++ again (k - 1) block g (p + 5)
+  -- after k of n
+  pub again-next : (n k : ℕ) → k < n
+      → again (n - k) block g (5 * k)
+      ≡ (get_or block (5 * k) 0 ∷ get_or block (5 * k + 1) 0 ∷ get_or block (5 * k + 2) 0 ∷ g ∷ get_or block (5 * k + 4) 0 ∷ []) ++ again (n - (k + 1)) block g (5 * (k + 1))
   unfolding again
-  again-next zero p h = absurd (omega arith)
-  again-next (suc k) p h =
-      let e : k ≡ suc k - 1 = omega arith in
-      ap (λ (j : ℕ). get_or block p 0 ∷ get_or block (p + 1) 0 ∷ get_or block (p + 2) 0 ∷ g ∷ get_or block (p + 4) 0 ∷ again j block g (p + 5)) e
+  again-next n k h =
+      let here : n - k ≡ suc (n - (k + 1)) = omega arith in
+      let next : 5 * (k + 1) ≡ 5 * k + 5 = omega arith in
+      rw (here, next) refl
 
   pub again-none : (k p : ℕ) → k ≤ 0 → again k block g p ≡ []
   unfolding again
@@ -78,13 +80,13 @@ through-again f k block h (suc n) g =
     ap₂ (λ (x y : List ℕ). x ++ y) (h g) (through-again f k block h n (suc g)) ∙ sym (numbers-append (f g) (through f n (suc g)))
 
 module _ (k : ℕ) (block : List ℕ) where
-  pub glyphs-next : (n g : ℕ) → 0 < n → again_through k block n g ≡ again k block g 0 ++ again_through k block (n - 1) (g + 1)
+  -- from g on and before e
+  pub glyphs-next : (e g : ℕ) → g < e → again_through k block (e - g) g ≡ again k block g 0 ++ again_through k block (e - (g + 1)) (g + 1)
   unfolding again_through
-  glyphs-next zero g h = absurd (omega arith)
-  glyphs-next (suc n) g h =
-      let a : n ≡ suc n - 1 = omega arith in
-      let b : suc g ≡ g + 1 = omega arith in
-      ap₂ (λ (m i : ℕ). again k block g 0 ++ again_through k block m i) a b
+  glyphs-next e g h =
+      let here : e - g ≡ suc (e - (g + 1)) = omega arith in
+      let next : suc g ≡ g + 1 = omega arith in
+      rw here (ap (λ (i : ℕ). again k block g 0 ++ again_through k block (e - (g + 1)) i) next)
 
   pub glyphs-none : (n g : ℕ) → n ≤ 0 → again_through k block n g ≡ []
   unfolding again_through
@@ -107,12 +109,12 @@ module _ (k : ℕ) (block : List ℕ) where
 -- ---- records and lists of a glyph are those of another, and few
 
 noted-for : (d : Direction) (a : Aspect) (x y g : ℕ) (o : Option Mark) → map (for_glyph g) (noted d a x y o) ≡ noted d a g y o
-noted-for d a x y g none = refl
-noted-for d a x y g (some m) = refl
+noted-for d a x y g None = refl
+noted-for d a x y g (Some m) = refl
 
 noted-few : (d : Direction) (a : Aspect) (x y : ℕ) (o : Option Mark) → length (noted d a x y o) ≤ 1
-noted-few d a x y none = omega arith
-noted-few d a x y (some m) = omega arith
+noted-few d a x y None = omega arith
+noted-few d a x y (Some m) = omega arith
 
 pub through-map : (h : Difference → Difference) (f : ℕ → List Difference) (n i : ℕ) → map h (through f n i) ≡ through (λ k. map h (f k)) n i
 unfolding through

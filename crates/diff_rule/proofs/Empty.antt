@@ -3,7 +3,8 @@ use Prim.Native.Nat.{ℕ, zero, suc, ◌+◌, ◌*◌, ◌/◌, ◌%◌, ◌<◌
 use mathlib.Core.Path.{◌≡◌, refl, sym, ap, ap₂, ◌∙◌, subst}
 use mathlib.Core.Bool.{Bool, true, false, cond, ◌&&◌}
 use mathlib.Core.Logic.{ite}
-use mathlib.Core.Option.{Option, none, some}
+use mathlib.Core.Option.{Option as Maybe, none, some}
+use Rattle.std.specs.Prelude.{Option, None, Some}
 use mathlib.Core.List.{List, [], ◌∷◌, ◌++◌}
 use native.Mathlib.Decide.{ℕ_discrete}
 use native.Mathlib.Omega.{arith}
@@ -56,28 +57,28 @@ unfolding through
 through_empty f h zero i = refl
 through_empty f h (suc n) i = ap₂ (λ (x y : List Difference). x ++ y) (h i) (through_empty f h n (suc i))
 
-noted-none : (d : Direction) (a : Aspect) (x y : ℕ) (o : Option Mark) → noted d a x y o ≡ [] → o ≡ none
-noted-none d a x y none e = refl
-noted-none d a x y (some m) e = let z : ◌≡◌ {A = ℕ} 0 1 = cc in absurd (omega arith)
+noted-none : (d : Direction) (a : Aspect) (x y : ℕ) (o : Option Mark) → noted d a x y o ≡ [] → o ≡ None
+noted-none d a x y None e = refl
+noted-none d a x y (Some m) e = let z : ◌≡◌ {A = ℕ} 0 1 = cc in absurd (omega arith)
 
 -- ---- parts that are the same
 
 module _ {A : Type 0} (eq : Discrete A) where
-  pub none-same : (x y : Option A) → mark_of eq x y ≡ none → x ≡ y
+  pub none-same : (x y : Maybe A) → mark_of eq x y ≡ None → x ≡ y
   none-same none none e = refl
   none-same (some x) none e = let z : ◌≡◌ {A = ℕ} 0 1 = cc in absurd (omega arith)
   none-same none (some y) e = let z : ◌≡◌ {A = ℕ} 0 1 = cc in absurd (omega arith)
   none-same (some x) (some y) e = go (eq x y) e
     where
-      go : (q : Dec (x ≡ y)) → ite q none (some Changed) ≡ none → some x ≡ some y
+      go : (q : Dec (x ≡ y)) → ite q None (Some Changed) ≡ None → some x ≡ some y
       go (yes p) w = ap some p
       go (no p) w = let z : ◌≡◌ {A = ℕ} 0 1 = cc in absurd (omega arith)
 
-  pub same_none : (x : Option A) → mark_of eq x x ≡ none
+  pub same_none : (x : Maybe A) → mark_of eq x x ≡ None
   same_none none = refl
   same_none (some x) = go (eq x x)
     where
-      go : (q : Dec (x ≡ x)) → ite q none (some Changed) ≡ none
+      go : (q : Dec (x ≡ x)) → ite q None (Some Changed) ≡ None
       go (yes p) = refl
       go (no p) = absurd (p refl)
 
@@ -115,14 +116,14 @@ module _ (d : Direction) (n : ℕ) where
       ∙ cell_at b w k classes wide (subst (λ (r : ℕ). k < r * w) rows l)) in
       λ i. record { rows = rows i; classes = classes i; columns = columns i; cells = cells i }
 
-  any_same : (a b : Option Machine) → OkMaybe n a → OkMaybe n b → machines_differ d n a b ≡ [] → a ≡ b
+  any_same : (a b : Maybe Machine) → OkMaybe n a → OkMaybe n b → machines_differ d n a b ≡ [] → a ≡ b
   any_same none none ha hb e = refl
   any_same none (some b) ha hb e = let z : ◌≡◌ {A = ℕ} 0 1 = cc in absurd (omega arith)
   any_same (some a) none ha hb e = let z : ◌≡◌ {A = ℕ} 0 1 = cc in absurd (omega arith)
   any_same (some a) (some b) ha hb e = go (eqb a.rows b.rows && eqb a.classes b.classes) refl e
     where
       go : (q : Bool) → (eqb a.rows b.rows && eqb a.classes b.classes) ≡ q
-          → cond q (classes_differ d n a b ++ cells_differ d a b) (noted d Sizes 0 0 (some Changed)) ≡ [] → some a ≡ some b
+          → cond q (classes_differ d n a b ++ cells_differ d a b) (noted d Sizes 0 0 (Some Changed)) ≡ [] → some a ≡ some b
       go true t w =
           let s = both (eqb a.rows b.rows) (eqb a.classes b.classes) t in
           ap some
@@ -154,10 +155,10 @@ module _ (d : Direction) (n : ℕ) where
 
   -- ---- equal parts, no difference
 
-  no_note : (a : Aspect) (x y : ℕ) {o : Option Mark} → o ≡ none → noted d a x y o ≡ []
+  no_note : (a : Aspect) (x y : ℕ) {o : Option Mark} → o ≡ None → noted d a x y o ≡ []
   no_note a x y e = ap (noted d a x y) e
 
-  machine-empty : (a : Option Machine) → machines_differ d n a a ≡ []
+  machine-empty : (a : Maybe Machine) → machines_differ d n a a ≡ []
   unfolding classes_differ cells_differ
   machine-empty none = refl
   machine-empty (some a) =

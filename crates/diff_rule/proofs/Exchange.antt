@@ -3,7 +3,8 @@ use Prim.Native.Nat.{ℕ}
 use mathlib.Core.Path.{◌≡◌, refl, sym, ap, ap₂, ◌∙◌}
 use mathlib.Core.Bool.{Bool, true, false, cond, ◌&&◌}
 use mathlib.Core.Logic.{ite}
-use mathlib.Core.Option.{Option, none, some}
+use mathlib.Core.Option.{Option as Maybe, none, some}
+use Rattle.std.specs.Prelude.{Option, None, Some}
 use mathlib.Core.List.{List, [], ◌++◌, map, map-append}
 use native.Mathlib.Decide.{ℕ_discrete}
 use lib.Dec.{eqb}
@@ -29,24 +30,24 @@ use Rattle.diff_rule.proofs.Through.{through_same}
 -- ---- one place
 
 module _ {A : Type 0} (eq : Discrete A) where
-  other-mark : (x y : Option A) → mark_of eq y x ≡ other_way (mark_of eq x y)
+  other-mark : (x y : Maybe A) → mark_of eq y x ≡ other_way (mark_of eq x y)
   other-mark none none = refl
   other-mark (some x) none = refl
   other-mark none (some y) = refl
   other-mark (some x) (some y) = go (eq y x) (eq x y)
     where
-      go : (p : Dec (y ≡ x)) (q : Dec (x ≡ y)) → ite p none (some Changed) ≡ other_way (ite q none (some Changed))
+      go : (p : Dec (y ≡ x)) (q : Dec (x ≡ y)) → ite p None (Some Changed) ≡ other_way (ite q None (Some Changed))
       go (yes p) (yes q) = refl
       go (yes p) (no q) = absurd (q (sym p))
       go (no p) (yes q) = absurd (p (sym q))
       go (no p) (no q) = refl
 
 other-noted : (d : Direction) (a : Aspect) (x y : ℕ) (o : Option Mark) → noted d a x y (other_way o) ≡ map exchanged (noted d a x y o)
-other-noted d a x y none = refl
-other-noted d a x y (some m) = refl
+other-noted d a x y None = refl
+other-noted d a x y (Some m) = refl
 
 module _ {A : Type 0} (eq : Discrete A) (d : Direction) (a : Aspect) where
-  other_place : (x y : ℕ) (p q : Option A) → noted d a x y (mark_of eq q p) ≡ map exchanged (noted d a x y (mark_of eq p q))
+  other_place : (x y : ℕ) (p q : Maybe A) → noted d a x y (mark_of eq q p) ≡ map exchanged (noted d a x y (mark_of eq p q))
   other_place x y p q = ap (noted d a x y) (other-mark eq p q) ∙ other-noted d a x y (mark_of eq p q)
 
 -- places one after the other
@@ -86,17 +87,17 @@ module _ (d : Direction) (n : ℕ) where
       ap₂ (λ (rows classes : ℕ). through (row b a classes) rows 0) (sym er) (sym ec)
       ∙ other-places (row a b a.classes) (row b a a.classes) (λ r. other_row a b a.classes r) a.rows 0
 
-  other-machines : (a b : Option Machine) → machines_differ d n b a ≡ map exchanged (machines_differ d n a b)
+  other-machines : (a b : Maybe Machine) → machines_differ d n b a ≡ map exchanged (machines_differ d n a b)
   other-machines none none = refl
   other-machines (some a) none = refl
   other-machines none (some b) = refl
   other-machines (some a) (some b) =
-      ap₂ (λ (p q : Bool). cond (p && q) (classes_differ d n b a ++ cells_differ d b a) (noted d Sizes 0 0 (some Changed))) (same_test a.rows b.rows) (same_test a.classes b.classes)
+      ap₂ (λ (p q : Bool). cond (p && q) (classes_differ d n b a ++ cells_differ d b a) (noted d Sizes 0 0 (Some Changed))) (same_test a.rows b.rows) (same_test a.classes b.classes)
       ∙ go (eqb a.rows b.rows && eqb a.classes b.classes) refl
     where
       go : (q : Bool) → (eqb a.rows b.rows && eqb a.classes b.classes) ≡ q
-          → cond q (classes_differ d n b a ++ cells_differ d b a) (noted d Sizes 0 0 (some Changed))
-          ≡ map exchanged (cond q (classes_differ d n a b ++ cells_differ d a b) (noted d Sizes 0 0 (some Changed)))
+          → cond q (classes_differ d n b a ++ cells_differ d b a) (noted d Sizes 0 0 (Some Changed))
+          ≡ map exchanged (cond q (classes_differ d n a b ++ cells_differ d a b) (noted d Sizes 0 0 (Some Changed)))
       go true t =
           let s = both (eqb a.rows b.rows) (eqb a.classes b.classes) t in
           ap₂ (λ (x y : List Difference). x ++ y) (other-classes a b) (other-cells a b (eqb-true _ _ s.0) (eqb-true _ _ s.1))

@@ -1,13 +1,11 @@
 -- Places one after the other, counted and stored by stretches.
 use Prim.Native.Nat.{ℕ, ◌+◌, ◌-◌, ◌≤◌, ◌<◌}
-use mathlib.Core.Path.{◌≡◌, refl, sym, ap, ap₂, ◌∙◌}
+use mathlib.Core.Path.{◌≡◌, sym, ap, ap₂, ◌∙◌}
 use mathlib.Core.List.{List, [], ◌++◌, append-nil}
 use native.Mathlib.Omega.{arith}
-use lib.ListN.{length}
-use Rattle.fields.specs.Stores.{put-length}
 use Rattle.diff_rule.specs.declared.Difference.{Difference}
 use Rattle.diff_rule.specs.Differences.{through}
-use Rattle.diff_rule.specs.Order.{all_numbers, Stores}
+use Rattle.diff_rule.specs.Order.{Stores}
 use Rattle.diff_rule.proofs.Stored.{stores-none, stores-two, stores-other}
 use Rattle.diff_rule.proofs.Through.{split, pass-over, from_start}
 
@@ -39,9 +37,6 @@ module _ (f : ℕ → List Difference) where
   filled_none l₀ to g =
       let z : 0 ≡ g - g = omega arith in
       record { stores = stores-other l₀ l₀ to to [] _ (ap (λ (m : ℕ). through f m g) z) (stores-none l₀ to) }
-
-  pub filled-length : (l₀ l : List ℕ) (to at g₀ g : ℕ) → Filled l₀ l to at g₀ g → length l ≡ length l₀
-  filled-length l₀ l to at g₀ g w = put-length (all_numbers (through f (g - g₀) g₀)) l₀ l to (length l₀) w.stores.0 refl
 
   -- a stretch more
   pub filled_more : (l₀ l l₁ : List ℕ) (to at at₁ g₀ g e : ℕ) → g₀ ≤ g → g ≤ e → Filled l₀ l to at g₀ g → Stores l l₁ at at₁ (through f (e - g) g)

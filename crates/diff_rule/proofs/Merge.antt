@@ -1,7 +1,8 @@
 -- The width differences of one glyph by a merge of two clusters, whose classes rise: what is left of the clusters tells all classes from the next one on.
 use Prim.Native.Nat.{ℕ, zero, suc, ◌+◌, ◌-◌, ◌≤◌, ◌<◌}
 use mathlib.Core.Path.{◌≡◌, refl, sym, ap₂, ◌∙◌}
-use mathlib.Core.Option.{Option, some}
+use mathlib.Core.Option.{Option as Maybe, some}
+use Rattle.std.specs.Prelude.{Some}
 use mathlib.Core.List.{List, [], ◌∷◌, ◌++◌}
 use native.Mathlib.Omega.{arith}
 use Rattle.types.specs.declared.Direction.{Direction}
@@ -24,9 +25,9 @@ through-first f (suc n) m i j h e q =
     ap₂ (λ (a b : ℕ). f i ++ through f a b) x (sym q)
 
 module _ (d : Direction) (g : ℕ) where
-  same_at : {x y x' y' : Option Pair} (c : ℕ) → x ≡ x' → y ≡ y'
+  same_at : {x y x' y' : Maybe Pair} (c : ℕ) → x ≡ x' → y ≡ y'
       → noted d Width g c (mark_of Pair-discrete x y) ≡ noted d Width g c (mark_of Pair-discrete x' y')
-  same_at c e q = ap₂ (λ (x y : Option Pair). noted d Width g c (mark_of Pair-discrete x y)) e q
+  same_at c e q = ap₂ (λ (x y : Maybe Pair). noted d Width g c (mark_of Pair-discrete x y)) e q
 
   -- classes below the next ones have no record in either
   nothing-below : (ps qs : List Pair) (b c k : ℕ) → Rising b ps → Rising c qs → k < b → k < c → record_differs d g ps qs k ≡ []
@@ -39,7 +40,7 @@ module _ (d : Direction) (g : ℕ) where
   module _ (n i m : ℕ) where
     -- the next class is in the first only: `c` is it, n classes are left from i on and m after it
     pub merge-first : (p : Pair) (ps qs : List Pair) → Rising i (p ∷ ps) → Rising (suc p.class) qs → p.class < i + n → m ≡ i + n - suc p.class
-        → through (record_differs d g (p ∷ ps) qs) n i ≡ (noted d Width g p.class (some OnlyFirst) ++ through (record_differs d g ps qs) m (suc p.class))
+        → through (record_differs d g (p ∷ ps) qs) n i ≡ (noted d Width g p.class (Some OnlyFirst) ++ through (record_differs d g ps qs) m (suc p.class))
     merge-first p ps qs r s h e =
         let c : ℕ = p.class in
         let k : ℕ = c - i in
@@ -52,7 +53,7 @@ module _ (d : Direction) (g : ℕ) where
 
     -- in the second only
     pub merge-second : (q : Pair) (ps qs : List Pair) → Rising (suc q.class) ps → Rising i (q ∷ qs) → q.class < i + n → m ≡ i + n - suc q.class
-        → through (record_differs d g ps (q ∷ qs)) n i ≡ (noted d Width g q.class (some OnlySecond) ++ through (record_differs d g ps qs) m (suc q.class))
+        → through (record_differs d g ps (q ∷ qs)) n i ≡ (noted d Width g q.class (Some OnlySecond) ++ through (record_differs d g ps qs) m (suc q.class))
     merge-second q ps qs r s h e =
         let c : ℕ = q.class in
         let k : ℕ = c - i in

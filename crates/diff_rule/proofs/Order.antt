@@ -3,7 +3,8 @@
 use Prim.Native.Nat.{ℕ, zero, suc, ◌+◌, ◌*◌, ◌≤◌, ◌<◌, ◌^◌}
 use mathlib.Core.Path.{◌≡◌}
 use mathlib.Core.Bool.{Bool, true, false, cond, ◌&&◌}
-use mathlib.Core.Option.{Option, none, some}
+use mathlib.Core.Option.{Option as Maybe, none, some}
+use Rattle.std.specs.Prelude.{Option, None, Some}
 use mathlib.Core.List.{List, [], ◌∷◌, ◌++◌}
 use native.Mathlib.Decide.{ℕ_discrete}
 use native.Mathlib.Omega.{arith}
@@ -36,8 +37,8 @@ append-between b m e (x ∷ xs) ys w v = (w.0, append-between (suc (key_of x)) m
 -- at one place
 noted-between : (d : Direction) (a : Aspect) (x y b e : ℕ) (o : Option Mark) → b ≤ first_key d a + 256 * x + y → first_key d a + 256 * x + y < e
     → Between b e (noted d a x y o)
-noted-between d a x y b e none h i = omega arith
-noted-between d a x y b e (some m) h i = (h, omega arith)
+noted-between d a x y b e None h i = omega arith
+noted-between d a x y b e (Some m) h i = (h, omega arith)
 
 -- place after place, each in a stretch of `w` keys
 through-between : (f : ℕ → List Difference) (b w n i : ℕ) → ((k : ℕ) → k < i + n → Between (b + w * k) (b + w * k + w) (f k))
@@ -69,15 +70,15 @@ module _ (d : Direction) (n : ℕ) (few : n ≤ 65535) where
       (omega (arith, ok.few-classes)))
       (omega (arith, ok.few-rows)))
 
-  machines-between : (a b : Option Machine) → OkMaybe n a → Between (first_key d Sizes) (first_key d Width) (machines_differ d n a b)
+  machines-between : (a b : Maybe Machine) → OkMaybe n a → Between (first_key d Sizes) (first_key d Width) (machines_differ d n a b)
   machines-between none none ok = omega arith
-  machines-between (some a) none ok = noted-between d Sizes 0 0 (first_key d Sizes) (first_key d Width) (some OnlyFirst) (omega arith) (omega arith)
-  machines-between none (some b) ok = noted-between d Sizes 0 0 (first_key d Sizes) (first_key d Width) (some OnlySecond) (omega arith) (omega arith)
+  machines-between (some a) none ok = noted-between d Sizes 0 0 (first_key d Sizes) (first_key d Width) (Some OnlyFirst) (omega arith) (omega arith)
+  machines-between none (some b) ok = noted-between d Sizes 0 0 (first_key d Sizes) (first_key d Width) (Some OnlySecond) (omega arith) (omega arith)
   machines-between (some a) (some b) ok = go (eqb a.rows b.rows && eqb a.classes b.classes)
     where
-      go : (q : Bool) → Between (first_key d Sizes) (first_key d Width) (cond q (classes_differ d n a b ++ cells_differ d a b) (noted d Sizes 0 0 (some Changed)))
+      go : (q : Bool) → Between (first_key d Sizes) (first_key d Width) (cond q (classes_differ d n a b ++ cells_differ d a b) (noted d Sizes 0 0 (Some Changed)))
       go true = wider (first_key d Class) (first_key d Width) (first_key d Sizes) (first_key d Width) (classes_differ d n a b ++ cells_differ d a b) (omega arith) (omega arith) (machine-between a b ok)
-      go false = noted-between d Sizes 0 0 (first_key d Sizes) (first_key d Width) (some Changed) (omega arith) (omega arith)
+      go false = noted-between d Sizes 0 0 (first_key d Sizes) (first_key d Width) (Some Changed) (omega arith) (omega arith)
 
   side-between : (a b : Side) → OkSide n a → Between (first_key d Sizes) (first_key d Sizes + 5 * 2 ^ 24) (sides_differ d n a b)
   unfolding sides_differ widths_differ records_differ lists_differ

@@ -1,5 +1,5 @@
 -- How differences are stored, five numbers each.
-use Prim.Native.Nat.{ℕ, ◌+◌, ◌*◌, ◌<◌}
+use Prim.Native.Nat.{ℕ, ◌+◌, ◌*◌}
 use mathlib.Core.Path.{◌≡◌, refl, sym, ap, ◌∙◌, subst}
 use lib.Seq.{sets}
 use mathlib.Core.List.{List, [], ◌∷◌, ◌++◌, append_assoc}
@@ -7,13 +7,7 @@ use native.Mathlib.Omega.{arith}
 use lib.ListN.{length, length-append}
 use Rattle.fields.specs.Stores.{put_two}
 use Rattle.encoding.proofs.CodeLaws.{many-length}
-use Rattle.types.specs.declared.Direction.{Direction}
-use Rattle.diff_rule.specs.declared.Aspect.{Aspect}
-use Rattle.diff_rule.specs.declared.Mark.{Mark}
-use Rattle.diff_rule.specs.declared.Comparison.{Comparison}
-use Rattle.diff_rule.specs.declared.Comparison.TheVariants.{Same, Differs}
 use Rattle.diff_rule.specs.declared.Difference.{Difference}
-use Rattle.diff_rule.specs.Differences.{noted, mark_seen}
 use Rattle.diff_rule.specs.Order.{numbers_of, all_numbers, Stores}
 
 pub numbers-length : (xs : List Difference) → length (all_numbers xs) ≡ 5 * length xs
@@ -24,27 +18,6 @@ pub numbers-append : (xs ys : List Difference) → all_numbers (xs ++ ys) ≡ al
 unfolding all_numbers
 numbers-append [] ys = refl
 numbers-append (x ∷ xs) ys = ap (λ (l : List ℕ). numbers_of x ++ l) (numbers-append xs ys) ∙ sym (append_assoc (numbers_of x) (all_numbers xs) (all_numbers ys))
-
--- what `put_noted` stores, and where that ends
-abbrev pub Put : Direction → Aspect → ℕ → ℕ → List ℕ → List ℕ → ℕ → ℕ → Comparison → Type 0
-Put d a x y l k i j o = Stores l k i j (noted d a x y (mark_seen o)) × (j < i + 6)
-
-module _ (d : Direction) (a : Aspect) (x y : ℕ) (l : List ℕ) (i : ℕ) where
-  none-put : Put d a x y l l i i Same
-  unfolding all_numbers
-  none-put = ((refl, omega arith), omega arith)
-
-  one-put : (m : Mark) (k : List ℕ) → k ≡ sets l i (numbers_of (record { direction = d; aspect = a; mark = m; subject = x; class = y }))
-      → Put d a x y l k i (i + 5) (Differs m)
-  unfolding all_numbers numbers_of
-  one-put m k e = ((e, refl), omega arith)
-
-  pub put_same : (o : Comparison) → o ≡ Same → Put d a x y l l i i o
-  put_same o e = subst (Put d a x y l l i i) (sym e) none-put
-
-  pub put-differs : (o : Comparison) (m : Mark) (k : List ℕ) → o ≡ Differs m
-      → k ≡ sets l i (numbers_of (record { direction = d; aspect = a; mark = m; subject = x; class = y })) → Put d a x y l k i (i + 5) o
-  put-differs o m k e s = subst (Put d a x y l k i (i + 5)) (sym e) (one-put m k s)
 
 -- ---- stored, one after the other
 

@@ -1,8 +1,8 @@
 -- The differences of two meanings with one glyph count (document 02, 6/14): horizontal, then vertical; in each the machine sizes, the class of each glyph, the
 -- cells row by row, the width records by glyph and class, the action lists by glyph. What is the same in both is not listed.
-use Rattle.std.specs.Prelude.{ℕ, zero, suc, cond, ◌&&◌, List, [], ◌∷◌, ◌++◌, eqb, get_or}
+use Rattle.std.specs.Prelude.{ℕ, zero, suc, cond, ◌&&◌, List, [], ◌∷◌, ◌++◌, eqb, get_or, Option, None, Some}
 use Rattle.std.proofs.Math.Logic.{ite}
-use Rattle.std.proofs.Math.Option.{Option, none, some}
+use Rattle.std.proofs.Math.Option.{Option as Maybe, none, some}
 use Rattle.std.proofs.Math.Decide.{ℕ_discrete}
 use Rattle.std.proofs.Math.ListN.{get_elem?}
 use Rattle.types.specs.declared.Direction.{Direction}
@@ -16,25 +16,18 @@ use Rattle.diff_rule.specs.declared.Aspect.TheVariants.{Sizes, Class, Cell, Widt
 use Rattle.diff_rule.specs.declared.Mark.{Mark}
 use Rattle.diff_rule.specs.declared.Mark.TheVariants.{Changed, OnlyFirst, OnlySecond}
 use Rattle.diff_rule.specs.declared.Difference.{Difference}
-use Rattle.diff_rule.specs.declared.Comparison.{Comparison}
-use Rattle.diff_rule.specs.declared.Comparison.TheVariants.{Same, Differs}
 
 -- how two parts differ, or none where they are the same
-abbrev pub mark_of : {A : Type 0} → Discrete A → Option A → Option A → Option Mark
-mark_of eq none none = none
-mark_of eq (some x) none = some OnlyFirst
-mark_of eq none (some y) = some OnlySecond
-mark_of eq (some x) (some y) = ite (eq x y) none (some Changed)
+abbrev pub mark_of : {A : Type 0} → Discrete A → Maybe A → Maybe A → Option Mark
+mark_of eq none none = None
+mark_of eq (some x) none = Some OnlyFirst
+mark_of eq none (some y) = Some OnlySecond
+mark_of eq (some x) (some y) = ite (eq x y) None (Some Changed)
 
 -- the difference at a place, if there is one
 abbrev pub noted : Direction → Aspect → ℕ → ℕ → Option Mark → List Difference
-noted d a x y none = []
-noted d a x y (some m) = record { direction = d; aspect = a; mark = m; subject = x; class = y } ∷ []
-
--- what the answer of a comparison says
-abbrev pub mark_seen : Comparison → Option Mark
-mark_seen Same = none
-mark_seen (Differs m) = some m
+noted d a x y None = []
+noted d a x y (Some m) = record { direction = d; aspect = a; mark = m; subject = x; class = y } ∷ []
 
 -- what n places have, from place i on, one after the other
 unfoldable pub through : (ℕ → List Difference) → ℕ → ℕ → List Difference
@@ -50,12 +43,12 @@ cells_differ d a b =
     through (λ r. through (λ c. noted d Cell r c (mark_of Entry-discrete (cell_of a r c) (cell_of b r c))) a.classes 0) a.rows 0
 
 -- machines that differ in size, or of which there is one only, are one difference, and neither classes nor cells are listed
-abbrev pub machines_differ : Direction → ℕ → Option Machine → Option Machine → List Difference
+abbrev pub machines_differ : Direction → ℕ → Maybe Machine → Maybe Machine → List Difference
 machines_differ d n none none = []
-machines_differ d n (some a) none = noted d Sizes 0 0 (some OnlyFirst)
-machines_differ d n none (some b) = noted d Sizes 0 0 (some OnlySecond)
+machines_differ d n (some a) none = noted d Sizes 0 0 (Some OnlyFirst)
+machines_differ d n none (some b) = noted d Sizes 0 0 (Some OnlySecond)
 machines_differ d n (some a) (some b) =
-    cond (eqb a.rows b.rows && eqb a.classes b.classes) (classes_differ d n a b ++ cells_differ d a b) (noted d Sizes 0 0 (some Changed))
+    cond (eqb a.rows b.rows && eqb a.classes b.classes) (classes_differ d n a b ++ cells_differ d a b) (noted d Sizes 0 0 (Some Changed))
 
 -- the difference of a glyph's records of a class, by its two clusters
 abbrev pub record_differs : Direction → ℕ → List Pair → List Pair → ℕ → List Difference
@@ -70,7 +63,7 @@ unfoldable pub widths_differ : Direction → ℕ → Side → Side → List Diff
 widths_differ d n a b = through (λ g. records_differ d g (get_or a.clusters g []) (get_or b.clusters g [])) n 0
 
 -- a list of no actions is none
-abbrev pub some_list : List Action → Option (List Action)
+abbrev pub some_list : List Action → Maybe (List Action)
 some_list [] = none
 some_list (x ∷ l) = some (x ∷ l)
 

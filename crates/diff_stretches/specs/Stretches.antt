@@ -1,33 +1,32 @@
 -- What the glyphs have in two tables, by stretches of glyphs that have one place in each (document 02, 6/14).
-use Rattle.std.specs.Prelude.{ℕ, ◌≤◌, ◌<◌, ◌^◌, ◌≡◌, List, length}
+use Rattle.std.specs.Prelude.{ℕ, ◌≤◌, ◌<◌, ◌^◌, ◌≡◌, List, length, Option, Some, None}
 use Rattle.lookup.specs.declared.Cursor.{Cursor}
 use Rattle.lookup.specs.Pass.{Serves}
 use Rattle.lookup_runs.specs.declared.Run.{Run}
 use Rattle.lookup_targets.specs.declared.Kind.{Kind}
 use Rattle.write_item.specs.Items.{Item, no_item, item_at}
 use Rattle.lookup_targets.specs.declared.Source.{Source}
-use Rattle.lookup_targets.specs.declared.Source.TheVariants.{Lookup, Absent}
 use Rattle.write_glyphs.specs.Places.{glyph_item, SoundSource, run_place}
 use Rattle.diff_stretches.specs.declared.Sources.{Sources}
-use Rattle.diff_stretches.specs.declared.RunPair.{RunPair}
+use Rattle.diff_stretches.specs.declared.Both.{Both}
 use Rattle.diff_stretches.specs.declared.GlyphStretch.{GlyphStretch}
 
 -- what a glyph of n has
-abbrev pub item_by : (kind : Kind) → List ℕ → ℕ → Source → ℕ → Item kind
-item_by kind t n (Lookup at base) glyph = glyph_item kind t n at base glyph
-item_by kind t n Absent glyph = no_item kind
+abbrev pub item_by : (kind : Kind) → List ℕ → ℕ → Option Source → ℕ → Item kind
+item_by kind t n (Some s) glyph = glyph_item kind t n s.at s.base glyph
+item_by kind t n None glyph = no_item kind
 
-abbrev pub base_of : Source → ℕ
-base_of (Lookup at base) = base
-base_of Absent = 0
+abbrev pub base_of : Option Source → ℕ
+base_of (Some s) = s.base
+base_of None = 0
 
 -- a cursor serves the glyphs from `glyph` on
-abbrev pub ServesBy : List ℕ → Source → ℕ → Cursor → Type 0
-ServesBy t (Lookup at base) glyph c = Serves t at glyph c
-ServesBy t Absent glyph c = Unit {0}
+abbrev pub ServesBy : List ℕ → Option Source → ℕ → Cursor → Type 0
+ServesBy t (Some s) glyph c = Serves t s.at glyph c
+ServesBy t None glyph c = Unit {0}
 
 -- a run tells what the glyphs from `glyph` on and before its end have, and its cursor serves those after it
-pub record RunTells (kind : Kind) (t : List ℕ) (n : ℕ) (source : Source) (glyph : ℕ) (r : Run) : Type 0 where
+pub record RunTells (kind : Kind) (t : List ℕ) (n : ℕ) (source : Option Source) (glyph : ℕ) (r : Run) : Type 0 where
   pub near : r.place < 2 ^ 41
   pub ends : glyph ≤ r.until
   pub items : (x : ℕ) → glyph ≤ x → x < r.until → x < n
@@ -35,7 +34,7 @@ pub record RunTells (kind : Kind) (t : List ℕ) (n : ℕ) (source : Source) (gl
   pub serves : ServesBy t source r.until r.cursor
 
 -- a run of each table does
-pub record BothTell (t u : List ℕ) (s : Sources) (glyph : ℕ) (r : RunPair) : Type 0 where
+pub record BothTell (t u : List ℕ) (s : Sources) (glyph : ℕ) (r : Both Run) : Type 0 where
   pub first : RunTells s.kind t s.glyphs s.first glyph r.first
   pub second : RunTells s.kind u s.glyphs s.second glyph r.second
 

@@ -15,30 +15,23 @@ use lookup_targets::{Kind, Source};
 pub struct Sources {
     pub kind: Kind,
     pub glyphs: usize,
-    pub first: Source,
-    pub second: Source,
+    pub first: Option<Source>,
+    pub second: Option<Source>,
 }
 
-// A run of each table.
-#[derive(Clone, Copy)]
-pub struct RunPair {
-    pub first: Run,
-    pub second: Run,
-}
-
-// Where a cluster or a list stands in each table.
-#[derive(Clone, Copy)]
-pub struct Places {
-    pub first: u16,
-    pub second: u16,
+// What is had of each of the two tables, as a run, or the place of a cluster or a list.
+#[derive(Clone, Copy, PartialEq, Eq)]
+pub struct Both<T> {
+    pub first: T,
+    pub second: T,
 }
 
 // The glyphs before `end` have what stands at these places; the runs tell what the glyphs after them have.
 #[derive(Clone, Copy)]
 pub struct GlyphStretch {
     pub end: usize,
-    pub places: Places,
-    pub runs: RunPair,
+    pub places: Both<u16>,
+    pub runs: Both<Run>,
 }
 
 // A run of no glyphs, before all others.
@@ -55,24 +48,24 @@ fn no_glyphs(cursor: Cursor) -> Run
 }
 
 // The run of a table that a pass begins with.
-fn first_run(table: &[u8], glyphs: usize, source: Source) -> Run
+fn first_run(table: &[u8], glyphs: usize, source: Option<Source>) -> Run
     requires { SoundSource table.now glyphs source }
     ensures { (kind : Kind) → RunTells kind table.now glyphs source 0 result }
 {
     match source {
-        Source::Lookup { at, base: _ } => no_glyphs(lookup::begin(table, at)),
-        Source::Absent => no_glyphs(Cursor { at: 0, left: 0 }),
+        Some(source) => no_glyphs(lookup::begin(table, source.at)),
+        None => no_glyphs(Cursor { at: 0, left: 0 }),
     }
 }
 
 // Where a pass begins.
-pub fn begin_both<'a>(one: &'a [u8], other: &'a [u8], sources: Sources) -> RunPair
+pub fn begin_both<'a>(one: &'a [u8], other: &'a [u8], sources: Sources) -> Both<Run>
     requires { BothSound one.now other.now sources }
     ensures { BothTell one.now other.now sources 0 result }
 {
     let source = sources.first;
     let beside = sources.second;
-    RunPair {
+    Both {
         first: first_run(one, sources.glyphs, source),
         second: first_run(other, sources.glyphs, beside),
     }
@@ -83,7 +76,7 @@ fn next_of(
     table: &[u8],
     glyphs: usize,
     kind: Kind,
-    source: Source,
+    source: Option<Source>,
     cursor: Cursor,
     glyph: usize,
 ) -> Run
@@ -91,14 +84,14 @@ fn next_of(
     ensures { RunTells kind table.now glyphs source glyph result × (glyph < result.until) }
 {
     match source {
-        Source::Lookup { at, base: _ } => lookup_runs::next_run(
+        Some(source) => lookup_runs::next_run(
             table,
-            fields::u16_at(table, at),
-            at,
+            fields::u16_at(table, source.at),
+            source.at,
             cursor,
             glyph,
         ),
-        Source::Absent => Run {
+        None => Run {
             from: 65536,
             until: 65537,
             place: 0,
@@ -109,7 +102,14 @@ fn next_of(
 }
 
 // The run itself where it tells what `glyph` has, else the next one.
-fn onward(table: &[u8], glyphs: usize, kind: Kind, source: Source, run: Run, glyph: usize) -> Run
+fn onward(
+    table: &[u8],
+    glyphs: usize,
+    kind: Kind,
+    source: Option<Source>,
+    run: Run,
+    glyph: usize,
+) -> Run
     requires { (length table.now ≤ 2 ^ 15) × (glyphs < 2 ^ 16) × (glyph < glyphs) × SoundSource table.now glyphs source × RunTells kind table.now glyphs source glyph run }
     ensures { RunTells kind table.now glyphs source glyph result × (glyph < result.until) }
 {
@@ -126,7 +126,7 @@ fn even_end(run: Run, glyph: usize) -> usize
     ensures { Even run glyph result }
 {
     if glyph < run.from {
-        return fields::lower(run.from, run.until);
+        return run.from.min(run.until);
     }
     if run.array {
         return glyph + 1;
@@ -134,17 +134,17 @@ fn even_end(run: Run, glyph: usize) -> usize
     run.until
 }
 
-fn base_of(source: Source) -> usize
+fn base_of(source: Option<Source>) -> usize
     ensures { result ≡ base_of source }
 {
     match source {
-        Source::Lookup { at: _, base } => base,
-        Source::Absent => 0,
+        Some(source) => source.base,
+        None => 0,
     }
 }
 
 // The place of what a glyph has, by its run.
-fn place_by_run(table: &[u8], kind: Kind, source: Source, run: Run, glyph: usize) -> u16
+fn place_by_run(table: &[u8], kind: Kind, source: Option<Source>, run: Run, glyph: usize) -> u16
     requires { (base_of source < 2 ^ 16) × (glyph < 2 ^ 16) × (run.place < 2 ^ 41) }
     ensures { result ≡ run_place kind table.now (base_of source) run.from run.place run.array glyph }
 {
@@ -157,7 +157,7 @@ pub fn next_stretch<'a>(
     one: &'a [u8],
     other: &'a [u8],
     sources: Sources,
-    runs: RunPair,
+    runs: Both<Run>,
     glyph: usize,
 ) -> GlyphStretch
     requires { BothSound one.now other.now sources × BothTell one.now other.now sources glyph runs × (glyph < sources.glyphs) }
@@ -169,14 +169,14 @@ pub fn next_stretch<'a>(
     let beside = sources.second;
     let a = onward(one, glyphs, kind, source, runs.first, glyph);
     let b = onward(other, glyphs, kind, beside, runs.second, glyph);
-    let both = fields::lower(even_end(a, glyph), even_end(b, glyph));
+    let both = even_end(a, glyph).min(even_end(b, glyph));
     GlyphStretch {
-        end: fields::lower(both, glyphs),
-        places: Places {
+        end: both.min(glyphs),
+        places: Both {
             first: place_by_run(one, kind, source, a, glyph),
             second: place_by_run(other, kind, beside, b, glyph),
         },
-        runs: RunPair {
+        runs: Both {
             first: a,
             second: b,
         },

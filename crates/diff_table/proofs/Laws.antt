@@ -1,11 +1,10 @@
 -- The differences of a direction by where its parts come from, and what an accepted table gives each of them.
-use Prim.Native.Nat.{ℕ, suc, ◌+◌, ◌≤◌, ◌<◌, ◌^◌}
+use Prim.Native.Nat.{ℕ, ◌<◌, ◌^◌}
 use mathlib.Core.Path.{◌≡◌, sym, ap, ap₂, ◌∙◌, subst}
-use mathlib.Core.List.{List, [], ◌∷◌, ◌++◌}
+use mathlib.Core.List.{List, [], ◌++◌}
 use native.Mathlib.Omega.{arith}
-use lib.ListN.{length, get_or, take, get_or-replicate}
-use lib.Seq.{take-suc, take_all}
-use Rattle.fields.specs.declared.Fault.TheVariants.{Clear}
+use lib.ListN.{length, get_or, get_or-replicate}
+use Rattle.fields.specs.Faults.{Clear}
 use Rattle.fields.specs.Field.{Bytes}
 use Rattle.encoding.proofs.ListLaws.{all-at}
 use Rattle.encoding.proofs.UptoLaws.{get_or-upto}
@@ -16,7 +15,7 @@ use Rattle.meaning.specs.Limits.{OkSide, OkCluster, Rising}
 use Rattle.lookup_targets.specs.declared.Kind.{Kind}
 use Rattle.lookup_targets.specs.declared.Kind.TheVariants.{Clusters, Lists}
 use Rattle.lookup_targets.specs.declared.Source.{Source}
-use Rattle.lookup_targets.specs.declared.Source.TheVariants.{Lookup, Absent}
+use Rattle.std.specs.Prelude.{Option, Some, None}
 use Rattle.lookup_targets.specs.Values.{NearSource, source_fault}
 use Rattle.table.specs.Table.{direction_at, machine_place, source_at, machine_part, table_fault, Accepted}
 use Rattle.table.specs.Means.{direction_of, meaning_of}
@@ -39,10 +38,10 @@ use Rattle.diff_table.specs.Sides.{GoodSide, GoodSides, sides_of, sources_of, ma
 
 -- ---- a direction by its sources
 
-item-get : (kind : Kind) (t : List ℕ) (n : ℕ) (s : Source) (g : ℕ) → g < n → get_or (items_from kind t n s) g (no_item kind) ≡ item_by kind t n s g
+item-get : (kind : Kind) (t : List ℕ) (n : ℕ) (s : Option Source) (g : ℕ) → g < n → get_or (items_from kind t n s) g (no_item kind) ≡ item_by kind t n s g
 unfolding items_from
-item-get kind t n (Lookup at base) g l = get_or-upto (glyph_item kind t n at base) n g (no_item kind) l
-item-get kind t n Absent g l = get_or-replicate n g (no_item kind) (no_item kind) l
+item-get kind t n (Some s) g l = get_or-upto (glyph_item kind t n s.at s.base) n g (no_item kind) l
+item-get kind t n None g l = get_or-replicate n g (no_item kind) (no_item kind) l
 
 module _ (t u : List ℕ) (s : DirectionPair) where
   abbrev one : Side
@@ -93,15 +92,15 @@ module _ (t : List ℕ) (n at : ℕ) (good : GoodSide t n at) where
   pub place-clear : (p : ℕ) → p ≡ machine_place t at → machine_part t n p ≡ Clear
   place-clear p e = ap (machine_part t n) e ∙ machine-clear t at n good.clear.clear
 
-  kind-sound : (kind : Kind) (s : Source) → (s ≡ source_at t at kind) × NearSource s → SoundSource t n s
+  kind-sound : (kind : Kind) (s : Option Source) → (s ≡ source_at t at kind) × NearSource s → SoundSource t n s
   kind-sound kind s e = source_sound t n kind s e.1 (ap (source_fault t n kind) e.0 ∙ source_clear t at n good.clear.clear kind)
 
-  kind-rises : (kind : Kind) (s : Source) → s ≡ source_at t at kind → AllRise kind t n s
+  kind-rises : (kind : Kind) (s : Option Source) → s ≡ source_at t at kind → AllRise kind t n s
   kind-rises kind s e =
       subst (AllRise kind t n) (sym e) (record { each = all-rise kind t n at (subst (OkSide n) (direction-is t n at) good.limits) })
 
 -- the sources of two
-pub comparable : (t u : List ℕ) (s : DirectionPair) (kind : Kind) (x y : Source) → GoodSides t u s → (x ≡ source_at t s.first kind) × NearSource x → (y ≡ source_at u s.second kind) × NearSource y
+pub comparable : (t u : List ℕ) (s : DirectionPair) (kind : Kind) (x y : Option Source) → GoodSides t u s → (x ≡ source_at t s.first kind) × NearSource x → (y ≡ source_at u s.second kind) × NearSource y
     → Comparable t u (record { kind = kind; glyphs = s.glyphs; first = x; second = y })
 comparable t u s kind x y good a b = record {
   sound = record {
@@ -146,14 +145,3 @@ module _ (t u : List ℕ) (n : ℕ) where
   unfolding all_numbers
   same_size e =
       ap (λ (xs : List Difference). length (all_numbers xs)) (sym (same-empty (meaning_of t n) (meaning_of u n) (ap (λ (x : List ℕ). meaning_of x n) e)))
-
--- ---- tables that are the same byte for byte
-
-module _ (t u : List ℕ) where
-  pub bytes-more : (i : ℕ) → i < length t → i < length u → take i t ≡ take i u → get_or t i 0 ≡ get_or u i 0 → take (i + 1) t ≡ take (i + 1) u
-  bytes-more i h k e q =
-      let s : i + 1 ≡ suc i = omega arith in
-      ap (λ (j : ℕ). take j t) s ∙ take-suc t i 0 h ∙ ap₂ (λ (l : List ℕ) (x : ℕ). l ++ (x ∷ [])) e q ∙ sym (take-suc u i 0 k) ∙ ap (λ (j : ℕ). take j u) (sym s)
-
-  pub bytes-all : (i : ℕ) → length t ≤ i → length u ≤ i → take i t ≡ take i u → t ≡ u
-  bytes-all i h k e = sym (take_all i t h) ∙ e ∙ take_all i u k

@@ -2,8 +2,8 @@
 // numbers that takes.
 #![tactic(auto)]
 
-ghost use Rattle.std.specs.Prelude.{◌≡◌, true, ◌+◌, ◌≤◌, ◌<◌, ◌^◌, length};
-ghost use Rattle.fields.specs.declared.Fault.TheVariants.{Clear};
+ghost use Rattle.std.specs.Prelude.{◌≡◌, ◌+◌, ◌≤◌, ◌<◌, ◌^◌, length};
+ghost use Rattle.fields.specs.Faults.{Clear};
 ghost use Rattle.table.specs.Table.{table_fault};
 ghost use Rattle.table.specs.Means.{meaning_of};
 ghost use Rattle.diff_rule.specs.Differences.{differences};
@@ -15,27 +15,8 @@ use diff_stretches::Sources;
 use lookup_targets::Kind;
 use types::Direction;
 
-// Whether two tables are the same byte for byte, and so mean the same.
-fn same_table<'a>(one: &'a [u8], other: &'a [u8]) -> bool
-    ensures { result ≡ true → one.now ≡ other.now }
-{
-    let count = one.len();
-    if count != other.len() {
-        return false;
-    }
-    let mut i: usize = 0;
-    while i < count {
-        let byte = one[i];
-        let beside = other[i];
-        if byte != beside {
-            return false;
-        }
-        i += 1;
-    }
-    true
-}
-
-// A direction of two tables that are read with one glyph count, and its offset in each, 0 where it is absent.
+// A direction of two tables that are read with one glyph count, and its offset in each, 0 where it is absent, as the
+// header has it.
 #[derive(Clone, Copy)]
 struct DirectionPair {
     direction: Direction,
@@ -137,12 +118,12 @@ pub fn put_all<'a>(one: &'a [u8], other: &'a [u8], glyphs: usize, list: &mut [u1
 }
 
 // How many numbers the differences of two accepted tables take: where they would end in a room of no length. A table that was
-// not touched is told at once.
+// not touched is told at once, since two that are the same byte for byte mean the same.
 pub fn size_all<'a>(one: &'a [u8], other: &'a [u8], glyphs: usize) -> usize
     requires { (table_fault one.now glyphs ≡ Clear) × (table_fault other.now glyphs ≡ Clear) }
     ensures { (result ≡ length (all_numbers (differences (meaning_of one.now glyphs) (meaning_of other.now glyphs)))) × (result < 2 ^ 30) }
 {
-    if same_table(one, other) {
+    if one == other {
         return 0;
     }
     let mut none = [0u16; 0];

@@ -2,15 +2,18 @@
 -- words that differ.
 use Prim.Native.Nat.{ℕ, ◌≤◌, ◌<◌}
 use mathlib.Core.Path.{◌≡◌, refl, sym, ap, ap₂, ◌∙◌, subst}
-use mathlib.Core.Bool.{Bool, true, false}
+use mathlib.Core.Bool.{Bool, true, false, not}
 use mathlib.Core.Logic.{inl, inr, ⊎_elim}
 use mathlib.Core.List.{List, [], ◌∷◌, ◌++◌, append-nil, tail-eq_of_cons-eq, head-eq_of_cons-eq}
 use native.Mathlib.Decide.{ℕ_discrete, dec_lt}
 use native.Mathlib.Omega.{arith}
 use lib.Dec.{ltb}
 use borrow.Author.Tests.{ltb-true, ltb-false}
+use Rattle.std.specs.Option.{is_some, MatchOption}
+use Rattle.std.specs.declared.option.Option.{Option}
+use Rattle.std.specs.declared.option.Option.TheVariants.{None, Some}
 use Rattle.encoding.specs.Codes.{All, many}
-use Rattle.encoding.specs.Dictionary.{Le, Before, listed, Free}
+use Rattle.encoding.specs.Dictionary.{Le, Before, Left, Apart, listed, Free}
 use Rattle.encoding.specs.Tests.{Says}
 use Rattle.encoding.proofs.CodeLaws.{many-free}
 
@@ -132,9 +135,39 @@ module _ {A : Type 0} (words : A → List ℕ) {xs xs' ys ys' : List A} {x y : A
   pub item-tells : Free words → (x ≡ y → ⊥) → Says r (Before (words x) (words y)) → Says r (Before (many words xs) (many words ys))
   item-tells free n s = told_of (many words) r (sym e) (sym f) (first-tells words free r x y (many words xs') (many words ys') n s)
 
--- nothing comes before nothing
-pub none-tells : {A : Type 0} (words : A → List ℕ) {xs ys : List A} → xs ≡ [] → ys ≡ [] → Says false (Before (many words xs) (many words ys))
-none-tells words e f = told_of (many words) false (sym e) (sym f) (λ p. p tt)
+-- rows compared item by item: at the start all of them is left
+module _ {A : Type 0} (words : A → List ℕ) {xs ys : List A} where
+  pub all_left : {us vs : List A} → xs ≡ us → ys ≡ vs → Left words xs ys us vs
+  all_left e f = record {
+    same = λ g. e ∙ g ∙ sym f;
+    rest = λ g. sym e ∙ g ∙ f;
+    tells = λ r s. told_of (many words) r (sym e) (sym f) s;
+  }
+
+  -- of what is left, us and vs, x and y are the first
+  module _ {us us' vs vs' : List A} {x y : A} (left : Left words xs ys us vs) (e : us ≡ x ∷ us') (f : vs ≡ y ∷ vs') where
+    -- items that are the same are passed
+    pub next_left : x ≡ y → Left words xs ys us' vs'
+    next_left h = record {
+      same = λ g. left.same (e ∙ ap₂ (λ (z : A) (l : List A). z ∷ l) h g ∙ sym f);
+      rest = λ g. tail-eq_of_cons-eq (sym e ∙ left.rest g ∙ f);
+      tells = λ r s. left.tells r (item-skipped words e f r h s);
+    }
+
+    -- and those that differ tell the rows apart
+    pub left_apart : Free words → (x ≡ y → ⊥) → Apart words xs ys x y
+    left_apart free n = record {
+      differ = λ g. n (head-eq_of_cons-eq (sym e ∙ left.rest g ∙ f));
+      tells = λ r s. left.tells r (item-tells words e f r free n s);
+    }
+
+-- what is so just where nothing was found is told by whether nothing was
+pub says_none : {B : Type 0} {P : Type 0} {Q : B → Type 0} (found : Option B) (r : Bool) → is_some found ≡ not r → MatchOption found P Q
+    → ((b : B) → Q b → P → ⊥) → Says r P
+says_none None true e h n = h
+says_none None false e h n = cc
+says_none (Some b) true e h n = cc
+says_none (Some b) false e h n = n b h
 
 less : (x y : ℕ) (a b : List ℕ) → x < y → Before (x ∷ a) (y ∷ b)
 less x y a b h l = ⊎_elim (λ p. omega arith) (λ p. omega (arith, p.0)) l
@@ -153,18 +186,6 @@ module _ {x x' y y' : ℕ} (e : x ≡ x') (f : y ≡ y') (a b : List ℕ) where
 
   pub number-tells : (x ≡ y → ⊥) → Says (ltb x y) (Before (x' ∷ a) (y' ∷ b))
   number-tells n = subst (λ (d : ℕ). Says (ltb x y) (Before (x' ∷ a) (d ∷ b))) f (subst (λ (c : ℕ). Says (ltb x y) (Before (c ∷ a) (y ∷ b))) e (differ x y a b n))
-
-lower : (x y : ℕ) → y ≤ x → Dec (y ≡ x) → Le (y ∷ []) (x ∷ [])
-lower x y h (yes p) = inr (p, tt)
-lower x y h (no p) = inl (omega (arith, p))
-
--- the last ones tell it whether they differ or not
-pub last-tells : (x y : ℕ) → Says (ltb x y) (Before (x ∷ []) (y ∷ []))
-last-tells x y = go (ltb x y) refl
-  where
-    go : (r : Bool) → ltb x y ≡ r → Says r (Before (x ∷ []) (y ∷ []))
-    go true e = less x y [] [] (ltb-true x y e)
-    go false e = λ f. f (lower x y (ltb-false x y e) (ℕ_discrete y x))
 
 -- lists that do not differ: none comes before the other
 pub none_before : {A : Type 0} (words : A → List ℕ) {xs ys : List A} → xs ≡ ys → Before (many words xs) (many words ys) → ⊥

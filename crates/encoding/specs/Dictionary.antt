@@ -23,12 +23,16 @@ listed words xs = length xs ∷ many words xs
 abbrev pub Free : {A : Type 0} → (A → List ℕ) → Type 0
 Free words = PrefixFree words (λ x. Unit {0})
 
--- two lists begin alike, and what is left of them, if anything, begins with two items that differ, `one a` and `other b`: these tell which list comes before
-pub record ApartAt {A : Type 0} (words : A → List ℕ) (one other : ℕ → A) (xs ys : List A) (left a b : ℕ) : Type 0 where
-  pub same : left ≡ 0 → xs ≡ ys
-  pub differ : 0 < left → xs ≡ ys → ⊥
-  pub tells : 0 < left → (earlier : Bool) → Says earlier (Before (words (one a)) (words (other b)))
-      → Says earlier (Before (many words xs) (many words ys))
+-- us and vs are what is left to compare of two rows of items, xs and ys: they tell whether the rows are the same, and which comes before
+pub record Left {A : Type 0} (words : A → List ℕ) (xs ys us vs : List A) : Type 0 where
+  pub same : us ≡ vs → xs ≡ ys
+  pub rest : xs ≡ ys → us ≡ vs
+  pub tells : (earlier : Bool) → Says earlier (Before (many words us) (many words vs)) → Says earlier (Before (many words xs) (many words ys))
+
+-- two rows of items are not the same, and two items that differ, the one of the first row and the other of the second, tell which row comes before
+pub record Apart {A : Type 0} (words : A → List ℕ) (xs ys : List A) (one other : A) : Type 0 where
+  pub differ : xs ≡ ys → ⊥
+  pub tells : (earlier : Bool) → Says earlier (Before (words one) (words other)) → Says earlier (Before (many words xs) (many words ys))
 
 -- ---- the order is decided
 

@@ -1,17 +1,18 @@
 // The fields of a table or a sheet: numbers in lent bytes, big-endian (document 01, "Numbers"), the refusals and
-// their numbers, and the first fault of a chain of fields (document 01, "Numbers of refusal").
+// their numbers, and the fault of a field (document 01, "Numbers of refusal"): what judges fields one after the other hands
+// the first fault back by `?`.
 // A field is read as if zeros followed the bytes, so that reading asks nothing of its caller; whether a field
 // lies inside is judged apart, by `in_table`.
-#![tactic(auto)]
+#![tactic(auto, unfolding(crate::specs::Field::u16_at, crate::specs::Field::u32_at, crate::specs::Faults::rule, crate::specs::Faults::inside))]
 
-ghost use Rattle.std.specs.Prelude.{◌≡◌, ℕ, ◌+◌, ◌-◌, ◌≤◌, ◌<◌, ◌^◌, min, max, length, get_or, set};
+ghost use Rattle.std.specs.Prelude.{◌≡◌, ℕ, ◌+◌, ◌≤◌, ◌<◌, ◌^◌, length, get_or, set};
 ghost use Rattle.std.proofs.lemmas.List.Edits.{sets};
 ghost use Rattle.fields.specs.Field.{u16_at, u32_at, be16, be32};
 ghost use Rattle.fields.specs.Refusals.{number_of};
-ghost use Rattle.fields.specs.Faults.{◌then◌, rule, inside};
+ghost use Rattle.fields.specs.Faults.{rule, inside};
 
 // The refusals, each named by what is wrong, in the order of their numbers, 1 to 18 and 21 to 23.
-#[derive(Clone, Copy)]
+#[derive(Clone, Copy, Debug, PartialEq, Eq)]
 pub enum Refusal {
     TableLength,
     GlyphCount,
@@ -36,71 +37,49 @@ pub enum Refusal {
     WrongSum,
 }
 
-// No fault, or a refusal and, for 4 to 8, the offset of the first byte of the field that was found or judged; 0 for
-// the others.
-#[derive(Clone, Copy)]
-pub enum Fault {
-    Clear,
-    Bad { refusal: Refusal, at: usize },
+// A refusal and, for 4 to 8, the offset of the first byte of the field that was found or judged; 0 for the others.
+#[derive(Clone, Copy, Debug, PartialEq, Eq)]
+pub struct Fault {
+    pub refusal: Refusal,
+    pub at: usize,
 }
 
 // The number that documents 01 and 02 give a refusal.
-pub fn number_of(refusal: Refusal) -> u32
-    ensures { result ≡ number_of refusal }
-{
-    match refusal {
-        Refusal::TableLength => 1,
-        Refusal::GlyphCount => 2,
-        Refusal::Version => 3,
-        Refusal::Outside => 4,
-        Refusal::BadLookup => 5,
-        Refusal::BadCluster => 6,
-        Refusal::BadMachine => 7,
-        Refusal::BadActions => 8,
-        Refusal::UnequalLengths => 9,
-        Refusal::LongLine => 10,
-        Refusal::PointSize => 11,
-        Refusal::Advances => 12,
-        Refusal::UnknownGlyph => 13,
-        Refusal::EndlessWalk => 14,
-        Refusal::StageTotal => 15,
-        Refusal::ShortRoom => 16,
-        Refusal::NotSheet => 17,
-        Refusal::UnknownEdition => 18,
-        Refusal::FontEnds => 21,
-        Refusal::MissingTable => 22,
-        Refusal::WrongSum => 23,
+impl From<Refusal> for u32 {
+    ghost from_gives = { λ refusal number. number ≡ number_of refusal };
+
+    fn from(refusal: Refusal) -> u32 {
+        match refusal {
+            Refusal::TableLength => 1,
+            Refusal::GlyphCount => 2,
+            Refusal::Version => 3,
+            Refusal::Outside => 4,
+            Refusal::BadLookup => 5,
+            Refusal::BadCluster => 6,
+            Refusal::BadMachine => 7,
+            Refusal::BadActions => 8,
+            Refusal::UnequalLengths => 9,
+            Refusal::LongLine => 10,
+            Refusal::PointSize => 11,
+            Refusal::Advances => 12,
+            Refusal::UnknownGlyph => 13,
+            Refusal::EndlessWalk => 14,
+            Refusal::StageTotal => 15,
+            Refusal::ShortRoom => 16,
+            Refusal::NotSheet => 17,
+            Refusal::UnknownEdition => 18,
+            Refusal::FontEnds => 21,
+            Refusal::MissingTable => 22,
+            Refusal::WrongSum => 23,
+        }
     }
-}
-
-// a - b, or 0
-pub fn less(a: usize, b: usize) -> usize
-    ensures { result ≡ a - b }
-{
-    if b < a { a - b } else { 0 }
-}
-
-pub fn lower(a: usize, b: usize) -> usize
-    ensures { result ≡ min a b }
-{
-    if a < b { a } else { b }
-}
-
-pub fn larger(a: usize, b: usize) -> usize
-    ensures { result ≡ max a b }
-{
-    if a < b { b } else { a }
 }
 
 // The byte at a position, 0 past the end.
 pub fn u8_at(bytes: &[u8], at: usize) -> usize
     ensures { (result ≡ get_or bytes.now at 0) × (result < 2 ^ 8) }
 {
-    if at < bytes.len() {
-        bytes[at] as usize
-    } else {
-        0
-    }
+    bytes.get(at).map_or(0, |byte| usize::from(*byte))
 }
 
 // The 16-bit number at a position, all of it inside the bytes.
@@ -108,9 +87,7 @@ pub fn u16_in(bytes: &[u8], at: usize) -> usize
     requires { at + 2 ≤ length bytes.now }
     ensures { (result ≡ u16_at bytes.now at) × (result < 2 ^ 16) }
 {
-    let high = bytes[at] as usize;
-    let low = bytes[at + 1] as usize;
-    high * 256 + low
+    usize::from(u16::from_be_bytes([bytes[at], bytes[at + 1]]))
 }
 
 // The 32-bit number at a position, all of it inside the bytes.
@@ -118,17 +95,15 @@ pub fn u32_in(bytes: &[u8], at: usize) -> usize
     requires { at + 4 ≤ length bytes.now }
     ensures { (result ≡ u32_at bytes.now at) × (result < 2 ^ 32) }
 {
-    u16_in(bytes, at) * 65536 + u16_in(bytes, at + 2)
+    let word = [bytes[at], bytes[at + 1], bytes[at + 2], bytes[at + 3]];
+    u32::from_be_bytes(word) as usize
 }
 
 // The 16-bit number at a position. Where all of it is there, that is seen once, and its bytes are read as one.
 pub fn u16_at(bytes: &[u8], at: usize) -> usize
     ensures { (result ≡ u16_at bytes.now at) × (result < 2 ^ 16) }
 {
-    if bytes.len() < 2 {
-        return u8_at(bytes, at) * 256;
-    }
-    if bytes.len() - 2 < at {
+    if bytes.len() < 2 || bytes.len() - 2 < at {
         return u8_at(bytes, at) * 256;
     }
     u16_in(bytes, at)
@@ -149,10 +124,7 @@ fn u32_near_end(bytes: &[u8], at: usize) -> usize
 pub fn u32_at(bytes: &[u8], at: usize) -> usize
     ensures { (result ≡ u32_at bytes.now at) × (result < 2 ^ 32) }
 {
-    if bytes.len() < 4 {
-        return u32_near_end(bytes, at);
-    }
-    if bytes.len() - 4 < at {
+    if bytes.len() < 4 || bytes.len() - 4 < at {
         return u32_near_end(bytes, at);
     }
     u32_in(bytes, at)
@@ -172,16 +144,13 @@ pub fn put_u8(out: &mut [u8], at: usize, byte: u8)
 pub fn put_u16(out: &mut [u8], at: usize, number: u16)
     ensures { out.new ≡ sets out.old at (be16 number) }
 {
-    if out.len() < 2 {
-        put_u8(out, at, (number / 256 % 256) as u8);
+    let bytes = number.to_be_bytes();
+    if out.len() < 2 || out.len() - 2 < at {
+        put_u8(out, at, bytes[0]);
         return;
     }
-    if out.len() - 2 < at {
-        put_u8(out, at, (number / 256 % 256) as u8);
-        return;
-    }
-    put_u8(out, at, (number / 256 % 256) as u8);
-    put_u8(out, at + 1, (number % 256) as u8);
+    put_u8(out, at, bytes[0]);
+    put_u8(out, at + 1, bytes[1]);
 }
 
 // Stores a 32-bit number at a position near the end or past it.
@@ -199,11 +168,7 @@ fn put_u32_near_end(out: &mut [u8], at: usize, number: u32)
 pub fn put_u32(out: &mut [u8], at: usize, number: u32)
     ensures { out.new ≡ sets out.old at (be32 number) }
 {
-    if out.len() < 4 {
-        put_u32_near_end(out, at, number);
-        return;
-    }
-    if out.len() - 4 < at {
+    if out.len() < 4 || out.len() - 4 < at {
         put_u32_near_end(out, at, number);
         return;
     }
@@ -211,38 +176,20 @@ pub fn put_u32(out: &mut [u8], at: usize, number: u32)
     put_u16(out, at + 2, (number % 65536) as u16);
 }
 
-// `first` where it is a fault, else `second`. A fault is built anew from its parts, so that compiled code keeps chains of
-// faults in registers.
-pub fn then(first: Fault, second: Fault) -> Fault
-    ensures { result ≡ first then second }
-{
-    match first {
-        Fault::Clear => second,
-        Fault::Bad { refusal, at } => Fault::Bad { refusal, at },
-    }
-}
-
 // No fault where the test holds, else the refusal at the field that was judged.
-pub fn ruled(test: bool, refusal: Refusal, at: usize) -> Fault
+pub fn ruled(test: bool, refusal: Refusal, at: usize) -> Result<(), Fault>
     ensures { result ≡ rule test refusal at }
 {
     if test {
-        Fault::Clear
-    } else {
-        Fault::Bad { refusal, at }
+        return Ok(());
     }
+    Err(Fault { refusal, at })
 }
 
 // Refusal 4 unless `width` bytes stand at `at`.
-pub fn in_table(table: &[u8], at: usize, width: usize) -> Fault
+pub fn in_table(table: &[u8], at: usize, width: usize) -> Result<(), Fault>
     ensures { result ≡ inside table.now at width }
 {
-    if at <= table.len() {
-        ruled(width <= table.len() - at, Refusal::Outside, at)
-    } else {
-        Fault::Bad {
-            refusal: Refusal::Outside,
-            at,
-        }
-    }
+    let fits = at <= table.len() && width <= table.len() - at;
+    ruled(fits, Refusal::Outside, at)
 }

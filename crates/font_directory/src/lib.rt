@@ -2,7 +2,7 @@
 #![tactic(auto)]
 
 ghost use Rattle.std.specs.Prelude.{◌≡◌, ◌+◌, ◌^◌, ◌<◌, ◌≤◌, length};
-ghost use Rattle.font_directory.specs.Sum.{words_for, checksum_of};
+ghost use Rattle.font_directory.specs.Sum.{checksum_of};
 ghost use Rattle.font_directory.specs.Directory.{directory_size, table_record_at, first_listed, table_of};
 
 // What the directory says of a table: its checksum, where it begins in the font, and its length in bytes.
@@ -11,12 +11,6 @@ pub struct TableRecord {
     pub sum: u32,
     pub offset: u32,
     pub length: u32,
-}
-
-#[derive(Clone, Copy)]
-pub enum Listing {
-    Listed(TableRecord),
-    Missing,
 }
 
 // The header's size, and where the count of tables stands in it.
@@ -36,29 +30,29 @@ const LENGTH: usize = 12;
 // The bytes of a checksum's words.
 const WORD: usize = 4;
 
-// How many 32-bit words hold so many bytes.
-fn words_for(size: usize) -> usize
-    ensures { result ≡ words_for size }
-{
-    if size % WORD == 0 {
-        return size / WORD;
-    }
-    size / WORD + 1
-}
-
 // The sum of a table's 32-bit words, big-endian; carries out of 32 bits are thrown away.
+#[tactic(auto, using(crate::proofs::Laws::word_next, crate::proofs::Laws::word_none), unfolding(crate::specs::Sum::checksum_of))]
 fn checksum(table: &[u8]) -> u32
     ensures { result ≡ checksum_of table.now }
 {
-    let words = words_for(table.len());
+    let words = table.len().div_ceil(WORD);
     let mut sum: u32 = 0;
-    let mut k: usize = 0;
-    while k < words {
+    for k in 0..words {
         let word = fields::u32_at(table, WORD * k) as u32;
-        sum = std::num::wrapping_add_u32(sum, word);
-        k += 1;
+        sum = sum.wrapping_add(word);
     }
     sum
+}
+
+// The bytes that a record names, which are in the font.
+#[tactic(auto, unfolding(crate::specs::Directory::table_of))]
+pub fn table_of(font: &[u8], place: TableRecord) -> &[u8]
+    requires { place.offset + place.length ≤ length font.now }
+    ensures { result.now ≡ table_of font.now place }
+{
+    let from = place.offset as usize;
+    let to = from + place.length as usize;
+    &font[from..to]
 }
 
 // The checksum of the bytes that a record names, which are in the font.
@@ -66,9 +60,7 @@ pub fn table_sum(font: &[u8], place: TableRecord) -> u32
     requires { place.offset + place.length ≤ length font.now }
     ensures { result ≡ checksum_of (table_of font.now place) }
 {
-    let from = place.offset as usize;
-    let to = from + place.length as usize;
-    checksum(&font[from..to])
+    checksum(table_of(font, place))
 }
 
 // The directory's bytes.
@@ -83,28 +75,23 @@ fn table_record_at(font: &[u8], p: usize) -> TableRecord
     requires { p < 2 ^ 32 }
     ensures { result ≡ table_record_at font.now p }
 {
-    let sum = fields::u32_at(font, p + SUM) as u32;
-    let offset = fields::u32_at(font, p + OFFSET) as u32;
-    let length = fields::u32_at(font, p + LENGTH) as u32;
     TableRecord {
-        sum,
-        offset,
-        length,
+        sum: fields::u32_at(font, p + SUM) as u32,
+        offset: fields::u32_at(font, p + OFFSET) as u32,
+        length: fields::u32_at(font, p + LENGTH) as u32,
     }
 }
 
-// The first record with a tag.
-pub fn find_record(font: &[u8], tag: usize) -> Listing
+// The first record with a tag, if one is listed.
+#[tactic(auto, using(crate::proofs::Laws::listed_here, crate::proofs::Laws::listed_next, crate::proofs::Laws::listed_none), unfolding(crate::specs::Directory::first_listed))]
+pub fn find_record(font: &[u8], tag: usize) -> Option<TableRecord>
     ensures { result ≡ first_listed font.now tag }
 {
-    let mut p: usize = HEADER;
-    let mut left = fields::u16_at(font, TABLE_COUNT);
-    while 0 < left {
+    for k in 0..fields::u16_at(font, TABLE_COUNT) {
+        let p = HEADER + RECORD * k;
         if fields::u32_at(font, p) == tag {
-            return Listing::Listed(table_record_at(font, p));
+            return Some(table_record_at(font, p));
         }
-        p += RECORD;
-        left -= 1;
     }
-    Listing::Missing
+    None
 }

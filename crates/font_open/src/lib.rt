@@ -1,32 +1,23 @@
 // A 'just' table straight from a font file (document 02, 12/14).
-#![tactic(auto)]
+#![tactic(auto, using(crate::proofs::Laws::extents_clear, crate::proofs::Laws::tables_clear), unfolding(fields::specs::Faults::earlier, fields::specs::Faults::rule, crate::specs::Opened::inside_fault, crate::specs::Opened::sum_fault, crate::specs::Opened::extents_fault, crate::specs::Opened::sums_fault, crate::specs::Opened::tables_fault, crate::specs::Opened::directory_fault, crate::specs::Opened::font_opened))]
 
-ghost use Rattle.std.specs.Prelude.{◌≡◌};
-ghost use Rattle.table.specs.Table.{table_fault};
-ghost use Rattle.font_directory.specs.declared.Listing.TheVariants.{Listed};
-ghost use Rattle.font_directory.specs.Directory.{table_of};
+ghost use Rattle.std.specs.Prelude.{◌≡◌, Some};
 ghost use Rattle.font_open.specs.Opened.{Inside, glyph_count_of, inside_fault, sum_fault, extents_fault, sums_fault, tables_fault, says_font, opened_by, directory_fault, font_opened};
 ghost use Rattle.font_open.specs.OpenedInC.{font_in};
 
 use fields::{Fault, Refusal};
-use font_directory::{Listing, TableRecord};
+use font_directory::TableRecord;
 
-// Where 'just' stands in the font, its length in bytes and the font's glyph count; or the refusal and, for 4 to 8, its
-// offset from the start of 'just'.
+// Where 'just' stands in the font, its length in bytes and the font's glyph count.
 #[derive(Clone, Copy)]
-pub enum FontAnswer {
-    Opened {
-        offset: u32,
-        length: u32,
-        count: u32,
-    },
-    Refused {
-        refusal: Refusal,
-        at: usize,
-    },
+pub struct Opened {
+    pub offset: u32,
+    pub length: u32,
+    pub count: u32,
 }
 
-// The same as a struct of C layout; crate `just_c` has the call.
+// The same as a struct of C layout, or the refusal and, for 4 to 8, its offset from the start of 'just'; crate `just_c` has
+// the call.
 #[repr(C)]
 #[derive(Clone, Copy)]
 pub struct JustFont {
@@ -48,7 +39,7 @@ const GLYPH_COUNT: usize = 4;
 const LEAST_MAXP: u32 = 6;
 
 // Refusal 21 unless the directory is wholly in the font.
-fn directory_fault(font: &[u8]) -> Fault
+fn directory_fault(font: &[u8]) -> Result<(), Fault>
     ensures { result ≡ directory_fault font.now }
 {
     fields::ruled(
@@ -59,7 +50,7 @@ fn directory_fault(font: &[u8]) -> Fault
 }
 
 // Refusal 21 unless the bytes that a record names are wholly in the font.
-fn inside_fault(font: &[u8], place: TableRecord) -> Fault
+fn inside_fault(font: &[u8], place: TableRecord) -> Result<(), Fault>
     ensures { result ≡ inside_fault font.now place }
 {
     let end = place.offset as usize + place.length as usize;
@@ -67,7 +58,7 @@ fn inside_fault(font: &[u8], place: TableRecord) -> Fault
 }
 
 // Refusal 23 unless their checksum is the one that the record has.
-fn sum_fault(font: &[u8], place: TableRecord) -> Fault
+fn sum_fault(font: &[u8], place: TableRecord) -> Result<(), Fault>
     requires { Inside font.now place }
     ensures { result ≡ sum_fault font.now place }
 {
@@ -80,113 +71,84 @@ fn glyph_count_of(font: &[u8], maxp: TableRecord) -> u32
     requires { Inside font.now maxp }
     ensures { result ≡ glyph_count_of font.now maxp }
 {
-    let from = maxp.offset as usize;
-    let to = from + maxp.length as usize;
-    fields::u16_at(&font[from..to], GLYPH_COUNT) as u32
-}
-
-// The first fault of 'just', read with a glyph count.
-fn just_fault(font: &[u8], just: TableRecord, count: u32) -> Fault
-    requires { Inside font.now just }
-    ensures { result ≡ table_fault (table_of font.now just) count }
-{
-    let from = just.offset as usize;
-    let to = from + just.length as usize;
-    table::table_fault(&font[from..to], count)
+    fields::u16_at(font_directory::table_of(font, maxp), GLYPH_COUNT) as u32
 }
 
 // Refusal 21 unless both tables are wholly in the font and 'maxp' holds the glyph count.
-fn extents_fault(font: &[u8], just: TableRecord, maxp: TableRecord) -> Fault
+fn extents_fault(font: &[u8], just: TableRecord, maxp: TableRecord) -> Result<(), Fault>
     ensures { result ≡ extents_fault font.now just maxp }
 {
-    let just_inside = inside_fault(font, just);
-    let maxp_inside = inside_fault(font, maxp);
-    let has_count = fields::ruled(LEAST_MAXP <= maxp.length, Refusal::FontEnds, 0);
-    fields::then(just_inside, fields::then(maxp_inside, has_count))
+    inside_fault(font, just)?;
+    inside_fault(font, maxp)?;
+    fields::ruled(LEAST_MAXP <= maxp.length, Refusal::FontEnds, 0)
 }
 
 // Refusal 23 unless both checksums agree.
-fn sums_fault(font: &[u8], just: TableRecord, maxp: TableRecord) -> Fault
+fn sums_fault(font: &[u8], just: TableRecord, maxp: TableRecord) -> Result<(), Fault>
     requires { Inside font.now just × Inside font.now maxp }
     ensures { result ≡ sums_fault font.now just maxp }
 {
-    let just_sum = sum_fault(font, just);
-    let maxp_sum = sum_fault(font, maxp);
-    fields::then(just_sum, maxp_sum)
+    sum_fault(font, just)?;
+    sum_fault(font, maxp)
 }
 
 // The first fault of the two tables, last that of 'just' as the reader takes it.
-fn tables_fault(font: &[u8], just: TableRecord, maxp: TableRecord) -> Fault
+fn tables_fault(font: &[u8], just: TableRecord, maxp: TableRecord) -> Result<(), Fault>
     ensures { result ≡ tables_fault font.now just maxp }
 {
-    let places = extents_fault(font, just, maxp);
-    if let Fault::Bad { refusal: _, at: _ } = places {
-        return places;
-    }
-    let sums = sums_fault(font, just, maxp);
-    if let Fault::Bad { refusal: _, at: _ } = sums {
-        return sums;
-    }
-    just_fault(font, just, glyph_count_of(font, maxp))
+    extents_fault(font, just, maxp)?;
+    sums_fault(font, just, maxp)?;
+    table::table_fault(
+        font_directory::table_of(font, just),
+        glyph_count_of(font, maxp),
+    )
 }
 
 // What opening a font answers where the directory has both tables.
-fn open_tables(font: &[u8], just: TableRecord, maxp: TableRecord) -> FontAnswer
-    ensures { says_font result ≡ opened_by font.now (Listed just) (Listed maxp) }
+fn open_tables(font: &[u8], just: TableRecord, maxp: TableRecord) -> Result<Opened, Fault>
+    ensures { says_font result ≡ opened_by font.now (Some just) (Some maxp) }
 {
-    match tables_fault(font, just, maxp) {
-        Fault::Clear => FontAnswer::Opened {
-            offset: just.offset,
-            length: just.length,
-            count: glyph_count_of(font, maxp),
-        },
-        Fault::Bad { refusal, at } => FontAnswer::Refused { refusal, at },
-    }
+    tables_fault(font, just, maxp)?;
+    Ok(Opened {
+        offset: just.offset,
+        length: just.length,
+        count: glyph_count_of(font, maxp),
+    })
 }
 
 // Where the 'just' table of a whole font stands and how many glyphs the font has, where the reader accepts that table.
-pub fn open_font(font: &[u8]) -> FontAnswer
+pub fn open_font(font: &[u8]) -> Result<Opened, Fault>
     ensures { says_font result ≡ font_opened font.now }
 {
-    if let Fault::Bad { refusal, at } = directory_fault(font) {
-        return FontAnswer::Refused { refusal, at };
-    }
-    let Listing::Listed(just) = font_directory::find_record(font, JUST) else {
-        return FontAnswer::Refused {
-            refusal: Refusal::MissingTable,
-            at: 0,
-        };
+    directory_fault(font)?;
+    let missing = Fault {
+        refusal: Refusal::MissingTable,
+        at: 0,
     };
-    let Listing::Listed(maxp) = font_directory::find_record(font, MAXP) else {
-        return FontAnswer::Refused {
-            refusal: Refusal::MissingTable,
-            at: 0,
-        };
-    };
+    let just = font_directory::find_record(font, JUST).ok_or(missing)?;
+    let maxp = font_directory::find_record(font, MAXP).ok_or(missing)?;
     open_tables(font, just, maxp)
 }
 
-pub fn font_out(answer: FontAnswer) -> JustFont
-    ensures { result ≡ font_in (says_font answer) }
-{
-    match answer {
-        FontAnswer::Opened {
-            offset,
-            length,
-            count,
-        } => JustFont {
-            refusal: 0,
-            offset: 0,
-            table_offset: offset,
-            table_length: length,
-            glyph_count: count,
-        },
-        FontAnswer::Refused { refusal, at } => JustFont {
-            refusal: fields::number_of(refusal),
-            offset: at as u64,
-            table_offset: 0,
-            table_length: 0,
-            glyph_count: 0,
-        },
+impl From<Result<Opened, Fault>> for JustFont {
+    ghost from_gives = { λ answer font. font ≡ font_in (says_font answer) };
+
+    fn from(answer: Result<Opened, Fault>) -> JustFont {
+        match answer {
+            Ok(opened) => JustFont {
+                refusal: 0,
+                offset: 0,
+                table_offset: opened.offset,
+                table_length: opened.length,
+                glyph_count: opened.count,
+            },
+            Err(fault) => JustFont {
+                refusal: u32::from(fault.refusal),
+                offset: fault.at as u64,
+                table_offset: 0,
+                table_length: 0,
+                glyph_count: 0,
+            },
+        }
     }
 }

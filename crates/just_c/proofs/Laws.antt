@@ -3,10 +3,10 @@ use Prim.Native.Nat.{ℕ}
 use mathlib.Core.List.{List}
 use mathlib.Core.Path.{◌≡◌, sym, ap, ◌∙◌}
 use Rattle.types.specs.declared.HeldAction.{HeldAction}
-use Rattle.answers.specs.declared.ActionSought.{ActionSought}
-use Rattle.answers.specs.declared.ActionSought.TheVariants.{Found, Nothing, Refused}
-use Rattle.answers.specs.Says.{Reply, says_sought, room_after}
-use Rattle.sheet_write.specs.Written.{Said, refused, bytes, SheetOutcome}
+use Rattle.std.specs.Prelude.{true, Option, Some, None, Result, Ok, Err}
+use Rattle.fields.specs.declared.Fault.{Fault}
+use Rattle.answers.specs.Says.{Reply, says_action, room_of, room_after}
+use Rattle.sheet_write.specs.Written.{Said, SheetOutcome}
 use Rattle.diff_call.specs.Calls.{ListAnswer}
 use Rattle.just_c.specs.declared.JustLength.{JustLength}
 use Rattle.just_c.specs.declared.JustCount.{JustCount}
@@ -15,17 +15,10 @@ use Rattle.just_c.specs.WriterInC.{length_in, OutcomeInC, outcome_in}
 use Rattle.just_c.specs.DiffInC.{ListedInC, listed_in}
 
 -- an action's answer, with the room that its reply asks for, is the reply's struct
-pub action-given : (s : ActionSought) (h : HeldAction) (r : Reply) → says_sought s h ≡ r → h ≡ room_after r → action_out s h ≡ action_in r
-action-given Found h r e k = ap (action_out Found) (k ∙ ap room_after (sym e)) ∙ ap action_in e
-action-given Nothing h r e k = ap (action_out Nothing) (k ∙ ap room_after (sym e)) ∙ ap action_in e
-action-given (Refused x at) h r e k = ap (action_out (Refused x at)) (k ∙ ap room_after (sym e)) ∙ ap action_in e
-
--- what is said of a sheet, as a struct
-pub length-given : (k : ℕ) (s : Said) → s ≡ bytes k → record { refusal = 0; offset = 0; length = k } ≡ length_in s
-length-given k s e = cc
-
-pub length-refused : (n k at : ℕ) (s : Said) → n ≡ k → s ≡ refused k at → record { refusal = n; offset = at; length = 0 } ≡ length_in s
-length-refused n k at s i e = cc
+pub action-given : (a : Result (Option HeldAction) Fault) (r : Reply) → says_action a ≡ r → room_of a ≡ room_after r → action_out a ≡ action_in r
+action-given (Ok (Some h)) r e k = ap (λ (x : HeldAction). record { refusal = 0; offset = 0; found = true; action = x }) (k ∙ ap room_after (sym e)) ∙ ap action_in e
+action-given (Ok None) r e k = ap action_in e
+action-given (Err f) r e k = ap action_in e
 
 -- the same, with the room that the writer was lent
 pub outcome-given : (a : JustLength) (s : Said) (after : List ℕ) (o : SheetOutcome) → a ≡ length_in s

@@ -1,12 +1,11 @@
 -- What the structs of the C boundary say: a refusal is its number and its offset (document 02, 4/14) and everything else zeros; a part that is not there is `found` false and zeros.
-use Rattle.std.specs.Prelude.{ℕ, ◌-◌, true, false}
+use Rattle.std.specs.Prelude.{ℕ, ◌-◌, true, false, Option, Some, None, Result, Ok, Err}
+use Rattle.fields.specs.declared.Fault.{Fault}
 use Rattle.fields.specs.Refusals.{number_of}
 use Rattle.types.specs.declared.Entry.{Entry}
 use Rattle.types.specs.declared.Pair.{Pair}
 use Rattle.types.specs.declared.HeldAction.{HeldAction}
 use Rattle.meaning.specs.Ask.{Answer, nothing, number, both, entry, pair, act, held}
-use Rattle.answers.specs.declared.ActionSought.{ActionSought}
-use Rattle.answers.specs.declared.ActionSought.TheVariants as sought
 use Rattle.answers.specs.Says.{Judgement, accepted, barred, Reply, refused, given, no_action}
 use Rattle.actions.specs.declared.Stretch.{Stretch}
 use Rattle.just_c.specs.declared.JustChecked.{JustChecked}
@@ -124,11 +123,11 @@ record_in = reply_in no_record record_given
 abbrev pub action_in : Reply → JustAction
 action_in = reply_in no_held action_given
 
--- an action's answer with its room, as it was found or not
-abbrev pub action_out : ActionSought → HeldAction → JustAction
-action_out sought.Found h = record { refusal = 0; offset = 0; found = true; action = h }
-action_out sought.Nothing h = record { refusal = 0; offset = 0; found = false; action = h }
-action_out (sought.Refused r at) h = record { refusal = number_of r; offset = at; found = false; action = h }
+-- an action's answer with its room, zeros where none was found
+abbrev pub action_out : Result (Option HeldAction) Fault → JustAction
+action_out (Ok (Some h)) = record { refusal = 0; offset = 0; found = true; action = h }
+action_out (Ok None) = no_held 0 0
+action_out (Err f) = no_held f.at (number_of f.refusal)
 
 abbrev pub stretch_in : Stretch → JustStretch
 stretch_in s = record { offset = s.from; length = s.to - s.from }

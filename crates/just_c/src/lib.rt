@@ -5,30 +5,29 @@
 
 ghost use Rattle.std.specs.Prelude.{◌≡◌};
 ghost use Rattle.types.specs.InC.{direction_in};
+ghost use Rattle.lookup_targets.specs.InC.{kind_in};
 ghost use Rattle.meaning.specs.Ask.{ask, glyph_count, along, sizes, class, cell, width, action};
-ghost use Rattle.answers.specs.Says.{judged_by, says_checked, unless_bad, says_count, says_sizes, says_class, says_cell, says_record};
+ghost use Rattle.answers.specs.Says.{judged_by, unless_bad, says_count, says_sizes, says_class, says_cell, says_record, no_action};
 ghost use Rattle.table.specs.Table.{table_fault};
 ghost use Rattle.table.specs.Means.{meaning_of};
 ghost use Rattle.table_ask.specs.Components.{components_of};
 ghost use Rattle.table_find.specs.Values.{value_asked, units_asked};
-ghost use Rattle.table_find.specs.ValuesInC.{kind_in, value_in, units_out};
+ghost use Rattle.table_find.specs.ValuesInC.{value_in, units_out};
 ghost use Rattle.font_open.specs.Opened.{font_opened};
 ghost use Rattle.font_open.specs.OpenedInC.{font_in};
-ghost use Rattle.sheet_write.specs.Written.{says_length, says_written, sheet_length, written};
+ghost use Rattle.sheet_write.specs.Written.{says_length, sheet_length, written};
 ghost use Rattle.just_c.specs.InC.{checked_in, count_in, sizes_in, class_in, cell_in, record_in, no_pair, action_in, action_out, stretch_in};
 ghost use Rattle.just_c.specs.SheetInC.{SheetNumber, Given};
 ghost use Rattle.just_c.specs.WriterInC.{length_in, OutcomeInC, outcome_in};
 ghost use Rattle.diff_call.specs.Calls.{differences_counted, differences_listed};
 ghost use Rattle.just_c.specs.DiffInC.{ListedInC, listed_in};
 
-use answers::{
-    ActionAnswer, ActionSought, CellAnswer, Checked, ClassAnswer, CountAnswer, RecordAnswer,
-    SizesAnswer,
-};
+use answers::Sizes;
+use fields::Fault;
 use font_open::JustFont;
-use sheet_write::{LengthAnswer, WriteAnswer};
+use lookup_targets::Kind;
 use table_find::{JustUnits, JustValue};
-use types::{Entry, Flags, HeldAction, Limits, Pair};
+use types::{Direction, Entry, Flags, HeldAction, Limits, Pair};
 
 #[repr(C)]
 #[derive(Clone, Copy)]
@@ -108,98 +107,123 @@ pub struct JustLength {
 
 // The answers as structs of C layout.
 
-fn count_out(answer: CountAnswer) -> JustCount
-    ensures { result ≡ count_in (says_count answer) }
-{
-    match answer {
-        CountAnswer::Count(count) => JustCount {
-            refusal: 0,
-            offset: 0,
-            count,
-        },
-        CountAnswer::Refused { refusal, at } => JustCount {
-            refusal: fields::number_of(refusal),
-            offset: at as u64,
-            count: 0,
-        },
+impl From<Result<(), Fault>> for JustChecked {
+    ghost from_gives = { λ answer reply. reply ≡ checked_in (judged_by answer) };
+
+    fn from(answer: Result<(), Fault>) -> JustChecked {
+        match answer {
+            Ok(()) => JustChecked {
+                refusal: 0,
+                offset: 0,
+            },
+            Err(fault) => JustChecked {
+                refusal: u32::from(fault.refusal),
+                offset: fault.at as u64,
+            },
+        }
     }
 }
 
-fn sizes_out(answer: SizesAnswer) -> JustSizes
-    ensures { result ≡ sizes_in (says_sizes answer) }
-{
-    match answer {
-        SizesAnswer::Sizes { rows, classes } => JustSizes {
-            refusal: 0,
-            offset: 0,
-            found: true,
-            rows,
-            classes,
-        },
-        SizesAnswer::Nothing => JustSizes {
-            refusal: 0,
-            offset: 0,
-            found: false,
-            rows: 0,
-            classes: 0,
-        },
-        SizesAnswer::Refused { refusal, at } => JustSizes {
-            refusal: fields::number_of(refusal),
-            offset: at as u64,
-            found: false,
-            rows: 0,
-            classes: 0,
-        },
+impl From<Result<u32, Fault>> for JustCount {
+    ghost from_gives = { λ answer reply. reply ≡ count_in (says_count answer) };
+
+    fn from(answer: Result<u32, Fault>) -> JustCount {
+        match answer {
+            Ok(count) => JustCount {
+                refusal: 0,
+                offset: 0,
+                count,
+            },
+            Err(fault) => JustCount {
+                refusal: u32::from(fault.refusal),
+                offset: fault.at as u64,
+                count: 0,
+            },
+        }
     }
 }
 
-fn class_out(answer: ClassAnswer) -> JustClass
-    ensures { result ≡ class_in (says_class answer) }
-{
-    match answer {
-        ClassAnswer::Class(class) => JustClass {
-            refusal: 0,
-            offset: 0,
-            found: true,
-            class,
-        },
-        ClassAnswer::Nothing => JustClass {
-            refusal: 0,
-            offset: 0,
-            found: false,
-            class: 0,
-        },
-        ClassAnswer::Refused { refusal, at } => JustClass {
-            refusal: fields::number_of(refusal),
-            offset: at as u64,
-            found: false,
-            class: 0,
-        },
+impl From<Result<Option<Sizes>, Fault>> for JustSizes {
+    ghost from_gives = { λ answer reply. reply ≡ sizes_in (says_sizes answer) };
+
+    fn from(answer: Result<Option<Sizes>, Fault>) -> JustSizes {
+        match answer {
+            Ok(Some(sizes)) => JustSizes {
+                refusal: 0,
+                offset: 0,
+                found: true,
+                rows: sizes.rows,
+                classes: sizes.classes,
+            },
+            Ok(None) => JustSizes {
+                refusal: 0,
+                offset: 0,
+                found: false,
+                rows: 0,
+                classes: 0,
+            },
+            Err(fault) => JustSizes {
+                refusal: u32::from(fault.refusal),
+                offset: fault.at as u64,
+                found: false,
+                rows: 0,
+                classes: 0,
+            },
+        }
     }
 }
 
-fn cell_out(answer: CellAnswer) -> JustCell
-    ensures { result ≡ cell_in (says_cell answer) }
-{
-    match answer {
-        CellAnswer::Cell(entry) => JustCell {
-            refusal: 0,
-            offset: 0,
-            found: true,
-            entry,
-        },
-        CellAnswer::Nothing => JustCell {
-            refusal: 0,
-            offset: 0,
-            found: false,
-            entry: Entry { row: 0, flags: 0 },
-        },
-        CellAnswer::Refused { refusal, at } => JustCell {
-            refusal: fields::number_of(refusal),
-            offset: at as u64,
-            found: false,
-            entry: Entry { row: 0, flags: 0 },
-        },
+impl From<Result<Option<u8>, Fault>> for JustClass {
+    ghost from_gives = { λ answer reply. reply ≡ class_in (says_class answer) };
+
+    fn from(answer: Result<Option<u8>, Fault>) -> JustClass {
+        match answer {
+            Ok(Some(class)) => JustClass {
+                refusal: 0,
+                offset: 0,
+                found: true,
+                class,
+            },
+            Ok(None) => JustClass {
+                refusal: 0,
+                offset: 0,
+                found: false,
+                class: 0,
+            },
+            Err(fault) => JustClass {
+                refusal: u32::from(fault.refusal),
+                offset: fault.at as u64,
+                found: false,
+                class: 0,
+            },
+        }
+    }
+}
+
+impl From<Result<Option<Entry>, Fault>> for JustCell {
+    ghost from_gives = { λ answer reply. reply ≡ cell_in (says_cell answer) };
+
+    fn from(answer: Result<Option<Entry>, Fault>) -> JustCell {
+        match answer {
+            Ok(Some(entry)) => JustCell {
+                refusal: 0,
+                offset: 0,
+                found: true,
+                entry,
+            },
+            Ok(None) => JustCell {
+                refusal: 0,
+                offset: 0,
+                found: false,
+                entry: Entry { row: 0, flags: 0 },
+            },
+            Err(fault) => JustCell {
+                refusal: u32::from(fault.refusal),
+                offset: fault.at as u64,
+                found: false,
+                entry: Entry { row: 0, flags: 0 },
+            },
+        }
     }
 }
 
@@ -215,98 +239,88 @@ fn no_pair() -> Pair
     }
 }
 
-fn record_out(answer: RecordAnswer) -> JustRecord
-    ensures { result ≡ record_in (says_record answer) }
-{
-    match answer {
-        RecordAnswer::Record(pair) => JustRecord {
-            refusal: 0,
-            offset: 0,
-            found: true,
-            pair,
-        },
-        RecordAnswer::Nothing => JustRecord {
-            refusal: 0,
-            offset: 0,
-            found: false,
-            pair: no_pair(),
-        },
-        RecordAnswer::Refused { refusal, at } => JustRecord {
-            refusal: fields::number_of(refusal),
-            offset: at as u64,
-            found: false,
-            pair: no_pair(),
-        },
+impl From<Result<Option<Pair>, Fault>> for JustRecord {
+    ghost from_gives = { λ answer reply. reply ≡ record_in (says_record answer) };
+
+    fn from(answer: Result<Option<Pair>, Fault>) -> JustRecord {
+        match answer {
+            Ok(Some(pair)) => JustRecord {
+                refusal: 0,
+                offset: 0,
+                found: true,
+                pair,
+            },
+            Ok(None) => JustRecord {
+                refusal: 0,
+                offset: 0,
+                found: false,
+                pair: no_pair(),
+            },
+            Err(fault) => JustRecord {
+                refusal: u32::from(fault.refusal),
+                offset: fault.at as u64,
+                found: false,
+                pair: no_pair(),
+            },
+        }
     }
 }
 
-fn action_out(answer: ActionAnswer) -> JustAction
-    ensures { result ≡ action_out answer.sought answer.action }
+// An action of zeros, where there is none.
+fn no_action() -> HeldAction
+    ensures { result ≡ no_action }
 {
-    let sought = answer.sought;
-    let action = answer.action;
-    match sought {
-        ActionSought::Found => JustAction {
-            refusal: 0,
-            offset: 0,
-            found: true,
-            action,
-        },
-        ActionSought::Nothing => JustAction {
-            refusal: 0,
-            offset: 0,
-            found: false,
-            action,
-        },
-        ActionSought::Refused { refusal, at } => JustAction {
-            refusal: fields::number_of(refusal),
-            offset: at as u64,
-            found: false,
-            action,
-        },
+    HeldAction {
+        class: 0,
+        ty: 0,
+        size: 0,
+        bytes: [0u8; 76],
     }
 }
 
-fn length_by(refusal: u32, at: usize, length: u32) -> JustLength
-    ensures { result ≡ record { refusal = refusal; offset = at; length = length } }
-{
-    JustLength {
-        refusal,
-        offset: at as u64,
-        length,
+impl From<Result<Option<HeldAction>, Fault>> for JustAction {
+    ghost from_gives = { λ answer reply. reply ≡ action_out answer };
+
+    fn from(answer: Result<Option<HeldAction>, Fault>) -> JustAction {
+        match answer {
+            Ok(Some(action)) => JustAction {
+                refusal: 0,
+                offset: 0,
+                found: true,
+                action,
+            },
+            Ok(None) => JustAction {
+                refusal: 0,
+                offset: 0,
+                found: false,
+                action: no_action(),
+            },
+            Err(fault) => JustAction {
+                refusal: u32::from(fault.refusal),
+                offset: fault.at as u64,
+                found: false,
+                action: no_action(),
+            },
+        }
     }
 }
 
-fn length_out(answer: LengthAnswer) -> JustLength
-    ensures { result ≡ length_in (says_length answer) }
-{
-    match answer {
-        LengthAnswer::Length(length) => length_by(0, 0, length),
-        LengthAnswer::Refused { refusal, at } => length_by(fields::number_of(refusal), at, 0),
-    }
-}
+impl From<Result<u32, Fault>> for JustLength {
+    ghost from_gives = { λ answer reply. reply ≡ length_in (says_length answer) };
 
-fn written_out(answer: WriteAnswer) -> JustLength
-    ensures { result ≡ length_in (says_written answer) }
-{
-    match answer {
-        WriteAnswer::Written(length) => length_by(0, 0, length),
-        WriteAnswer::Refused { refusal, at } => length_by(fields::number_of(refusal), at, 0),
-    }
-}
-
-fn checked_out(checked: Checked) -> JustChecked
-    ensures { result ≡ checked_in (says_checked checked) }
-{
-    match checked {
-        Checked::Accepted => JustChecked {
-            refusal: 0,
-            offset: 0,
-        },
-        Checked::Refused { refusal, at } => JustChecked {
-            refusal: fields::number_of(refusal),
-            offset: at as u64,
-        },
+    fn from(answer: Result<u32, Fault>) -> JustLength {
+        match answer {
+            Ok(length) => JustLength {
+                refusal: 0,
+                offset: 0,
+                length,
+            },
+            Err(fault) => JustLength {
+                refusal: u32::from(fault.refusal),
+                offset: fault.at as u64,
+                length: 0,
+            },
+        }
     }
 }
 
@@ -315,7 +329,7 @@ fn checked_out(checked: Checked) -> JustChecked
 pub extern "C" fn just_check_table(table: &[u8], glyphs: u32) -> JustChecked
     ensures { result ≡ checked_in (judged_by (table_fault table.now glyphs)) }
 {
-    checked_out(table::check_table(table, glyphs))
+    JustChecked::from(table::table_fault(table, glyphs))
 }
 
 // The glyph count of an accepted table.
@@ -323,7 +337,7 @@ pub extern "C" fn just_check_table(table: &[u8], glyphs: u32) -> JustChecked
 pub extern "C" fn just_table_count(table: &[u8], glyphs: u32) -> JustCount
     ensures { result ≡ count_in (unless_bad (table_fault table.now glyphs) (ask (meaning_of table.now glyphs) glyph_count)) }
 {
-    count_out(table_ask::ask_count(table, glyphs))
+    JustCount::from(table_ask::ask_count(table, glyphs))
 }
 
 // The row count and the class count of a direction's machine.
@@ -331,7 +345,7 @@ pub extern "C" fn just_table_count(table: &[u8], glyphs: u32) -> JustCount
 pub extern "C" fn just_table_sizes(table: &[u8], glyphs: u32, direction: u32) -> JustSizes
     ensures { result ≡ sizes_in (unless_bad (table_fault table.now glyphs) (ask (meaning_of table.now glyphs) (along (direction_in direction) sizes))) }
 {
-    sizes_out(table_ask::ask_sizes(table, glyphs, types::direction_in(direction)))
+    JustSizes::from(table_ask::ask_sizes(table, glyphs, Direction::from(direction)))
 }
 
 // The class of a glyph.
@@ -344,7 +358,7 @@ pub extern "C" fn just_table_class(
 ) -> JustClass
     ensures { result ≡ class_in (unless_bad (table_fault table.now glyphs) (ask (meaning_of table.now glyphs) (along (direction_in direction) (class glyph)))) }
 {
-    class_out(table_ask::ask_class(table, glyphs, types::direction_in(direction), glyph))
+    JustClass::from(table_ask::ask_class(table, glyphs, Direction::from(direction), glyph))
 }
 
 // What the cell of a row and a class holds.
@@ -358,7 +372,7 @@ pub extern "C" fn just_table_cell(
 ) -> JustCell
     ensures { result ≡ cell_in (unless_bad (table_fault table.now glyphs) (ask (meaning_of table.now glyphs) (along (direction_in direction) (cell row class)))) }
 {
-    cell_out(table_ask::ask_cell(table, glyphs, types::direction_in(direction), row, class))
+    JustCell::from(table_ask::ask_cell(table, glyphs, Direction::from(direction), row, class))
 }
 
 // The width record of a glyph and a class.
@@ -372,7 +386,7 @@ pub extern "C" fn just_table_record(
 ) -> JustRecord
     ensures { result ≡ record_in (unless_bad (table_fault table.now glyphs) (ask (meaning_of table.now glyphs) (along (direction_in direction) (width glyph class)))) }
 {
-    record_out(table_ask::ask_record(table, glyphs, types::direction_in(direction), glyph, class))
+    JustRecord::from(table_ask::ask_record(table, glyphs, Direction::from(direction), glyph, class))
 }
 
 // The value of a glyph in a lookup, and how many units a find of it looks at; 0 is the width lookup, any other number the
@@ -387,9 +401,9 @@ pub extern "C" fn just_table_value(
 ) -> JustValue
     ensures { result ≡ value_in (value_asked table.now glyphs (direction_in direction) (kind_in lookup) glyph) }
 {
-    let along = types::direction_in(direction);
-    let kind = table_find::kind_in(lookup);
-    table_find::value_out(table_find::ask_value(table, glyphs, along, kind, glyph))
+    let along = Direction::from(direction);
+    let kind = Kind::from(lookup);
+    JustValue::from(table_find::ask_value(table, glyphs, along, kind, glyph))
 }
 
 // How many units a lookup has for a find, and the bound on a find's looks there.
@@ -402,9 +416,9 @@ pub extern "C" fn just_table_units(
 ) -> JustUnits
     ensures { result ≡ units_out (units_asked table.now glyphs (direction_in direction) (kind_in lookup)) }
 {
-    let along = types::direction_in(direction);
-    let kind = table_find::kind_in(lookup);
-    table_find::units_out(table_find::ask_units(table, glyphs, along, kind))
+    let along = Direction::from(direction);
+    let kind = Kind::from(lookup);
+    JustUnits::from(table_find::ask_units(table, glyphs, along, kind))
 }
 
 // The action of a glyph and a number.
@@ -418,7 +432,13 @@ pub extern "C" fn just_table_action(
 ) -> JustAction
     ensures { result ≡ action_in (unless_bad (table_fault table.now glyphs) (ask (meaning_of table.now glyphs) (along (direction_in direction) (action glyph number)))) }
 {
-    action_out(table_ask::ask_action(table, glyphs, types::direction_in(direction), glyph, number))
+    JustAction::from(table_ask::ask_action(
+        table,
+        glyphs,
+        Direction::from(direction),
+        glyph,
+        number,
+    ))
 }
 
 // Where a component list stands in the table: the offset of its first glyph, and its length in bytes, 0 where there
@@ -436,21 +456,13 @@ pub extern "C" fn just_table_components(
     let stretch = table_ask::component_stretch(
         table,
         glyphs,
-        types::direction_in(direction),
+        Direction::from(direction),
         glyph,
         number,
     );
-    let from = stretch.from;
-    let to = stretch.to;
-    if to <= from {
-        return JustStretch {
-            offset: from,
-            length: 0,
-        };
-    }
     JustStretch {
-        offset: from,
-        length: to - from,
+        offset: stretch.from,
+        length: stretch.to.saturating_sub(stretch.from),
     }
 }
 
@@ -460,7 +472,7 @@ pub extern "C" fn just_table_components(
 pub extern "C" fn just_open_font(font: &[u8]) -> JustFont
     ensures { result ≡ font_in (font_opened font.now) }
 {
-    font_open::font_out(font_open::open_font(font))
+    JustFont::from(font_open::open_font(font))
 }
 
 // How long the sheet of a table is, in bytes: as much room as writing it needs.
@@ -468,7 +480,7 @@ pub extern "C" fn just_open_font(font: &[u8]) -> JustFont
 pub extern "C" fn just_table_sheet_length(table: &[u8], glyphs: u32) -> JustLength
     ensures { result ≡ length_in (sheet_length table.now glyphs) }
 {
-    length_out(sheet_write::sheet_length(table, glyphs))
+    JustLength::from(sheet_write::sheet_length(table, glyphs))
 }
 
 // Writes the sheet of a table into the first bytes of the room; a refusal changes nothing.
@@ -476,7 +488,7 @@ pub extern "C" fn just_table_sheet_length(table: &[u8], glyphs: u32) -> JustLeng
 pub extern "C" fn just_table_write_sheet(table: &[u8], glyphs: u32, room: &mut [u8]) -> JustLength
     ensures { record { answer = result; room = room.new } ≡ outcome_in (written table.now glyphs room.old) }
 {
-    written_out(sheet_write::write_sheet(table, glyphs, room))
+    JustLength::from(sheet_write::write_sheet(table, glyphs, room))
 }
 
 // Whether bytes are a sheet, or 17.
@@ -484,7 +496,7 @@ pub extern "C" fn just_table_write_sheet(table: &[u8], glyphs: u32, room: &mut [
 pub extern "C" fn just_check_sheet(sheet: &[u8]) -> JustChecked
     ensures { SheetNumber sheet.now result }
 {
-    checked_out(sheet_check::check_sheet(sheet))
+    JustChecked::from(sheet_check::check_sheet(sheet))
 }
 
 // The glyph count of a sheet.
@@ -492,7 +504,7 @@ pub extern "C" fn just_check_sheet(sheet: &[u8]) -> JustChecked
 pub extern "C" fn just_sheet_count(sheet: &[u8]) -> JustCount
     ensures { Given sheet.now glyph_count count_in result }
 {
-    count_out(sheet_ask::ask_count(sheet))
+    JustCount::from(sheet_ask::ask_count(sheet))
 }
 
 // The row count and the class count of a direction's machine.
@@ -500,7 +512,7 @@ pub extern "C" fn just_sheet_count(sheet: &[u8]) -> JustCount
 pub extern "C" fn just_sheet_sizes(sheet: &[u8], direction: u32) -> JustSizes
     ensures { Given sheet.now (along (direction_in direction) sizes) sizes_in result }
 {
-    sizes_out(sheet_ask::ask_sizes(sheet, types::direction_in(direction)))
+    JustSizes::from(sheet_ask::ask_sizes(sheet, Direction::from(direction)))
 }
 
 // The class of a glyph.
@@ -508,7 +520,7 @@ pub extern "C" fn just_sheet_sizes(sheet: &[u8], direction: u32) -> JustSizes
 pub extern "C" fn just_sheet_class(sheet: &[u8], direction: u32, glyph: u16) -> JustClass
     ensures { Given sheet.now (along (direction_in direction) (class glyph)) class_in result }
 {
-    class_out(sheet_ask::ask_class(sheet, types::direction_in(direction), glyph))
+    JustClass::from(sheet_ask::ask_class(sheet, Direction::from(direction), glyph))
 }
 
 // What the cell of a row and a class holds.
@@ -516,7 +528,7 @@ pub extern "C" fn just_sheet_class(sheet: &[u8], direction: u32, glyph: u16) -> 
 pub extern "C" fn just_sheet_cell(sheet: &[u8], direction: u32, row: u16, class: u16) -> JustCell
     ensures { Given sheet.now (along (direction_in direction) (cell row class)) cell_in result }
 {
-    cell_out(sheet_ask::ask_cell(sheet, types::direction_in(direction), row, class))
+    JustCell::from(sheet_ask::ask_cell(sheet, Direction::from(direction), row, class))
 }
 
 // The width record of a glyph and a class.
@@ -529,7 +541,7 @@ pub extern "C" fn just_sheet_record(
 ) -> JustRecord
     ensures { Given sheet.now (along (direction_in direction) (width glyph class)) record_in result }
 {
-    record_out(sheet_ask::ask_record(sheet, types::direction_in(direction), glyph, class))
+    JustRecord::from(sheet_ask::ask_record(sheet, Direction::from(direction), glyph, class))
 }
 
 // The action of a glyph and a number.
@@ -542,7 +554,7 @@ pub extern "C" fn just_sheet_action(
 ) -> JustAction
     ensures { Given sheet.now (along (direction_in direction) (action glyph number)) action_in result }
 {
-    action_out(sheet_ask::ask_action(sheet, types::direction_in(direction), glyph, number))
+    JustAction::from(sheet_ask::ask_action(sheet, Direction::from(direction), glyph, number))
 }
 
 // How many differences two tables have that are read with one glyph count.
@@ -554,7 +566,7 @@ pub extern "C" fn just_difference_count<'a>(
 ) -> JustCount
     ensures { result ≡ count_in (differences_counted one.now other.now glyphs) }
 {
-    count_out(diff_call::difference_count(one, other, glyphs))
+    JustCount::from(diff_call::difference_count(one, other, glyphs))
 }
 
 // Lists the differences of two tables, five numbers each, and answers how many; or answers a refusal and changes nothing.
@@ -567,5 +579,5 @@ pub extern "C" fn just_differences<'a>(
 ) -> JustCount
     ensures { record { answer = result; room = list.new } ≡ listed_in (differences_listed one.now other.now glyphs list.old) }
 {
-    count_out(diff_call::differences(one, other, glyphs, list))
+    JustCount::from(diff_call::differences(one, other, glyphs, list))
 }

@@ -9,9 +9,10 @@ ghost use Rattle.line_rule.specs.Shape.{line_by};
 ghost use Rattle.line_call.specs.Settle.{lent_by};
 ghost use Rattle.just_line.specs.LineInC.{shape_in, line_in, called_in, called_is};
 
-use line_call::LineAnswer;
+use fields::Fault;
+use line_call::Justified;
 use line_rule::LineShape;
-use types::Verdict;
+use types::{Direction, Verdict};
 
 // The remainder in units, the count of entries that the class walk took, and the count of verdicts.
 #[repr(C)]
@@ -28,9 +29,8 @@ pub struct JustLine {
 fn shape_in(direction: u32, starts: bool, ends: bool, edition: u32, target: i32) -> LineShape
     ensures { result ≡ shape_in direction starts ends edition target }
 {
-    let along = types::direction_in(direction);
     LineShape {
-        direction: along,
+        direction: Direction::from(direction),
         starts,
         ends,
         target,
@@ -38,28 +38,26 @@ fn shape_in(direction: u32, starts: bool, ends: bool, edition: u32, target: i32)
     }
 }
 
-fn line_out(answer: LineAnswer) -> JustLine
-    ensures { result ≡ line_in (says_line answer) }
-{
-    match answer {
-        LineAnswer::Justified {
-            remainder,
-            entries,
-            verdicts,
-        } => JustLine {
-            refusal: 0,
-            offset: 0,
-            remainder,
-            entries,
-            verdicts,
-        },
-        LineAnswer::Refused { refusal, at } => JustLine {
-            refusal: fields::number_of(refusal),
-            offset: at as u64,
-            remainder: 0,
-            entries: 0,
-            verdicts: 0,
-        },
+impl From<Result<Justified, Fault>> for JustLine {
+    ghost from_gives = { λ answer line. line ≡ line_in (says_line answer) };
+
+    fn from(answer: Result<Justified, Fault>) -> JustLine {
+        match answer {
+            Ok(justified) => JustLine {
+                refusal: 0,
+                offset: 0,
+                remainder: justified.remainder,
+                entries: justified.entries,
+                verdicts: justified.verdicts,
+            },
+            Err(fault) => JustLine {
+                refusal: u32::from(fault.refusal),
+                offset: fault.at as u64,
+                remainder: 0,
+                entries: 0,
+                verdicts: 0,
+            },
+        }
     }
 }
 
@@ -90,5 +88,5 @@ pub extern "C" fn just_justify<'a, 'v>(
     let answer = line_justify::justify(
         table, count, shape, sizes, glyphs, advances, classes, before, after, verdicts,
     );
-    line_out(answer)
+    JustLine::from(answer)
 }

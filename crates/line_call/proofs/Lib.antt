@@ -1,4 +1,3 @@
-pub mod Copies
 pub mod Work
 pub mod Outcomes
 pub mod Theorems

@@ -1,19 +1,18 @@
 -- From the stretches of a line's call to the whole: what bars it, and what is settled.
 use Prim.Native.Nat.{ℕ, zero, suc, ◌*◌, ◌≤◌, ◌<◌}
-use mathlib.Core.Path.{◌≡◌, refl, sym, ap, ap₂, ◌∙◌, subst}
+use mathlib.Core.Path.{◌≡◌, refl, sym, ap, ◌∙◌, subst}
 use mathlib.Core.Bool.{Bool}
 use mathlib.Core.List.{List, [], ◌∷◌, ◌++◌, map}
 use native.Mathlib.Omega.{arith}
 use lib.IntN.{ℤ}
-use lib.ListN.{length, take, get_or, replicate, length-append, length-replicate}
+use lib.ListN.{length, take, get_or, length-append}
 use lib.Seq.{take-append-le, take_at}
-use borrow.Author.Tests.{le-leb, lt-leb, leb-true}
-use Rattle.fields.specs.declared.Refusal.{Refusal}
+use lib.Dec.{leb}
+use borrow.Author.Tests.{leb-true}
 use Rattle.fields.specs.declared.Refusal.TheVariants.{UnequalLengths, LongLine, PointSize, ShortRoom}
 use Rattle.fields.specs.declared.Fault.{Fault}
-use Rattle.fields.specs.declared.Fault.TheVariants.{Clear, Bad}
-use Rattle.fields.specs.Faults.{◌then◌}
-use Rattle.fields.proofs.Laws.{then-assoc, then-first, then-second, then-stop, then-go, rule-holds, rule-clear, rule-fails}
+use Rattle.fields.specs.Faults.{FirstFault, Clear, ◌then◌, rule}
+use Rattle.fields.proofs.Laws.{then-assoc, then-first, then-second, then-stop, then-go, rule-holds}
 use Rattle.types.specs.declared.Verdict.{Verdict}
 use Rattle.meaning.specs.Meaning.{Side}
 use Rattle.meaning.specs.Ask.{side_of}
@@ -26,14 +25,13 @@ use Rattle.line_verdicts.specs.Moves.{moved, HasMoves}
 use Rattle.line_verdicts.specs.Lines.{verdicts_in, KeepsLine}
 use Rattle.line_verdicts.proofs.Told.{told-begins}
 use Rattle.line_verdicts.proofs.Laws.{verdicts-few}
-use Rattle.line_call.specs.declared.Settled.{Settled}
+use Rattle.line_call.specs.declared.Justified.{Justified}
 use Rattle.line_call.specs.declared.Tally.{Tally}
-use Rattle.line_call.specs.declared.Worked.{Worked}
-use Rattle.line_call.specs.declared.Worked.TheVariants as worked
+use Rattle.std.proofs.Common.{Result, Ok, Err}
 use Rattle.line_call.specs.Justified.{justifies, room_test, worked_fault, line_fault, settled, justified}
-use Rattle.line_call.specs.Settle.{lent_by, settlement_is, settlement_in, BitRoom, Tells}
+use Rattle.line_call.specs.Settle.{lent_by, settlement_is, settlement_in, stored_by, BitRoom, Tells}
 use Rattle.line_input.specs.Steps.{input_fault}
-use Rattle.line_call.specs.Steps.{Admitted, work_fault, rest_fault, worked_by, MovesOf, WorkedOut, Counted, LineRoom, refused_by, Deliverable, Delivered, SettledIn}
+use Rattle.line_call.specs.Steps.{Admitted, work_fault, rest_fault, worked_by, MovesOf, WorkedOut, Counted, LineRoom, Deliverable, Delivered, SettledIn}
 use Rattle.line_input.proofs.Tests.{lengths-hold, sizes-small}
 use Rattle.line_call.proofs.Work.{barred}
 
@@ -43,8 +41,8 @@ tells_none : (vs : List Verdict) (work : List ℕ) → Tells 0 vs work
 tells_none vs work = record { most = omega arith; begins = refl }
 
 -- a refusal stores none
-pub tells-refused : {r : Refusal} {at : ℕ} {answer : Settled} (vs : List Verdict) (work : List ℕ) → answer ≡ refused_by r at → Tells answer.stored vs work
-tells-refused vs work a = subst (λ (x : Settled). Tells x.stored vs work) (sym a) (tells_none vs work)
+pub tells-refused : {x : Fault} {answer : Result Justified Fault} (vs : List Verdict) (work : List ℕ) → answer ≡ Err x → Tells (stored_by answer) vs work
+tells-refused vs work a = subst (λ (x : Result Justified Fault). Tells (stored_by x) vs work) (sym a) (tells_none vs work)
 
 -- all of them; of none nothing is told
 tells_all : (n : ℕ) (vs : List Verdict) (work : List ℕ) → n ≡ length vs → (0 < n → told work ≡ vs) → Tells n vs work
@@ -69,13 +67,13 @@ tells-longer {k} {vs} n work rest e w =
 
 -- ---- what an answer says
 
-module _ {f : Fault} {v : ℕ} {s : Side} {l : Line} {w : Worked} {cs ms : List ℕ} (o : WorkedOut f v s l w cs ms) where
-  worked-bad : (r : Refusal) (at : ℕ) → w ≡ worked.Bad r at → f ≡ Bad r at
-  worked-bad r at q = go f (sym q ∙ o.says)
+module _ {f : FirstFault} {v : ℕ} {s : Side} {l : Line} {w : Result Tally Fault} {cs ms : List ℕ} (o : WorkedOut f v s l w cs ms) where
+  worked-bad : (x : Fault) → w ≡ Err x → f ≡ Err x
+  worked-bad x q = go f (sym q ∙ o.says)
     where
-      go : (f : Fault) → worked.Bad r at ≡ worked_by f v s l → f ≡ Bad r at
-      go Clear e = let z : ◌≡◌ {A = ℕ} 0 1 = cc in absurd (omega arith)
-      go (Bad q p) e = let g : q ≡ r = cc in let k : p ≡ at = cc in ap₂ Bad g k
+      go : (f : FirstFault) → Err x ≡ worked_by f v s l → f ≡ Err x
+      go (Ok u) e = cc
+      go (Err y) e = cc
 
   -- a line that nothing bars, and what is worked out of it
   record WorkedClear (tally : Tally) : Type 0 where
@@ -89,11 +87,11 @@ module _ {f : Fault} {v : ℕ} {s : Side} {l : Line} {w : Worked} {cs ms : List 
     after : map (signed_of tally.shrink) (odds ms) ≡ after_of s l
     moves : MovesOf s l ms
 
-  worked-clear : (tally : Tally) → w ≡ worked.Done tally → WorkedClear tally
+  worked-clear : (tally : Tally) → w ≡ Ok tally → WorkedClear tally
   worked-clear tally q = go f refl (sym q ∙ o.says)
     where
-      go : (g : Fault) → f ≡ g → worked.Done tally ≡ worked_by g v s l → WorkedClear tally
-      go Clear c e =
+      go : (g : FirstFault) → f ≡ g → Ok tally ≡ worked_by g v s l → WorkedClear tally
+      go (Ok u) c e =
           let h : tally ≡ record { shrink = shrinks l; remainder = remainder_of s l; entries = entries_of (walk_of s.machine l); verdicts = v } = cc in
           let b = ap (λ (x : Tally). x.shrink) h in
           record {
@@ -107,23 +105,22 @@ module _ {f : Fault} {v : ℕ} {s : Side} {l : Line} {w : Worked} {cs ms : List 
             after = ap (λ (t : Bool). map (signed_of t) (odds ms)) b ∙ (o.moves c).after;
             moves = o.moves c;
           }
-      go (Bad r at) c e = let z : ◌≡◌ {A = ℕ} 0 1 = cc in absurd (omega arith)
+      go (Err x) c e = cc
 
 -- ---- 16
 
 module _ (s : Side) (n : ℕ) (l : Line) (room : ℕ) where
-  counted-barred : {w : Worked} {cs ms work : List ℕ} (r : Refusal) (at : ℕ) → w ≡ worked.Bad r at → rest_fault s n l room ≡ Bad r at
-      → Counted s n l room w cs ms work
-  counted-barred r at q e = record { out = barred s l r at q e; tells = λ c. let z : ◌≡◌ {A = ℕ} 0 1 = cc in absurd (omega arith) }
+  counted-barred : {w : Result Tally Fault} {cs ms work : List ℕ} (x : Fault) → w ≡ Err x → rest_fault s n l room ≡ Err x → Counted s n l room w cs ms work
+  counted-barred x q e = record { out = barred s l x q e; tells = λ c. cc }
 
-  module _ {w : Worked} {cs ms : List ℕ} (o : WorkedOut (work_fault s n l) 0 s l w cs ms) where
+  module _ {w : Result Tally Fault} {cs ms : List ℕ} (o : WorkedOut (work_fault s n l) 0 s l w cs ms) where
     -- what bars the line before bars it still
-    pub counted-bad : {work : List ℕ} (r : Refusal) (at : ℕ) → w ≡ worked.Bad r at → Counted s n l room w cs ms work
-    counted-bad {work} r at q =
-        let e = worked-bad o r at q in
-        counted-barred r at q (then-stop (room_test s l room) e ∙ e)
+    pub counted-bad : {a : Result Tally Fault} {xs ys work : List ℕ} (x : Fault) → w ≡ Err x → a ≡ Err x → Counted s n l room a xs ys work
+    counted-bad {a} {xs} {ys} {work} x q b =
+        let e = worked-bad o x q in
+        counted-barred x b (then-stop (room_test s l room) e ∙ e)
 
-    module _ (tally : Tally) (q : w ≡ worked.Done tally) where
+    module _ (tally : Tally) (q : w ≡ Ok tally) where
       -- what the verdicts are asked of
       pub has-moves : {t : List ℕ} {m : ℕ} (sizes glyphs : List ℕ) → Admitted t m sizes glyphs → length cs ≡ length glyphs → length ms ≡ 2 * length glyphs
           → HasMoves t m sizes cs ms glyphs
@@ -147,21 +144,24 @@ module _ (s : Side) (n : ℕ) (l : Line) (room : ℕ) where
         counted-all : v ≡ length (verdicts_of s l)
         counted-all = k.counted ∙ ap (λ (vs : List Verdict). length vs) verdicts-are
 
-        pub counted-short : {a : Worked} {xs ys : List ℕ} → room < v → a ≡ worked.Bad ShortRoom 0 → Counted s n l room a xs ys work
-        counted-short {a} {xs} {ys} h b =
-            counted-barred ShortRoom 0 b (fault ∙ rule-fails ShortRoom 0 (lt-leb (length (verdicts_of s l)) room (omega (arith, counted-all))))
+        -- 16, on the number that was counted
+        counted-room : rest_fault s n l room ≡ rule (leb v room) ShortRoom 0
+        counted-room = fault ∙ ap (λ (k : ℕ). rule (leb k room) ShortRoom 0) (sym counted-all)
 
-        pub counted-done : {b : Bool} {z : ℤ} {m : ℕ} → v ≤ room → b ≡ tally.shrink → z ≡ tally.remainder → m ≡ tally.entries
-            → Counted s n l room (worked.Done (record { shrink = b; remainder = z; entries = m; verdicts = v })) cs ms work
+        pub counted-short : {a : Result Tally Fault} {xs ys : List ℕ} (x : Fault) → rule (leb v room) ShortRoom 0 ≡ Err x → a ≡ Err x → Counted s n l room a xs ys work
+        counted-short x h b = counted-barred x b (counted-room ∙ h)
+
+        pub counted-done : {b : Bool} {z : ℤ} {m : ℕ} → rule (leb v room) ShortRoom 0 ≡ Clear → b ≡ tally.shrink → z ≡ tally.remainder → m ≡ tally.entries
+            → Counted s n l room (Ok (record { shrink = b; remainder = z; entries = m; verdicts = v })) cs ms work
         counted-done {b} {z} {m} h eb ez em =
             let c = worked-clear o tally q in
-            let e : rest_fault s n l room ≡ Clear = fault ∙ rule-clear ShortRoom 0 (le-leb (length (verdicts_of s l)) room (omega (arith, counted-all))) in
+            let e : rest_fault s n l room ≡ Clear = counted-room ∙ h in
             record {
               out =
                   record {
                     says =
-                        (λ i. worked.Done (record { shrink = (eb ∙ c.signs) i; remainder = (ez ∙ c.left) i; entries = (em ∙ c.count) i; verdicts = counted-all i }))
-                        ∙ ap (λ (f : Fault). worked_by f (length (verdicts_of s l)) s l) (sym e);
+                        (λ i. Ok (record { shrink = (eb ∙ c.signs) i; remainder = (ez ∙ c.left) i; entries = (em ∙ c.count) i; verdicts = counted-all i }))
+                        ∙ ap (λ (f : FirstFault). worked_by f (length (verdicts_of s l)) s l) (sym e);
                     classes = λ f. c.classes;
                     moves = λ f. c.moves;
                   };
@@ -172,27 +172,27 @@ module _ (s : Side) (n : ℕ) (l : Line) (room : ℕ) where
 
 module _ (s : Side) (n : ℕ) (l : Line) (room : ℕ) (cs : List ℕ) (bs fs : List ℤ) where
   -- a fault bars the line and changes nothing
-  outcome-bad : {f : Fault} {answer : Settled} (r : Refusal) (at : ℕ) → f ≡ Bad r at → answer ≡ refused_by r at → (verdicts : List Verdict)
+  outcome-bad : {f : FirstFault} {answer : Result Justified Fault} (x : Fault) → f ≡ Err x → answer ≡ Err x → (verdicts : List Verdict)
       → settlement_is answer cs bs fs ≡ settlement_in (settled f s l (lent_by cs bs fs verdicts))
-  outcome-bad {f} {answer} r at e a verdicts =
-      ap (λ (x : Settled). settlement_is x cs bs fs) a ∙ ap (λ (f : Fault). settlement_in (settled f s l (lent_by cs bs fs verdicts))) (sym e)
+  outcome-bad {f} {answer} x e a verdicts =
+      ap (λ (y : Result Justified Fault). settlement_is y cs bs fs) a ∙ ap (λ (f : FirstFault). settlement_in (settled f s l (lent_by cs bs fs verdicts))) (sym e)
 
-  pub settled-bad : {w : Worked} {held ms work : List ℕ} {answer : Settled} (r : Refusal) (at : ℕ) → w ≡ worked.Bad r at → Counted s n l room w held ms work → answer ≡ refused_by r at
+  pub settled-bad : {w : Result Tally Fault} {held ms work : List ℕ} {answer : Result Justified Fault} (x : Fault) → w ≡ Err x → Counted s n l room w held ms work → answer ≡ Err x
       → SettledIn s n l room cs bs fs answer cs bs fs work
-  settled-bad {w} {held} {ms} {work} {answer} r at q o a =
-      record { settles = outcome-bad r at (worked-bad o.out r at q) a; tells = tells-refused (verdicts_of s l) work a }
+  settled-bad {w} {held} {ms} {work} {answer} x q o a =
+      record { settles = outcome-bad x (worked-bad o.out x q) a; tells = tells-refused (verdicts_of s l) work a }
 
-  module _ {w : Worked} {held ms work : List ℕ} (o : Counted s n l room w held ms work) (tally : Tally) (q : w ≡ worked.Done tally) where
-    pub settled-done : {answer : Settled} {cs' : List ℕ} {bs' fs' : List ℤ} → Delivered tally held ms answer cs' bs' fs'
-        → SettledIn s n l room cs bs fs answer cs' bs' fs' work
+  module _ {w : Result Tally Fault} {held ms work : List ℕ} (o : Counted s n l room w held ms work) (tally : Tally) (q : w ≡ Ok tally) where
+    pub settled-done : {answer : Justified} {cs' : List ℕ} {bs' fs' : List ℤ} → Delivered tally held ms answer cs' bs' fs'
+        → SettledIn s n l room cs bs fs (Ok answer) cs' bs' fs' work
     settled-done {answer} {cs'} {bs'} {fs'} d =
         let c = worked-clear o.out tally q in
         record {
           settles = λ verdicts.
-              (λ i. settlement_is (d.says i) (d.classes i) (d.before i) (d.after i))
-              ∙ (λ i. record { answer = justifies (c.left i) (c.count i) (c.verdicts i); stored = c.verdicts i; classes = c.classes i; before = c.before i; after = c.after i })
-              ∙ ap (λ (f : Fault). settlement_in (settled f s l (lent_by cs bs fs verdicts))) (sym c.clear);
-          tells = subst (λ (k : ℕ). Tells k (verdicts_of s l) work) (sym (ap (λ (x : Settled). x.stored) d.says ∙ c.verdicts)) (o.tells c.clear);
+              (λ i. settlement_is (Ok (d.says i)) (d.classes i) (d.before i) (d.after i))
+              ∙ (λ i. record { answer = justifies (c.left i) (c.count i) (c.verdicts i); classes = c.classes i; before = c.before i; after = c.after i })
+              ∙ ap (λ (f : FirstFault). settlement_in (settled f s l (lent_by cs bs fs verdicts))) (sym c.clear);
+          tells = subst (λ (k : ℕ). Tells k (verdicts_of s l) work) (sym (ap (λ (x : Justified). x.verdicts) d.says ∙ c.verdicts)) (o.tells c.clear);
         }
 
     -- there are not more verdicts than 32 bits hold
@@ -218,10 +218,10 @@ module _ (t : List ℕ) (n : ℕ) (l : Line) (cs : List ℕ) (bs fs : List ℤ) 
   s : Side
   s = side_of l.direction (meaning_of t n)
 
-  abbrev input : Fault
+  abbrev input : FirstFault
   input = input_fault t n l (length cs ∷ length bs ∷ length fs ∷ [])
 
-  chain : (a b c d e f g h i j : Fault)
+  chain : (a b c d e f g h i j : FirstFault)
       → ((a then b then c then d then e then f then g then h then i) then j) ≡ ((a then b then c then d then e) then ((f then g then h then i) then j))
   chain a b c d e f g h i j = simp then-assoc
 
@@ -229,19 +229,19 @@ module _ (t : List ℕ) (n : ℕ) (l : Line) (cs : List ℕ) (bs fs : List ℤ) 
   unfolding line_fault worked_fault input_fault work_fault s
   split verdicts = chain _ _ _ _ _ _ _ _ _ _
 
-  pub whole-bad : (r : Refusal) (at : ℕ) {f : Fault} {answer : Settled} → f ≡ input → f ≡ Bad r at → answer ≡ refused_by r at → (verdicts : List Verdict)
+  pub whole-bad : (x : Fault) {f : FirstFault} {answer : Result Justified Fault} → f ≡ input → f ≡ Err x → answer ≡ Err x → (verdicts : List Verdict)
       → settlement_is answer cs bs fs ≡ settlement_in (justified t n l (lent_by cs bs fs verdicts))
   unfolding justified s
-  whole-bad r at {f} {answer} e q a verdicts =
-      let b : input ≡ Bad r at = sym e ∙ q in
-      outcome-bad s n l (length verdicts) cs bs fs r at (split verdicts ∙ then-stop _ b ∙ b) a verdicts
+  whole-bad x {f} {answer} e q a verdicts =
+      let b : input ≡ Err x = sym e ∙ q in
+      outcome-bad s n l (length verdicts) cs bs fs x (split verdicts ∙ then-stop _ b ∙ b) a verdicts
 
   -- what holds where the table's refusals, 9, 10, 18 and 11 do not bar the line
   pub record Input : Type 0 where
     pub judged : Admitted t n l.sizes l.glyphs
     pub room : LineRoom (length l.glyphs) cs bs fs
 
-  pub input-clear : {f : Fault} → f ≡ input → f ≡ Clear → Input
+  pub input-clear : {f : FirstFault} → f ≡ input → f ≡ Clear → Input
   unfolding input_fault
   input-clear {f} e q =
       let a : input_fault t n l (length cs ∷ length bs ∷ length fs ∷ []) ≡ Clear = sym e ∙ q in
@@ -258,14 +258,14 @@ module _ (t : List ℕ) (n : ℕ) (l : Line) (cs : List ℕ) (bs fs : List ℤ) 
         room = record { classes = long.2; before = long.3; after = long.4 };
       }
 
-  pub whole-clear : (answer : Settled) {f : Fault} {room : ℕ} {cs' : List ℕ} {bs' fs' : List ℤ} {work : List ℕ} → f ≡ input → f ≡ Clear
+  pub whole-clear : (answer : Result Justified Fault) {f : FirstFault} {room : ℕ} {cs' : List ℕ} {bs' fs' : List ℤ} {work : List ℕ} → f ≡ input → f ≡ Clear
       → SettledIn (side_of l.direction (meaning_of t n)) n l room cs bs fs answer cs' bs' fs' work → (verdicts : List Verdict) → length verdicts ≡ room
       → settlement_is answer cs' bs' fs' ≡ settlement_in (justified t n l (lent_by cs bs fs verdicts))
   unfolding justified s
   whole-clear answer {f} {room} {cs'} {bs'} {fs'} {work} e q w verdicts h =
       w.settles verdicts
       ∙ ap (λ (x : ℕ). settlement_in (settled (rest_fault s n l x) s l (lent_by cs bs fs verdicts))) (sym h)
-      ∙ ap (λ (g : Fault). settlement_in (settled g s l (lent_by cs bs fs verdicts))) (sym (split verdicts ∙ then-go _ (sym e ∙ q)))
+      ∙ ap (λ (g : FirstFault). settlement_in (settled g s l (lent_by cs bs fs verdicts))) (sym (split verdicts ∙ then-go _ (sym e ∙ q)))
 
 -- ---- slices and local arrays, lent in part
 
@@ -277,6 +277,3 @@ pub part_length : {A : Type 0} (xs : List A) (n : ℕ) → n ≤ length xs → n
 part_length xs zero h = refl
 part_length [] (suc n) h = absurd (omega arith)
 part_length (x ∷ xs) (suc n) h = ap suc (part_length xs n (omega arith))
-
-pub prefix-length : {A : Type 0} (x : A) (m n : ℕ) → n ≤ m → n ≡ length (take n (replicate m x))
-prefix-length x m n h = part_length (replicate m x) n (omega (arith, length-replicate m x))

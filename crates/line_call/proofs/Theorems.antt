@@ -13,8 +13,9 @@ use lib.Signed.{lt_z}
 use lib.ListN.{length, get_or, length-map}
 use borrow.Author.Tests.{leb-true, eq-eqb, ne_eqb, le-ltb}
 use Rattle.fields.specs.declared.Refusal.TheVariants.{UnequalLengths, LongLine, UnknownGlyph, EndlessWalk, ShortRoom}
-use Rattle.fields.specs.declared.Fault.{Fault}
-use Rattle.fields.specs.declared.Fault.TheVariants.{Clear, Bad}
+use Rattle.fields.specs.Faults.{FirstFault}
+use Rattle.std.specs.Prelude.{Ok, Err}
+use Rattle.fields.specs.Faults.{Clear}
 use Rattle.fields.proofs.Laws.{then-first, then-second, rule-holds}
 use Rattle.meaning.specs.Meaning.{Side, Machine}
 use Rattle.meaning.specs.Limits.{OkEntry, OkMachine}
@@ -45,9 +46,9 @@ pub refused-unchanged : (t : List ℕ) (n : ℕ) (l : Line) (b : Lent) (number a
 unfolding justified
 refused-unchanged t n l b number at e = go (line_fault t n l b) e
   where
-    go : (f : Fault) → (settled f (side_of l.direction (meaning_of t n)) l b).answer ≡ refuses number at → (settled f (side_of l.direction (meaning_of t n)) l b).lent ≡ b
-    go Clear e = let z : ◌≡◌ {A = ℕ} 0 1 = cc in absurd (omega arith)
-    go (Bad q at) e = refl
+    go : (f : FirstFault) → (settled f (side_of l.direction (meaning_of t n)) l b).answer ≡ refuses number at → (settled f (side_of l.direction (meaning_of t n)) l b).lent ≡ b
+    go (Ok u) e = cc
+    go (Err f) e = refl
 
 -- a call answers with numbers exactly where nothing bars it
 module _ (t : List ℕ) (n : ℕ) (l : Line) (b : Lent) where
@@ -67,17 +68,17 @@ module _ (t : List ℕ) (n : ℕ) (l : Line) (b : Lent) where
   unfolding justified
   answered z k v e = go (line_fault t n l b) refl e
     where
-      go : (f : Fault) → line_fault t n l b ≡ f → (settled f side l b).answer ≡ justifies z k v → Answered z k v
-      go (Bad q at) w e = let z : ◌≡◌ {A = ℕ} 0 1 = cc in absurd (omega arith)
-      go Clear w e =
+      go : (f : FirstFault) → line_fault t n l b ≡ f → (settled f side l b).answer ≡ justifies z k v → Answered z k v
+      go (Err f) w e = cc
+      go (Ok u) w e =
           record {
             clear = w;
             remainder = cc;
             entries = cc;
             verdicts = cc;
-            classes = ap (λ (f : Fault). (settled f side l b).lent.classes) w;
-            before = ap (λ (f : Fault). (settled f side l b).lent.before) w;
-            after = ap (λ (f : Fault). (settled f side l b).lent.after) w;
+            classes = ap (λ (f : FirstFault). (settled f side l b).lent.classes) w;
+            before = ap (λ (f : FirstFault). (settled f side l b).lent.before) w;
+            after = ap (λ (f : FirstFault). (settled f side l b).lent.after) w;
           }
 
   -- ---- the gap
@@ -131,9 +132,9 @@ module _ (t : List ℕ) (n : ℕ) (l : Line) (b : Lent) where
   unfolding justified
   stored-fits = go (line_fault t n l b) refl
     where
-      go : (f : Fault) → line_fault t n l b ≡ f → stored_in (settled f side l b).answer ≤ length b.verdicts
-      go Clear e = last-clear e
-      go (Bad r at) e = omega arith
+      go : (f : FirstFault) → line_fault t n l b ≡ f → stored_in (settled f side l b).answer ≤ length b.verdicts
+      go (Ok u) e = last-clear e
+      go (Err f) e = omega arith
 
   -- what a line that nothing bars has: an accepted table, and a class and two movements for each of at most 1,024 glyphs
   pub record Cleared : Type 0 where
@@ -146,7 +147,7 @@ module _ (t : List ℕ) (n : ℕ) (l : Line) (b : Lent) where
     pub after : length (after_of side l) ≡ length l.glyphs
 
   each-class : (w : Walk) → walk_of side.machine l ≡ w → has_stopped w ≡ true → length (classes_of w) ≡ length l.glyphs
-  each-class (going c) e h = let z : ◌≡◌ {A = ℕ} 0 1 = cc in absurd (omega arith)
+  each-class (going c) e h = cc
   each-class (stopped cs k) e h = walk-length side.machine l cs k e
 
   worked-clear : line_fault t n l b ≡ Clear → worked_fault t n l (lengths_of b) ≡ Clear
@@ -244,7 +245,7 @@ module _ (n : ℕ) (m : Machine) (ok : OkMachine n m) (l : Line) (known : KnownG
       go : (w : Walk) → walk_of (some m) l ≡ w → has_stopped w ≡ true
           → Ends (walk_machine m) (line_of (map (column_of m) l.glyphs) l.starts l.ends) (classes_of w) (entries_of w)
           × (entries_of w ≤ m.rows * (length l.glyphs + 1))
-      go (going c) e h = let z : ◌≡◌ {A = ℕ} 0 1 = cc in absurd (omega arith)
+      go (going c) e h = cc
       go (stopped cs k) e h =
           let w = walked-ends (walk_machine m) (line_of (map (column_of m) l.glyphs) l.starts l.ends) cs k e in
           let q = (ends-within (walk_machine m) (line_of (map (column_of m) l.glyphs) l.starts l.ends) (walk-fits n m ok l.glyphs known l.starts l.ends) cs k w).0 in
@@ -258,4 +259,4 @@ module _ (n : ℕ) (m : Machine) (ok : OkMachine n m) (l : Line) (known : KnownG
       go : (w : Walk) → walk_of (some m) l ≡ w → has_stopped w ≡ false → Never (walk_machine m) (line_of (map (column_of m) l.glyphs) l.starts l.ends)
       go (going c) e h =
           walked-never (walk_machine m) (line_of (map (column_of m) l.glyphs) l.starts l.ends) (walk-fits n m ok l.glyphs known l.starts l.ends) c e
-      go (stopped cs k) e h = let z : ◌≡◌ {A = ℕ} 0 1 = cc in absurd (omega arith)
+      go (stopped cs k) e h = cc

@@ -1,52 +1,33 @@
 // One call for a line (document 01, demand 2): its classes, movements, remainder and verdicts, or the refusal.
-// Here: all of it but the storing of the verdicts, whose number `settle` answers beside the call's answer, and whose
-// bits it leaves in a lent room. No lent class or movement is written before every refusal is judged.
+// Here: all of it but the storing of the verdicts, whose bits `settle` leaves in a lent room. No lent class or movement is written before every refusal is judged.
 #![tactic(auto)]
 
-ghost use Rattle.std.specs.Prelude.{◌≡◌, List, ◌*◌, length};
+ghost use Rattle.std.specs.Prelude.{◌≡◌, List, ◌*◌, ◌≤◌, length};
 ghost use Rattle.types.specs.declared.Verdict.{Verdict};
-ghost use Rattle.meaning.specs.Ask.{side_of};
-ghost use Rattle.table.specs.Means.{meaning_of};
 ghost use Rattle.line_rule.specs.Line.{verdicts_of};
-ghost use Rattle.line_call.specs.declared.Worked.TheVariants.{Bad};
-ghost use Rattle.line_call.specs.Justified.{justified};
-ghost use Rattle.line_rule.specs.Shape.{line_by};
-ghost use Rattle.line_call.specs.Settle.{lent_by, settlement_is, settlement_in, BitRoom, Tells};
-ghost use Rattle.line_call.specs.Steps.{Admitted, work_fault, side_in, called_line, WorkedOut, Counted, WorkRoom, LineRoom, refused_by, Deliverable, Delivered, SettledCall};
+ghost use Rattle.line_rule.specs.Shape.{line_in};
+ghost use Rattle.line_call.specs.Justified.{side_for, justified};
+ghost use Rattle.line_call.specs.Settle.{SameSlices, lent_with, settlement_of, settlement_in, stored_by, BitRoom, Tells};
+ghost use Rattle.line_call.specs.Steps.{Admitted, work_fault, WorkedOut, Counted, WorkRoom, RoomIn, Deliverable, Delivered, SettledCall};
 
 use fields::{Fault, Refusal};
-use line_input::Gap;
-use line_moves::Shared;
-use line_rule::LineShape;
+use line_rule::LineView;
 
-// What a line's call answers: the remainder in units, the count of entries that the class walk took, and the count
-// of verdicts; or the refusal and its offset.
+// What a line's call answers where nothing bars the line: the remainder in units, the count of entries that the class walk took,
+// and the count of verdicts.
 #[derive(Clone, Copy)]
-pub enum LineAnswer {
-    Justified {
-        remainder: i32,
-        entries: u32,
-        verdicts: u32,
-    },
-    Refused {
-        refusal: Refusal,
-        at: usize,
-    },
+pub struct Justified {
+    pub remainder: i32,
+    pub entries: u32,
+    pub verdicts: u32,
 }
 
-// The answer of a line's call, and how many verdicts are still to be stored: none where it is a refusal.
-#[derive(Clone, Copy)]
-pub struct Settled {
-    pub answer: LineAnswer,
-    pub stored: usize,
-}
-
-// What a line's call says beside its slices: the font's count of glyphs, the line's shape, and the room for verdicts.
-#[derive(Clone, Copy)]
-struct Call {
-    count: u32,
-    shape: LineShape,
-    room: usize,
+// The slices that a line's call fills: a class, a before and an after movement for each glyph.
+#[derive(Drop)]
+pub struct Lent<'a> {
+    pub classes: &'a mut [u8],
+    pub before: &'a mut [i32],
+    pub after: &'a mut [i32],
 }
 
 // What is left to say of a line that is worked out: whether it shrinks, the remainder in units, the count of entries that the
@@ -59,267 +40,175 @@ struct Tally {
     verdicts: usize,
 }
 
-// A line that is worked out; or the refusal that bars it, with its offset.
-#[derive(Clone, Copy)]
-enum Worked {
-    Done(Tally),
-    Bad { refusal: Refusal, at: usize },
-}
-
-fn copy_classes(from: &[u8], to: &mut [u8])
-    requires { length from.now ≡ length to.old }
-    ensures { to.new ≡ from.now }
+// What one of a line's own refusals bars it by: the offset of each is 0.
+fn barred(refusal: Refusal) -> Fault
+    ensures { result ≡ record { refusal = refusal; at = 0 } }
 {
-    let mut i = 0;
-    while i < from.len() {
-        to[i] = from[i];
-        i += 1;
-    }
-}
-
-// A line that one of its own refusals bars: the offset of each is 0.
-fn barred(refusal: Refusal) -> Worked
-    ensures { result ≡ Bad refusal 0 }
-{
-    Worked::Bad { refusal, at: 0 }
+    Fault { refusal, at: 0 }
 }
 
 // Refusals 12 to 15; where nothing bars the line, `held` gets its classes and `moves` its movements without their sign, and no
 // verdict is found yet. `factors` is room for the factors of its sides.
 fn share_out(
     table: &[u8],
-    call: Call,
-    sizes: &[u32],
-    glyphs: &[u16],
-    advances: &[i32],
+    count: u32,
+    line: LineView<'_>,
     held: &mut [u8],
     moves: &mut [u64],
     factors: &mut [u64],
-) -> Worked
-    requires { Admitted table.now call.count sizes.now glyphs.now × WorkRoom (length glyphs.now) held.old moves.old factors.old }
-    ensures { WorkedOut (work_fault (side_in table.now call) call.count (called_line call sizes.now glyphs.now advances.now)) 0 (side_in table.now call) (called_line call sizes.now glyphs.now advances.now) result held.new moves.new }
+) -> Result<Tally, Fault>
+    requires { Admitted table.now count line.sizes.now line.glyphs.now × WorkRoom (length line.glyphs.now) held.old moves.old factors.old }
+    ensures { let s = side_for table.now count (line_in line.entry) in WorkedOut (work_fault s count (line_in line.entry)) 0 s (line_in line.entry) result held.new moves.new }
 {
-    let count = call.count;
-    let shape = call.shape;
-    let Gap::Of(gap) = line_input::gap_of(advances, shape.target) else {
-        return barred(Refusal::Advances);
-    };
-    if line_input::all_known(count, glyphs) {
-        let walked = line_moves::line_walk(table, count, shape, glyphs, held);
-        if walked.ends {
-            let shared = line_moves::share_glyphs(
-                table, count, shape, gap, sizes, glyphs, held, factors, moves,
-            );
-            let Shared::Left(left) = shared else {
-                return barred(Refusal::StageTotal);
-            };
-            let remainder = left.0 as i32;
-            return Worked::Done(Tally {
-                shrink: line_moves::shrinks(gap),
-                remainder,
-                entries: walked.count,
-                verdicts: 0,
-            });
-        }
-        return barred(Refusal::EndlessWalk);
-    }
-    barred(Refusal::UnknownGlyph)
-}
-
-// Refusals 12 to 16; where nothing bars the line, `work` gets the bits of its verdicts.
-fn work_out<'a, 'b>(
-    table: &'a [u8],
-    call: Call,
-    sizes: &'a [u32],
-    glyphs: &'a [u16],
-    advances: &'a [i32],
-    held: &'a mut [u8],
-    moves: &'a mut [u64],
-    work: &'b mut [u64],
-) -> Worked
-    requires { Admitted table.now call.count sizes.now glyphs.now × WorkRoom (length glyphs.now) held.old moves.old work.old }
-    ensures { Counted (side_in table.now call) call.count (called_line call sizes.now glyphs.now advances.now) call.room result held.new moves.new work.new }
-{
-    let shared = share_out(table, call, sizes, glyphs, advances, held, moves, work);
-    let Worked::Done(tally) = shared else {
-        return shared;
-    };
-    let shape = call.shape;
-    let shrink = tally.shrink;
-    let verdicts = line_verdicts::keep_verdicts(
-        table, call.count, shape, shrink, sizes, glyphs, held, moves, work,
-    );
-    if call.room < verdicts {
-        return barred(Refusal::ShortRoom);
-    }
-    Worked::Done(Tally {
-        shrink,
-        remainder: tally.remainder,
-        entries: tally.entries,
-        verdicts,
+    let gap = line_input::gap_of(line).ok_or(barred(Refusal::Advances))?;
+    let known = line_input::all_known(count, line.glyphs);
+    fields::ruled(known, Refusal::UnknownGlyph, 0)?;
+    let walked = line_moves::line_walk(table, count, line, held);
+    let entries = walked.ok_or(barred(Refusal::EndlessWalk))?;
+    let shared = line_moves::share_glyphs(table, count, line, gap, held, factors, moves);
+    let left = shared.ok_or(barred(Refusal::StageTotal))?;
+    Ok(Tally {
+        shrink: line_moves::shrinks(gap),
+        remainder: left.0 as i32,
+        entries,
+        verdicts: 0,
     })
 }
 
-// A refusal stores nothing.
-fn refused(refusal: Refusal, at: usize) -> Settled
-    ensures { result ≡ refused_by refusal at }
+// Refusals 12 to 16; where nothing bars the line, `work` gets the bits of its verdicts, for which there is `room`.
+fn work_out(
+    table: &[u8],
+    count: u32,
+    line: LineView<'_>,
+    room: usize,
+    held: &mut [u8],
+    moves: &mut [u64],
+    work: &mut [u64],
+) -> Result<Tally, Fault>
+    requires { Admitted table.now count line.sizes.now line.glyphs.now × WorkRoom (length line.glyphs.now) held.old moves.old work.old }
+    ensures { Counted (side_for table.now count (line_in line.entry)) count (line_in line.entry) room result held.new moves.new work.new }
 {
-    Settled {
-        answer: LineAnswer::Refused { refusal, at },
-        stored: 0,
-    }
+    let tally = share_out(table, count, line, held, moves, work)?;
+    let verdicts = line_verdicts::keep_verdicts(
+        table,
+        count,
+        line,
+        tally.shrink,
+        held,
+        moves,
+        work,
+    );
+    fields::ruled(verdicts <= room, Refusal::ShortRoom, 0)?;
+    Ok(Tally { verdicts, ..tally })
 }
 
-// What is worked out of a line goes into the lent buffers: the classes, and the movements with their sign.
-fn deliver<'a, 'b>(
-    tally: Tally,
-    held: &'a [u8],
-    moves: &'a [u64],
-    classes: &'b mut [u8],
-    before: &'b mut [i32],
-    after: &'b mut [i32],
-) -> Settled
-    requires { Deliverable tally held.now moves.now × LineRoom (length held.now) classes.old before.old after.old }
-    ensures { Delivered tally held.now moves.now result classes.new before.new after.new }
+// What is worked out of a line goes into the lent slices: the classes, and the movements with their sign.
+fn deliver(tally: Tally, held: &[u8], moves: &[u64], lent: &mut Lent<'_>) -> Justified
+    requires { Deliverable tally held.now moves.now × RoomIn (length held.now) lent.old }
+    ensures same { SameSlices lent.old lent.new }
+    ensures delivered { Delivered tally held.now moves.now result lent.new.classes.now lent.new.before.now lent.new.after.now }
 {
-    copy_classes(held, classes);
-    share::copy_signed(tally.shrink, moves, before, after);
-    let verdicts = tally.verdicts as u32;
-    Settled {
-        answer: LineAnswer::Justified {
-            remainder: tally.remainder,
-            entries: tally.entries,
-            verdicts,
-        },
-        stored: tally.verdicts,
+    lent.classes.copy_from_slice(held);
+    share::copy_signed(tally.shrink, moves, lent.before, lent.after);
+    Justified {
+        remainder: tally.remainder,
+        entries: tally.entries,
+        verdicts: tally.verdicts as u32,
     }
 }
 
 // Refusals 12 to 16, over zeros for the classes and the movements; where nothing bars the line, they are delivered.
-fn settle_in<'a, 'b>(
-    table: &'a [u8],
-    call: Call,
-    sizes: &'a [u32],
-    glyphs: &'a [u16],
-    advances: &'a [i32],
-    held: &'a mut [u8],
-    moves: &'a mut [u64],
-    classes: &'b mut [u8],
-    before: &'b mut [i32],
-    after: &'b mut [i32],
-    work: &'b mut [u64],
-) -> Settled
-    requires { Admitted table.now call.count sizes.now glyphs.now × WorkRoom (length glyphs.now) held.old moves.old work.old × LineRoom (length glyphs.now) classes.old before.old after.old }
-    ensures { SettledCall table.now call sizes.now glyphs.now advances.now classes.old before.old after.old result classes.new before.new after.new work.new }
+fn settle_in(
+    table: &[u8],
+    count: u32,
+    line: LineView<'_>,
+    room: usize,
+    held: &mut [u8],
+    moves: &mut [u64],
+    lent: &mut Lent<'_>,
+    work: &mut [u64],
+) -> Result<Justified, Fault>
+    requires { Admitted table.now count line.sizes.now line.glyphs.now × WorkRoom (length line.glyphs.now) held.old moves.old work.old × RoomIn (length line.glyphs.now) lent.old }
+    ensures same { SameSlices lent.old lent.new }
+    ensures settled { SettledCall table.now count (line_in line.entry) room lent.old result lent.new work.new }
 {
-    let worked = work_out(table, call, sizes, glyphs, advances, held, moves, work);
-    match worked {
-        Worked::Bad { refusal, at } => refused(refusal, at),
-        Worked::Done(tally) => deliver(tally, held, moves, classes, before, after),
-    }
+    let tally = work_out(table, count, line, room, held, moves, work)?;
+    Ok(deliver(tally, held, moves, lent))
 }
 
-// The same, with room of its own for the classes and movements. Most lines are short, and less room is sooner cleared.
-fn settle_with_room<'a, 'b>(
-    table: &'a [u8],
-    call: Call,
-    sizes: &'a [u32],
-    glyphs: &'a [u16],
-    advances: &'a [i32],
-    classes: &'b mut [u8],
-    before: &'b mut [i32],
-    after: &'b mut [i32],
-    work: &'b mut [u64],
-) -> Settled
-    requires { Admitted table.now call.count sizes.now glyphs.now × (length work.old ≡ 2 * length glyphs.now) × LineRoom (length glyphs.now) classes.old before.old after.old }
-    ensures { SettledCall table.now call sizes.now glyphs.now advances.now classes.old before.old after.old result classes.new before.new after.new work.new }
+// The same, with room of its own for the classes and movements of so many glyphs, which have so many sides.
+fn settle_sized<const GLYPHS: usize, const SIDES: usize>(
+    table: &[u8],
+    count: u32,
+    line: LineView<'_>,
+    room: usize,
+    lent: &mut Lent<'_>,
+    work: &mut [u64],
+) -> Result<Justified, Fault>
+    requires enough { (length line.glyphs.now ≤ GLYPHS) × (2 * length line.glyphs.now ≤ SIDES) × (GLYPHS ≤ 1024) × (SIDES ≤ 2048) }
+    requires admitted { Admitted table.now count line.sizes.now line.glyphs.now × (length work.old ≡ 2 * length line.glyphs.now) × RoomIn (length line.glyphs.now) lent.old }
+    ensures same { SameSlices lent.old lent.new }
+    ensures settled { SettledCall table.now count (line_in line.entry) room lent.old result lent.new work.new }
 {
-    let n = glyphs.len();
+    let n = line.glyphs.len();
     let m = 2 * n;
-    if n <= 128 {
-        let mut held = [0u8; 128];
-        let mut moves = [0u64; 256];
-        return settle_in(
-            table,
-            call,
-            sizes,
-            glyphs,
-            advances,
-            &mut held[..n],
-            &mut moves[..m],
-            classes,
-            before,
-            after,
-            work,
-        );
-    }
-    let mut held = [0u8; 1024];
-    let mut moves = [0u64; 2048];
+    let mut held = [0u8; GLYPHS];
+    let mut moves = [0u64; SIDES];
     settle_in(
         table,
-        call,
-        sizes,
-        glyphs,
-        advances,
+        count,
+        line,
+        room,
         &mut held[..n],
         &mut moves[..m],
-        classes,
-        before,
-        after,
+        lent,
         work,
     )
 }
 
-// All of a line's call but the storing of its verdicts, for which there is `room`: their bits are left in `work`.
-pub fn settle<'a, 'b>(
-    table: &'a [u8],
+// The same, in the smaller of two rooms where that is enough: most lines are short, and less room is sooner cleared.
+fn settle_with_room(
+    table: &[u8],
     count: u32,
-    shape: LineShape,
-    sizes: &'a [u32],
-    glyphs: &'a [u16],
-    advances: &'a [i32],
+    line: LineView<'_>,
     room: usize,
-    classes: &'b mut [u8],
-    before: &'b mut [i32],
-    after: &'b mut [i32],
-    work: &'b mut [u64],
-) -> Settled
-    requires { BitRoom (length glyphs.now) work.old }
-    ensures { ((verdicts : List Verdict) → length verdicts ≡ room →
-        settlement_is result classes.new before.new after.new
-        ≡ settlement_in (justified table.now count
-        (line_by shape sizes.now glyphs.now advances.now)
-        (lent_by classes.old before.old after.old verdicts)))
-        × Tells result.stored
-        (verdicts_of (side_of shape.direction (meaning_of table.now count))
-        (line_by shape sizes.now glyphs.now advances.now))
-        work.new }
+    lent: &mut Lent<'_>,
+    work: &mut [u64],
+) -> Result<Justified, Fault>
+    requires { Admitted table.now count line.sizes.now line.glyphs.now × (length work.old ≡ 2 * length line.glyphs.now) × RoomIn (length line.glyphs.now) lent.old }
+    ensures same { SameSlices lent.old lent.new }
+    ensures settled { SettledCall table.now count (line_in line.entry) room lent.old result lent.new work.new }
 {
-    let fault = line_input::input_fault(
+    if line.glyphs.len() <= 128 {
+        return settle_sized::<128, 256>(table, count, line, room, lent, work);
+    }
+    settle_sized::<1024, 2048>(table, count, line, room, lent, work)
+}
+
+// All of a line's call but the storing of its verdicts, for which there is `room`: their bits are left in `work`.
+pub fn settle(
+    table: &[u8],
+    count: u32,
+    line: LineView<'_>,
+    room: usize,
+    lent: &mut Lent<'_>,
+    work: &mut [u64],
+) -> Result<Justified, Fault>
+    requires { BitRoom (length line.glyphs.now) work.old }
+    ensures same { SameSlices lent.old lent.new }
+    ensures settled { ((verdicts : List Verdict) → length verdicts ≡ room →
+        settlement_of result lent.new
+        ≡ settlement_in (justified table.now count (line_in line.entry) (lent_with lent.old verdicts)))
+        × Tells (stored_by result) (verdicts_of (side_for table.now count (line_in line.entry)) (line_in line.entry)) work.new }
+{
+    line_input::input_fault(
         table,
         count,
-        shape,
-        sizes,
-        glyphs,
-        advances,
-        classes.len(),
-        before.len(),
-        after.len(),
-    );
-    if let Fault::Bad { refusal, at } = fault {
-        return refused(refusal, at);
-    }
-    let m = 2 * glyphs.len();
-    let call = Call { count, shape, room };
-    settle_with_room(
-        table,
-        call,
-        sizes,
-        glyphs,
-        advances,
-        classes,
-        before,
-        after,
-        &mut work[..m],
-    )
+        line,
+        lent.classes.len(),
+        lent.before.len(),
+        lent.after.len(),
+    )?;
+    let m = 2 * line.glyphs.len();
+    settle_with_room(table, count, line, room, lent, &mut work[..m])
 }

@@ -1,12 +1,11 @@
 -- A list that takes the verdicts that are told one after the other.
-use Prim.Native.Nat.{ℕ, zero, suc, ◌≤◌, ◌<◌}
+use Prim.Native.Nat.{ℕ, zero, suc, ◌<◌}
 use mathlib.Core.Path.{◌≡◌, refl, sym, ap, ◌∙◌}
 use mathlib.Core.List.{List, [], ◌∷◌}
 use native.Mathlib.Omega.{arith}
 use lib.ListN.{length, set, drop, length-drop}
 use Rattle.types.specs.declared.Verdict.{Verdict}
 use Rattle.line_verdicts.specs.declared.VerdictCursor.{VerdictCursor}
-use Rattle.line_verdicts.specs.declared.VerdictStep.{VerdictStep}
 use Rattle.line_verdicts.specs.Bits.{told, left_at, start_cursor, Serves}
 use Rattle.line_verdicts.proofs.Told.{start_left, start-serves}
 use Rattle.line_justify.specs.Stored.{filled_with}
@@ -15,14 +14,6 @@ use Rattle.line_justify.specs.Stored.{filled_with}
 pub stored-none : (vs ys : List Verdict) → filled_with vs 0 ys ≡ ys
 unfolding filled_with
 stored-none vs ys = refl
-
--- as long as it was
-pub stored-long : (vs ys : List Verdict) (i : ℕ) → i ≤ length vs → i ≤ length ys → length (filled_with vs i ys) ≡ length ys
-unfolding filled_with
-stored-long vs ys zero h k = refl
-stored-long [] ys (suc i) h k = absurd (omega arith)
-stored-long (v ∷ vs) [] (suc i) h k = absurd (omega arith)
-stored-long (v ∷ vs) (y ∷ ys) (suc i) h k = ap suc (stored-long vs ys i (omega arith) (omega arith))
 
 no-cons : {v : Verdict} {rest : List Verdict} → ◌≡◌ {A = List Verdict} [] (v ∷ rest) → ⊥
 no-cons e = let z : ◌≡◌ {A = ℕ} 0 1 = cc in omega arith
@@ -50,18 +41,18 @@ pub record Taken (bits : List ℕ) (i : ℕ) (c : VerdictCursor) : Type 0 where
 
 module _ (bits : List ℕ) where
   -- none is taken
-  pub taken_none : Taken bits 0 start_cursor
-  taken_none = record { left = start_left bits; serves = start-serves bits }
+  pub taken-first : {c : VerdictCursor} → c ≡ start_cursor → Taken bits 0 c
+  taken-first e = rw e (record { left = start_left bits; serves = start-serves bits })
 
   module _ (i : ℕ) (c : VerdictCursor) (k : Taken bits i c) where
     -- where there are more, one is left
     pub one_left : i < length (told bits) → 0 < length (left_at bits c)
     one_left h = omega (arith, h, length-drop i (told bits), ap (λ (vs : List Verdict). length vs) k.left)
 
-    module _ (r : VerdictStep) (e : left_at bits c ≡ r.verdict ∷ left_at bits r.past) where
-      -- the step takes the next of them
-      pub taken-verdict : drop i (told bits) ≡ r.verdict ∷ left_at bits r.past
+    module _ (v : Verdict) (past : VerdictCursor) (e : left_at bits c ≡ v ∷ left_at bits past) where
+      -- the next of them is taken
+      pub taken-verdict : drop i (told bits) ≡ v ∷ left_at bits past
       taken-verdict = sym k.left ∙ e
 
-      pub taken_next : Serves bits r.past → Taken bits (suc i) r.past
-      taken_next h = record { left = sym (drop-next (told bits) i r.verdict (left_at bits r.past) taken-verdict); serves = h }
+      pub taken_next : Serves bits past → Taken bits (suc i) past
+      taken_next h = record { left = sym (drop-next (told bits) i v (left_at bits past) taken-verdict); serves = h }

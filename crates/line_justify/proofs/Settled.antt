@@ -7,8 +7,9 @@ use lib.IntN.{ℤ}
 use lib.ListN.{length, drop}
 use lib.Seq.{take_all}
 use borrow.Author.Tests.{leb-true}
+use Rattle.std.specs.Prelude.{Result, Ok, Err}
 use Rattle.fields.specs.declared.Fault.{Fault}
-use Rattle.fields.specs.declared.Fault.TheVariants.{Clear, Bad}
+use Rattle.fields.specs.Faults.{FirstFault, Clear}
 use Rattle.fields.specs.declared.Refusal.TheVariants.{ShortRoom}
 use Rattle.fields.proofs.Laws.{then-second, rule-holds}
 use Rattle.types.specs.declared.Verdict.{Verdict}
@@ -17,9 +18,9 @@ use Rattle.meaning.specs.Ask.{side_of}
 use Rattle.table.specs.Means.{meaning_of}
 use Rattle.line_rule.specs.Line.{Line, verdicts_of}
 use Rattle.line_verdicts.specs.Bits.{told, BitPairs}
-use Rattle.line_call.specs.declared.Settled.{Settled}
+use Rattle.line_call.specs.declared.Justified.{Justified}
 use Rattle.line_call.specs.Justified.{Outcome, Lent, line_fault, settled, justified}
-use Rattle.line_call.specs.Settle.{lent_by, Settlement, settlement_is, settlement_in, BitRoom, Tells}
+use Rattle.line_call.specs.Settle.{lent_by, Settlement, settlement_is, settlement_in, stored_in, stored_by, BitRoom, Tells}
 use Rattle.line_justify.specs.Stored.{filled_with, Storable}
 use Rattle.line_justify.specs.Outcome.{outcome_is}
 
@@ -43,38 +44,38 @@ module _ (t : List ℕ) (n : ℕ) (l : Line) (cs : List ℕ) (bs fs : List ℤ) 
   unfolding line_fault
   has_room clear = leb-true _ _ (rule-holds _ ShortRoom 0 (then-second _ _ clear))
 
-  module _ (r : Settled) (cs' : List ℕ) (bs' fs' : List ℤ) (bits : List ℕ) (e : settlement_is r cs' bs' fs' ≡ settlement_in (justified t n l b)) (tells : Tells r.stored (verdicts_of s l) bits) where
-    stored-in : (o : Outcome) → settlement_is r cs' bs' fs' ≡ settlement_in o → r.stored ≡ (settlement_in o).stored
-    stored-in o w = ap (λ (x : Settlement). x.stored) w
+  module _ (r : Result Justified Fault) (cs' : List ℕ) (bs' fs' : List ℤ) (bits : List ℕ) (e : settlement_is r cs' bs' fs' ≡ settlement_in (justified t n l b)) (tells : Tells (stored_by r) (verdicts_of s l) bits) where
+    stored-in : (o : Outcome) → settlement_is r cs' bs' fs' ≡ settlement_in o → stored_by r ≡ stored_in o.answer
+    stored-in o w = ap (λ (x : Settlement). stored_in x.answer) w
 
     -- the verdicts can be stored
-    pub settled-storable : BitPairs bits → Storable bits r.stored (length ys)
+    pub settled-storable : BitPairs bits → Storable bits (stored_by r) (length ys)
     unfolding justified
     settled-storable kept = record { room = go (line_fault t n l b) refl e; most = tells.most; kept = kept }
       where
-        go : (f : Fault) → line_fault t n l b ≡ f → settlement_is r cs' bs' fs' ≡ settlement_in (settled f s l b) → r.stored ≤ length ys
-        go (Bad q at) p w = let z : r.stored ≡ 0 = stored-in (settled (Bad q at) s l b) w in omega arith
-        go Clear p w = let z : r.stored ≡ length (verdicts_of s l) = stored-in (settled Clear s l b) w in omega (arith, has_room p)
+        go : (f : FirstFault) → line_fault t n l b ≡ f → settlement_is r cs' bs' fs' ≡ settlement_in (settled f s l b) → stored_by r ≤ length ys
+        go (Err x) p w = let z : stored_by r ≡ 0 = stored-in (settled (Err x) s l b) w in omega arith
+        go (Ok u) p w = let z : stored_by r ≡ length (verdicts_of s l) = stored-in (settled (Ok u) s l b) w in omega (arith, has_room p)
 
     -- the answer and what was lent, of the outcome o, where the list is as it should be
-    joins : (o : Outcome) (zs : List Verdict) → settlement_is r cs' bs' fs' ≡ settlement_in o → zs ≡ o.lent.verdicts → outcome_is r.answer cs' bs' fs' zs ≡ o
+    joins : (o : Outcome) (zs : List Verdict) → settlement_is r cs' bs' fs' ≡ settlement_in o → zs ≡ o.lent.verdicts → outcome_is r cs' bs' fs' zs ≡ o
     joins o zs w h = λ i. record { answer = (w i).answer; lent = lent_by (w i).classes (w i).before (w i).after (h i) }
 
     -- and with them the outcome is the call's
-    pub settled-outcome : (zs : List Verdict) → zs ≡ filled_with (told bits) r.stored ys → outcome_is r.answer cs' bs' fs' zs ≡ justified t n l b
+    pub settled-outcome : (zs : List Verdict) → zs ≡ filled_with (told bits) (stored_by r) ys → outcome_is r cs' bs' fs' zs ≡ justified t n l b
     unfolding justified filled_with
     settled-outcome zs f = go (line_fault t n l b) e
       where
         -- the first of those that are told are the line's
-        line : zs ≡ filled_with (verdicts_of s l) r.stored ys
-        line = f ∙ ap (λ (vs : List Verdict). vs ++ drop r.stored ys) tells.begins
+        line : zs ≡ filled_with (verdicts_of s l) (stored_by r) ys
+        line = f ∙ ap (λ (vs : List Verdict). vs ++ drop (stored_by r) ys) tells.begins
 
-        go : (g : Fault) → settlement_is r cs' bs' fs' ≡ settlement_in (settled g s l b) → outcome_is r.answer cs' bs' fs' zs ≡ settled g s l b
-        go (Bad q at) w =
-            let o : Outcome = settled (Bad q at) s l b in
-            let z : r.stored ≡ 0 = stored-in o w in
+        go : (g : FirstFault) → settlement_is r cs' bs' fs' ≡ settlement_in (settled g s l b) → outcome_is r cs' bs' fs' zs ≡ settled g s l b
+        go (Err x) w =
+            let o : Outcome = settled (Err x) s l b in
+            let z : stored_by r ≡ 0 = stored-in o w in
             joins o zs w (line ∙ ap (λ (k : ℕ). filled_with (verdicts_of s l) k ys) z)
-        go Clear w =
-            let o : Outcome = settled Clear s l b in
-            let z : r.stored ≡ length (verdicts_of s l) = stored-in o w in
+        go (Ok u) w =
+            let o : Outcome = settled (Ok u) s l b in
+            let z : stored_by r ≡ length (verdicts_of s l) = stored-in o w in
             joins o zs w (line ∙ ap (λ (k : ℕ). filled_with (verdicts_of s l) k ys) z ∙ stored-all (verdicts_of s l) ys)

@@ -10,9 +10,8 @@ use lib.IntN.{ℤ, ◌+ℤ◌}
 use lib.ListN.{length, get_or, drop, replicate, length-replicate}
 use borrow.Author.Tests.{eq-eqb}
 use Rattle.fields.specs.declared.Refusal.TheVariants.{UnequalLengths, LongLine, PointSize, Advances, UnknownGlyph, EndlessWalk, StageTotal, ShortRoom}
-use Rattle.fields.specs.declared.Fault.{Fault}
-use Rattle.fields.specs.declared.Fault.TheVariants.{Clear, Bad}
-use Rattle.fields.specs.Faults.{◌then◌, rule, first_fault}
+use Rattle.std.specs.Prelude.{Ok, Err}
+use Rattle.fields.specs.Faults.{FirstFault, ◌then◌, earlier, rule, first_fault}
 use Rattle.types.specs.declared.Verdict.{Verdict}
 use Rattle.meaning.specs.Meaning.{Machine, Side}
 use Rattle.meaning.specs.Ask.{side_of}
@@ -101,7 +100,7 @@ module _ (t : List ℕ) (n : ℕ) (l : one.Line) (b : Lent) (judged : good_sizes
   side = side_of l.direction (meaning_of t n)
 
   fault-same : line_fault t n (in_one_size l) b ≡ one.line_fault t n l b
-  unfolding line_fault worked_fault one.line_fault rule ◌then◌
+  unfolding line_fault worked_fault one.line_fault rule earlier
   fault-same = λ i.
       first_fault (
       table_fault t n
@@ -115,9 +114,9 @@ module _ (t : List ℕ) (n : ℕ) (l : one.Line) (b : Lent) (judged : good_sizes
       ∷ [])
       then rule (leb (length (verdicts-all side l i)) (length b.verdicts)) ShortRoom 0
 
-  settled_same : (f : Fault) → settled f side (in_one_size l) b ≡ one.settled f side l b
-  settled_same (Bad r at) = refl
-  settled_same Clear = λ i.
+  settled_same : (f : FirstFault) → settled f side (in_one_size l) b ≡ one.settled f side l b
+  settled_same (Err x) = refl
+  settled_same (Ok u) = λ i.
       record {
         answer = justifies (remainder-same side l i) (entries_of (walk_same side.machine l i)) (length (verdicts-all side l i));
         lent =
@@ -131,7 +130,7 @@ module _ (t : List ℕ) (n : ℕ) (l : one.Line) (b : Lent) (judged : good_sizes
 
   same_outcome : justified t n (in_one_size l) b ≡ one.justified t n l b
   unfolding justified one.justified
-  same_outcome = ap (λ (f : Fault). settled f side (in_one_size l) b) fault-same ∙ settled_same (one.line_fault t n l b)
+  same_outcome = ap (λ (f : FirstFault). settled f side (in_one_size l) b) fault-same ∙ settled_same (one.line_fault t n l b)
 
 -- A LINE OF EQUAL SIZES ANSWERS AS BEFORE
 pub as_before : AsBefore

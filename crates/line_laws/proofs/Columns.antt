@@ -6,7 +6,7 @@ use mathlib.Core.Bool.{true}
 use mathlib.Core.List.{List, [], ◌∷◌}
 use lib.IntN.{ℤ, pos, neg_ℤ}
 use Rattle.fields.specs.Field.{u16_at, u32_at}
-use Rattle.fields.specs.Faults.{◌then◌, rule, inside}
+use Rattle.fields.specs.Faults.{earlier, rule, inside}
 use Rattle.fields.specs.Walk.{walk}
 use Rattle.encoding.specs.Upto.{from}
 use Rattle.types.specs.declared.Direction.TheVariants.{Horizontal}
@@ -62,7 +62,7 @@ pub columns : Stands 1 (pos 60) (neg_ℤ (pos 10)) (pos 60) (pos 0)
     × Stands 1 (pos 140) (pos 13) (pos 140) (pos 0)
     × Stands 2 (pos 140) (pos 10) (pos 130) (pos 10)
     × Stands 2 (pos 50) (neg_ℤ (pos 10)) (pos 60) (neg_ℤ (pos 10))
-unfolding one_pair justified line_fault worked_fault table_fault header_fault direction_fault present offsets_fault machine_part action_part u16_at u32_at inside rule ◌then◌ walk values_fault lookup_fault format_fault place_fault target_fault value_of value_from cluster_fault pair_fault pair_class pair_class_fault grow_fault shrink_fault flags_fault fixed_size width_flags pair_at pairs_at cluster_at cluster_of machine_of lists_of side_at direction_of meaning_of empty_side from stages shares stage_moves stage_left moves_by left_by line_fits line_moves line_left gap_of walk_of parts_of before_of after_of remainder_of verdicts_from verdicts_of firings
+unfolding one_pair justified line_fault worked_fault table_fault header_fault direction_fault present offsets_fault machine_part action_part u16_at u32_at inside rule earlier walk values_fault lookup_fault format_fault place_fault target_fault value_of value_from cluster_fault pair_fault pair_class pair_class_fault grow_fault shrink_fault flags_fault fixed_size width_flags pair_at pairs_at cluster_at cluster_of machine_of lists_of side_at direction_of meaning_of empty_side from stages shares stage_moves stage_left moves_by left_by line_fits line_moves line_left gap_of walk_of parts_of before_of after_of remainder_of verdicts_from verdicts_of firings
 columns = (
   record { shown = record { remainder = pos 0; entries = 0; verdicts = 0; answer = refl }; left_over = refl; left_at = refl; right-at = refl },
   record { shown = record { remainder = pos 0; entries = 0; verdicts = 0; answer = refl }; left_over = refl; left_at = refl; right-at = refl },

@@ -10,10 +10,10 @@ use lib.IntN.{pos}
 use lib.ListN.{length}
 use borrow.Author.Tests.{leb-true, le-leb}
 use Rattle.fields.specs.declared.Refusal.TheVariants.{UnequalLengths, LongLine, UnknownEdition, PointSize, Advances, UnknownGlyph, EndlessWalk, StageTotal, ShortRoom}
-use Rattle.fields.specs.declared.Fault.{Fault}
-use Rattle.fields.specs.declared.Fault.TheVariants.{Bad}
+use Rattle.fields.specs.Faults.{FirstFault}
+use Rattle.fields.specs.Faults.{Bad}
 use Rattle.fields.specs.Field.{u16_at, u32_at}
-use Rattle.fields.specs.Faults.{◌then◌, rule, inside}
+use Rattle.fields.specs.Faults.{earlier, rule, inside}
 use Rattle.fields.proofs.Laws.{rule-holds, rule-clear, rule-fails}
 use Rattle.fields.specs.Walk.{walk}
 use Rattle.encoding.specs.Codes.{All}
@@ -44,13 +44,13 @@ module _ (t : List ℕ) (n : ℕ) (l : Line) (b : Lent) where
     λ h. (call-refused t n l b UnknownEdition 0).1 (first-after ahead named behind (free h.0 h.1 h.2) (rule-fails UnknownEdition 0 (unknown (known_edition l.edition) refl h.3))),
   )
     where
-      ahead : List Fault
+      ahead : List FirstFault
       ahead = table_fault t n ∷ rule (equal_lengths l (lengths_of b)) UnequalLengths 0 ∷ rule (leb (length l.glyphs) 1024) LongLine 0 ∷ []
 
-      named : Fault
+      named : FirstFault
       named = rule (known_edition l.edition) UnknownEdition 0
 
-      behind : List Fault
+      behind : List FirstFault
       behind = rule (good_sizes l.sizes) PointSize 0 ∷ (work_tests (side_for t n l) n l ++ (room_test (side_for t n l) l (length b.verdicts) ∷ []))
 
       spared : All (Spares UnknownEdition) ahead
@@ -81,5 +81,5 @@ pub in-no-edition :
     (justified one_pair 1 (text_line 0 [] [] [] (pos 0)) (lent_by [] [] [] []) ≡ record { answer = refuses 18 0; lent = lent_by [] [] [] [] })
     × (justified one_pair 1 (text_line 3 (0 ∷ []) (0 ∷ []) (pos 100 ∷ []) (pos 100)) room ≡ record { answer = refuses 18 0; lent = room })
     × (justified one_pair 1 (text_line 3 (0 ∷ []) (0 ∷ []) [] (pos 100)) room ≡ record { answer = refuses 9 0; lent = room })
-unfolding one_pair justified line_fault worked_fault table_fault header_fault direction_fault present offsets_fault machine_part action_part u16_at u32_at inside rule ◌then◌ walk values_fault lookup_fault format_fault place_fault target_fault value_of value_from cluster_fault pair_fault pair_class pair_class_fault grow_fault shrink_fault flags_fault fixed_size width_flags
+unfolding one_pair justified line_fault worked_fault table_fault header_fault direction_fault present offsets_fault machine_part action_part u16_at u32_at inside rule earlier walk values_fault lookup_fault format_fault place_fault target_fault value_of value_from cluster_fault pair_fault pair_class pair_class_fault grow_fault shrink_fault flags_fault fixed_size width_flags
 in-no-edition = (refl, refl, refl)

@@ -2,10 +2,9 @@
 use Prim.Native.Nat.{ℕ}
 use mathlib.Core.Path.{◌≡◌, refl}
 use mathlib.Core.List.{List}
-use native.Mathlib.Omega.{arith}
 use Rattle.fields.specs.declared.Refusal.TheVariants.{UnequalLengths, LongLine, UnknownEdition, PointSize, Advances, UnknownGlyph, EndlessWalk, StageTotal, ShortRoom}
-use Rattle.fields.specs.declared.Fault.{Fault}
-use Rattle.fields.specs.declared.Fault.TheVariants.{Clear, Bad}
+use Rattle.std.specs.Prelude.{Ok, Err}
+use Rattle.fields.specs.Faults.{FirstFault}
 use Rattle.fields.specs.Refusals.{number_of}
 use Rattle.table_laws.specs.Offsets.{Offset, Placed}
 use Rattle.table_laws.proofs.Placed.{placed-bad, ◌and◌, zero-at, placed-table}
@@ -24,6 +23,6 @@ module _ (t : List ℕ) (n : ℕ) (l : Line) (b : Lent) where
   unfolding justified
   placed-line number at e = go (line_fault t n l b) placed-fault e
     where
-      go : (f : Fault) → Placed f → (settled f (side_for t n l) l b).answer ≡ refuses number at → Offset number at
-      go Clear p e = let z : ◌≡◌ {A = ℕ} 0 1 = cc in absurd (omega arith)
-      go (Bad r q) p e = let k : number_of r ≡ number = cc in let j : q ≡ at = cc in rw (k, j) at (placed-bad p refl)
+      go : (f : FirstFault) → Placed f → (settled f (side_for t n l) l b).answer ≡ refuses number at → Offset number at
+      go (Ok u) p e = cc
+      go (Err x) p e = let k : number_of x.refusal ≡ number = cc in let j : x.at ≡ at = cc in rw (k, j) at (placed-bad p refl)

@@ -3,7 +3,7 @@ use Prim.Native.Nat.{ℕ}
 use mathlib.Core.Path.{◌≡◌, refl, sym, ap, ap₂, ◌∙◌}
 use mathlib.Core.List.{List, ◌∷◌, ◌++◌}
 use lib.ListN.{length}
-use Rattle.fields.specs.declared.Fault.{Fault}
+use Rattle.fields.specs.Faults.{FirstFault}
 use Rattle.fields.specs.Field.{Bytes}
 use Rattle.fields.specs.Faults.{◌then◌, first_fault}
 use Rattle.meaning.specs.Meaning.{Side, Meaning}
@@ -18,7 +18,7 @@ use Rattle.line_call.specs.Justified.{Lent, Outcome, lengths_of, work_tests, roo
 use Rattle.line_input.specs.Input.{input_tests}
 
 -- a line's outcome from its table's fault and the meaning of its direction
-abbrev outcome_by : ℕ → Line → Lent → Fault → Side → Outcome
+abbrev outcome_by : ℕ → Line → Lent → FirstFault → Side → Outcome
 outcome_by n l b f s = settled (first_fault (f ∷ (input_tests l (lengths_of b) ++ work_tests s n l)) then room_test s l (length b.verdicts)) s l b
 
 outcome-by : (t : List ℕ) (n : ℕ) (l : Line) (b : Lent) → justified t n l b ≡ outcome_by n l b (table_fault t n) (side_of l.direction (meaning_of t n))

@@ -11,10 +11,10 @@ use lib.IntN.{pos}
 use lib.ListN.{length, get_or}
 use borrow.Author.Tests.{leb-true, le-leb}
 use Rattle.fields.specs.declared.Refusal.TheVariants.{UnequalLengths, LongLine, UnknownEdition, PointSize, Advances, UnknownGlyph, EndlessWalk, StageTotal, ShortRoom}
-use Rattle.fields.specs.declared.Fault.{Fault}
-use Rattle.fields.specs.declared.Fault.TheVariants.{Bad}
+use Rattle.fields.specs.Faults.{FirstFault}
+use Rattle.fields.specs.Faults.{Bad}
 use Rattle.fields.specs.Field.{u16_at, u32_at}
-use Rattle.fields.specs.Faults.{◌then◌, rule, inside}
+use Rattle.fields.specs.Faults.{earlier, rule, inside}
 use Rattle.fields.proofs.Laws.{rule-holds, rule-clear, rule-fails}
 use Rattle.fields.specs.Walk.{walk}
 use Rattle.encoding.specs.Codes.{All}
@@ -80,7 +80,7 @@ module _ (t : List ℕ) (n : ℕ) (l : Line) (b : Lent) where
     λ h. (call-refused t n l b PointSize 0).1 (first-after ahead sized behind (free h.0 h.1 h.2 h.3) (rule-fails PointSize 0 (wrong-sizes l.sizes h.4))),
   )
     where
-      ahead : List Fault
+      ahead : List FirstFault
       ahead =
           table_fault t n
           ∷ rule (equal_lengths l (lengths_of b)) UnequalLengths 0
@@ -88,10 +88,10 @@ module _ (t : List ℕ) (n : ℕ) (l : Line) (b : Lent) where
           ∷ rule (known_edition l.edition) UnknownEdition 0
           ∷ []
 
-      sized : Fault
+      sized : FirstFault
       sized = rule (good_sizes l.sizes) PointSize 0
 
-      behind : List Fault
+      behind : List FirstFault
       behind = work_tests (side_for t n l) n l ++ (room_test (side_for t n l) l (length b.verdicts) ∷ [])
 
       spared : All (Spares PointSize) ahead
@@ -133,5 +133,5 @@ pub in-two-sizes :
     (justified one_pair 1 (text_line 1 (65536 ∷ 131072 ∷ []) (0 ∷ 0 ∷ []) (pos 100 ∷ pos 100 ∷ []) (pos 290)) lent_two
     ≡ record { answer = justifies (pos 0) 0 0; lent = lent_by (0 ∷ 0 ∷ []) (pos 10 ∷ pos 20 ∷ []) (pos 20 ∷ pos 40 ∷ []) [] })
     × (justified one_pair 1 (text_line 1 (65536 ∷ 0 ∷ []) (0 ∷ 0xFFFF ∷ []) (pos 100 ∷ pos 0 ∷ []) (pos 100)) lent_two ≡ record { answer = refuses 11 0; lent = lent_two })
-unfolding one_pair justified line_fault worked_fault table_fault header_fault direction_fault present offsets_fault machine_part action_part u16_at u32_at inside rule ◌then◌ walk values_fault lookup_fault format_fault place_fault target_fault value_of value_from cluster_fault pair_fault pair_class pair_class_fault grow_fault shrink_fault flags_fault fixed_size width_flags pair_at pairs_at cluster_at cluster_of machine_of lists_of side_at direction_of meaning_of empty_side from stages shares stage_moves stage_left moves_by left_by line_fits line_moves line_left gap_of walk_of parts_of before_of after_of remainder_of verdicts_from verdicts_of firings
+unfolding one_pair justified line_fault worked_fault table_fault header_fault direction_fault present offsets_fault machine_part action_part u16_at u32_at inside rule earlier walk values_fault lookup_fault format_fault place_fault target_fault value_of value_from cluster_fault pair_fault pair_class pair_class_fault grow_fault shrink_fault flags_fault fixed_size width_flags pair_at pairs_at cluster_at cluster_of machine_of lists_of side_at direction_of meaning_of empty_side from stages shares stage_moves stage_left moves_by left_by line_fits line_moves line_left gap_of walk_of parts_of before_of after_of remainder_of verdicts_from verdicts_of firings
 in-two-sizes = (refl, refl)

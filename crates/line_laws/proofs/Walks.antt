@@ -12,8 +12,8 @@ use lib.ListN.{length}
 use native.Mathlib.Omega.{arith}
 use borrow.Author.Tests.{leb-true, le-leb}
 use Rattle.fields.specs.declared.Refusal.TheVariants.{UnequalLengths, LongLine, UnknownEdition, PointSize, Advances, UnknownGlyph, EndlessWalk, StageTotal, ShortRoom}
-use Rattle.fields.specs.declared.Fault.{Fault}
-use Rattle.fields.specs.declared.Fault.TheVariants.{Clear, Bad}
+use Rattle.fields.specs.Faults.{FirstFault}
+use Rattle.fields.specs.Faults.{Clear, Bad}
 use Rattle.fields.specs.Field.{Bytes}
 use Rattle.fields.specs.Faults.{rule}
 use Rattle.fields.proofs.Laws.{rule-holds, rule-clear, rule-fails}
@@ -73,7 +73,7 @@ module _ (t : List ℕ) (n : ℕ) (l : Line) (b : Lent) (bytes : Bytes t) where
       machine : Option Machine
       machine = (side_for t n l).machine
 
-      ahead : List Fault
+      ahead : List FirstFault
       ahead =
           table_fault t n
           ∷ rule (equal_lengths l (lengths_of b)) UnequalLengths 0
@@ -84,10 +84,10 @@ module _ (t : List ℕ) (n : ℕ) (l : Line) (b : Lent) (bytes : Bytes t) where
           ∷ rule (all_known n l.glyphs) UnknownGlyph 0
           ∷ []
 
-      walks : Fault
+      walks : FirstFault
       walks = rule (has_stopped (walk_of machine l)) EndlessWalk 0
 
-      behind : List Fault
+      behind : List FirstFault
       behind = rule (line_fits (parts_for (side_for t n l) l)) StageTotal 0 ∷ room_test (side_for t n l) l (length b.verdicts) ∷ []
 
       spared : All (Spares EndlessWalk) ahead

@@ -1,7 +1,7 @@
 -- What bars a line (document 01, "Numbers of refusal", 9 to 16, and document 02, request 7/14, 18), each in plain words, and in their order after the table's.
 use Rattle.std.specs.Prelude.{ℕ, ◌+◌, ◌*◌, ◌≤◌, ◌<◌, ◌≡◌, ◌⊎◌, List, [], ◌∷◌, ◌++◌, map, pos, length, get_or, replicate}
 use Rattle.std.proofs.Math.Option.{Option, none, some}
-use Rattle.fields.specs.declared.Fault.{Fault}
+use Rattle.fields.specs.Faults.{FirstFault}
 use Rattle.meaning.specs.Meaning.{Machine}
 use Rattle.class_walk.specs.Walk.{Ends, Never}
 use Rattle.class_walk.specs.Walk as walk
@@ -14,7 +14,7 @@ use Rattle.line_input.specs.Input.{KnownGlyphs, input_tests}
 use Rattle.line_call.specs.Justified.{Lent, side_for, lengths_of, work_tests, room_test}
 
 -- what can bar a line, in order
-abbrev pub line_parts : List ℕ → ℕ → Line → Lent → List Fault
+abbrev pub line_parts : List ℕ → ℕ → Line → Lent → List FirstFault
 line_parts t n l b =
     table_fault t n
     ∷ (input_tests l (lengths_of b) ++ (work_tests (side_for t n l) n l ++ (room_test (side_for t n l) l (length b.verdicts) ∷ [])))

@@ -1,11 +1,9 @@
 -- The call for a line in one point size, as it was before each glyph had its own (document 02, request 5/14) and before there was a second edition of the rule: the line
 -- and all that looks at its size; whatever looks at none is cited. Only `AsBefore` and `EmptyAsBefore` speak of it.
-use Rattle.std.specs.Prelude.{ℕ, suc, Bool, true, ◌&&◌, List, [], ◌∷◌, ◌++◌, map, leb, ℤ, ◌+ℤ◌, length, get_or, drop}
+use Rattle.std.specs.Prelude.{ℕ, suc, Bool, true, ◌&&◌, List, [], ◌∷◌, ◌++◌, map, leb, ℤ, ◌+ℤ◌, length, get_or, drop, Ok, Err}
 use Rattle.fields.specs.declared.Refusal.TheVariants.{UnequalLengths, LongLine, PointSize, Advances, UnknownGlyph, EndlessWalk, StageTotal, ShortRoom}
-use Rattle.fields.specs.declared.Fault.{Fault}
-use Rattle.fields.specs.declared.Fault.TheVariants.{Clear, Bad}
 use Rattle.fields.specs.Refusals.{number_of}
-use Rattle.fields.specs.Faults.{◌then◌, rule, first_fault}
+use Rattle.fields.specs.Faults.{FirstFault, ◌then◌, rule, first_fault}
 use Rattle.types.specs.declared.Direction.{Direction}
 use Rattle.types.specs.declared.Verdict.{Verdict}
 use Rattle.meaning.specs.Meaning.{Side}
@@ -74,7 +72,7 @@ abbrev pub equal_lengths : Line → List ℕ → Bool
 equal_lengths l lengths = all_long (length l.glyphs) (length l.advances ∷ lengths)
 
 -- 9 to 11, by the lengths of what is lent
-abbrev pub input_tests : Line → List ℕ → List Fault
+abbrev pub input_tests : Line → List ℕ → List FirstFault
 input_tests l lengths =
     rule (equal_lengths l lengths) UnequalLengths 0
     ∷ rule (leb (length l.glyphs) 1024) LongLine 0
@@ -82,7 +80,7 @@ input_tests l lengths =
     ∷ []
 
 -- 12 to 15, by the meaning of its direction
-abbrev pub work_tests : Side → ℕ → Line → List Fault
+abbrev pub work_tests : Side → ℕ → Line → List FirstFault
 work_tests s n l =
     rule (good_advances (unsized l)) Advances 0
     ∷ rule (all_known n l.glyphs) UnknownGlyph 0
@@ -91,11 +89,11 @@ work_tests s n l =
     ∷ []
 
 -- 16: there is room for its verdicts
-abbrev pub room_test : Side → Line → ℕ → Fault
+abbrev pub room_test : Side → Line → ℕ → FirstFault
 room_test s l room = rule (leb (length (verdicts_of s l)) room) ShortRoom 0
 
 -- the first fault of all, the table's before the line's
-unfoldable pub line_fault : List ℕ → ℕ → Line → Lent → Fault
+unfoldable pub line_fault : List ℕ → ℕ → Line → Lent → FirstFault
 line_fault t n l b =
     first_fault (table_fault t n ∷ (input_tests l (lengths_of b) ++ work_tests (side_of l.direction (meaning_of t n)) n l))
     then room_test (side_of l.direction (meaning_of t n)) l (length b.verdicts)
@@ -104,9 +102,9 @@ line_fault t n l b =
 
 -- a refusal is its number and offset alone, and changes no buffer; else every class and movement is stored, and the verdicts at the front of their room, the rest of
 -- which stays as it was
-abbrev pub settled : Fault → Side → Line → Lent → Outcome
-settled (Bad r at) s l b = record { answer = refuses (number_of r) at; lent = b }
-settled Clear s l b =
+abbrev pub settled : FirstFault → Side → Line → Lent → Outcome
+settled (Err f) s l b = record { answer = refuses (number_of f.refusal) f.at; lent = b }
+settled (Ok u) s l b =
     record {
       answer = justifies (remainder_of s l) (entries_of (walk_of s.machine (unsized l))) (length (verdicts_of s l));
       lent =

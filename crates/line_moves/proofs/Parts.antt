@@ -1,23 +1,19 @@
 -- The parts of a line's glyphs: factors, limits of width records, and two lists that are filled glyph by glyph, with the sums of the stages.
 use Prim.Native.Nat.{ℕ, zero, suc, ◌+◌, ◌*◌, ◌≤◌, ◌<◌, ◌^◌}
-use mathlib.Core.Path.{◌≡◌, refl, sym, ap, ap₂, ◌∙◌, subst}
+use mathlib.Core.Path.{◌≡◌, refl, sym, ap, ◌∙◌, subst}
 use mathlib.Core.Bool.{Bool, true, false, cond}
 use mathlib.Core.Option.{Option, none, some}
 use mathlib.Core.List.{List, [], ◌∷◌, ◌++◌, map}
 use native.Mathlib.Omega.{arith}
-use lib.Dec.{T, eqb}
+use lib.Dec.{eqb}
 use lib.IntN.{ℤ, pos, nat_abs, ◌*ℤ◌}
-use lib.Signed.{non_neg}
-use mir.Syntax.{w64}
-use mir.Val.{Fits, SFits, to_z, of_z}
-use mir.ValLaws.{to_z_pos, to_z-of_z}
 use native.Mathlib.Nat.{mul-le-mul}
 use native.Mathlib.Numerals.{add-one}
 use native.Mathlib.Decide.{ℕ_discrete}
 use lib.ListN.{length, get_or, drop, take, set, replicate, length-set, length-map, get_or-replicate, drop_of_length-le}
 use lib.Seq.{get_or-set_same, get_or-set_other}
 use borrow.Author.Tests.{eq-eqb, ne_eqb}
-use Rattle.fields.specs.declared.Fault.TheVariants.{Clear}
+use Rattle.fields.specs.Faults.{Clear}
 use Rattle.fields.specs.Field.{Bytes}
 use Rattle.types.specs.declared.Direction.{Direction}
 use Rattle.types.specs.declared.Direction.TheVariants.{Horizontal, Vertical}
@@ -30,7 +26,7 @@ use Rattle.encoding.proofs.ListLaws.{all_get_d}
 use Rattle.meaning.specs.Meaning.{Side}
 use Rattle.meaning.specs.Limits.{em_limit, OkPair, OkCluster, OkSide, Valid}
 use Rattle.meaning.specs.Ask.{side_of, record_of}
-use Rattle.actions.specs.declared.Spot.{Spot}
+use Rattle.std.specs.Prelude as std
 use Rattle.lookup_targets.specs.declared.Kind.TheVariants.{Clusters}
 use Rattle.lookup_targets.specs.Values.{cluster_here}
 use Rattle.table.specs.Table.{table_fault, Accepted}
@@ -41,12 +37,12 @@ use Rattle.table_ask.proofs.Asked.{side-is, clusters-are}
 use Rattle.share.specs.Carry.{widest}
 use Rattle.share.specs.Share.{total, of_stage}
 use Rattle.share.specs.Sides.{stage_in, extra_in, stages_in, extras_in}
-use Rattle.share.specs.Line.{Glyph, apart, side_stages, side_factors, side_extras, Narrow}
+use Rattle.share.specs.Line.{Glyph, side_stages, side_factors, side_extras, Narrow}
 use Rattle.share.proofs.Lists.{div_mono}
 use Rattle.share.proofs.Fill.{fill-again, fill_end}
 use Rattle.line_rule.specs.Line.{record_for, units_of, part_by, part_of, parts_of}
 use Rattle.line_input.specs.Input.{SmallSizes}
-use Rattle.line_moves.specs.Parts.{Small, IsSize, PartOf, glyph_of, Layable, put_sides, Laying, Laid, LaidOut, Sharable}
+use Rattle.line_moves.specs.Parts.{Small, glyph_of, Layable, put_sides, Laying, Laid, LaidOut, Sharable}
 use Rattle.line_moves.specs.declared.GlyphPart.{GlyphPart}
 
 -- ---- factors
@@ -54,6 +50,10 @@ use Rattle.line_moves.specs.declared.GlyphPart.{GlyphPart}
 pub factor-plain : (a s : ℕ) → a ≤ 2 ^ 31 → factor_of (pos a) s ≡ pos (units_of a s)
 unfolding factor_of
 factor-plain a s h = ap (λ (b : Bool). cond b (pos 0) (rounded_down (pos a *ℤ pos s) 65536)) (near-pos a h)
+
+-- the same of a limit as the code has it
+pub factor_size : (a : ℤ) (s : ℕ) → a ≡ pos (nat_abs a) → nat_abs a ≤ em_limit → nat_abs (factor_of a s) ≡ units_of (nat_abs a) s
+factor_size a s e h = ap (λ (z : ℤ). nat_abs (factor_of z s)) e ∙ ap nat_abs (factor-plain (nat_abs a) s (omega arith))
 
 -- ---- width records
 
@@ -81,7 +81,7 @@ module _ (t : List ℕ) (n : ℕ) (d : Direction) (bytes : Bytes t) (ok : table_
   record-limits g c =
       record-small c (get_or (side_of d (meaning_of t n)).clusters g []) (all_get_d OkCluster (side_of d (meaning_of t n)).clusters [] g (omega arith, tt, tt) side-ok.clusters).1
 
-pub record_is : (t : List ℕ) (n : ℕ) (d : Direction) (g c : ℕ) {s : Spot} → s ≡ spot_in t n d Clusters g
+pub record_is : (t : List ℕ) (n : ℕ) (d : Direction) (g c : ℕ) {s : std.Option ℕ} → s ≡ spot_in t n d Clusters g
     → record_of c (cluster_here t s) ≡ record_for (side_of d (meaning_of t n)) g c
 record_is t n d g c {s} e =
     ap (λ (l : List Pair). record_of c l)
@@ -146,76 +146,21 @@ module _ (s : Side) (shrink : Bool) where
   parts_next (z ∷ zs) (g ∷ gs) (c ∷ cs) zero d e h = refl
   parts_next (z ∷ zs) (g ∷ gs) (c ∷ cs) (suc i) d e h = parts_next zs gs cs i (omega arith) (omega arith) (omega arith)
 
--- ---- one glyph's part
-
-module _ (size : ℕ) where
-  pub part_apart : (shrink : Bool) {o : Option Pair} → o ≡ none → apart ≡ part_of shrink size o
-  part_apart true {o} e = sym (ap (part_of true size) e)
-  part_apart false {o} e = sym (ap (part_of false size) e)
-
-  pub part-shrinks : (p : Pair) {shrink : Bool} {o : Option Pair} → shrink ≡ true → o ≡ some p
-      → part_by size p.flags.shrink p.before.shrink p.after.shrink ≡ part_of shrink size o
-  part-shrinks p {shrink} {o} s e = sym (ap (λ (b : Bool). part_of b size o) s ∙ ap (part_of true size) e)
-
-  pub part-grows : (p : Pair) {shrink : Bool} {o : Option Pair} → shrink ≡ false → o ≡ some p
-      → part_by size p.flags.grow p.before.grow p.after.grow ≡ part_of shrink size o
-  part-grows p {shrink} {o} s e = sym (ap (λ (b : Bool). part_of b size o) s ∙ ap (part_of false size) e)
-
--- a limit in 64 bits is a size
-module _ (a : ℕ) (h : a ≤ 2 ^ 31) where
-  wide-limit : to_z w64 a ≡ pos a
-  wide-limit = to_z_pos w64 a (omega arith)
-
-  pub limit-size : nat_abs (to_z w64 a) ≡ a
-  limit-size = ap nat_abs wide-limit
-
-  pub is-size : IsSize (to_z w64 a)
-  is-size = record { plain = wide-limit ∙ ap pos (sym limit-size); low = omega (arith, limit-size) }
-
--- the limits of a record that is there are sizes
-pub small-shrink : (p : Pair) {o : Option Pair} → o ≡ some p → Small o → (p.before.shrink ≤ 2 ^ 31) × (p.after.shrink ≤ 2 ^ 31)
-small-shrink p {o} e w = let l = subst Small e w in (omega (arith, l.0.1), omega (arith, l.1.1))
-
-pub small-grow : (p : Pair) {o : Option Pair} → o ≡ some p → Small o → (p.before.grow ≤ 2 ^ 31) × (p.after.grow ≤ 2 ^ 31)
-small-grow p {o} e w = let l = subst Small e w in (omega (arith, l.0.0), omega (arith, l.1.0))
-
--- a part by limits in 64 bits
-pub part-wide : {p : GlyphPart} (size flags b a : ℕ) → b ≤ 2 ^ 31 → a ≤ 2 ^ 31 → PartOf p (part_by size flags (nat_abs (to_z w64 b)) (nat_abs (to_z w64 a))) → {g : Glyph} → part_by size flags b a ≡ g → PartOf p g
-part-wide {p} size flags b a hb ha w {g} e =
-    subst (PartOf p) (ap₂ (λ (x y : ℕ). part_by size flags x y) (limit-size b hb) (limit-size a ha) ∙ e) w
-
--- a factor as a plain number
-not-below : {z : ℤ} (n : ℕ) → z ≡ pos n → z ≡ pos (nat_abs z)
-not-below n e = e ∙ sym (ap (λ (x : ℤ). pos (nat_abs x)) e)
-
-pub plain_fits : {z : ℤ} → SFits w64 z → z ≡ pos (nat_abs z) → T (non_neg (to_z w64 (of_z w64 z))) × Fits w64 (nat_abs (to_z w64 (of_z w64 z)))
-plain_fits {z} f e = rw (to_z-of_z w64 z f) (at_size (nat_abs z) e)
-  where
-    at_size : (n : ℕ) → z ≡ pos n → T (non_neg z) × Fits w64 (nat_abs z)
-    at_size n q = rw q (tt, record { fits = omega (arith, (rw q at f).sfits) })
-
 -- ---- one glyph's part is stored
-
-part-glyph : {p : GlyphPart} {g : Glyph} → PartOf p g → glyph_of p ≡ g
-part-glyph {p} {g} w = rw (w.priority, w.extra, w.before, w.after)
-
-pub part-plain : {p : GlyphPart} {g : Glyph} → PartOf p g → PartOf p (glyph_of p)
-part-plain {p} {g} w =
-    record { priority = refl; extra = refl; before = not-below g.before w.before; after = not-below g.after w.after }
 
 module _ (s : Side) (shrink : Bool) {t : List ℕ} {n : ℕ} {zs gs cs : List ℕ} (w : Sharable t n zs gs cs) where
   pub parts-count : length (parts_of s shrink zs gs cs) ≡ length gs
   parts-count = parts-length s shrink zs gs cs w.sizes w.classes
 
-  module _ (p : GlyphPart) (i : ℕ) (o : Option Pair) (e : PartOf p (part_of shrink (get_or zs i 0) o)) where
+  module _ (p : GlyphPart) (i : ℕ) (o : Option Pair) (e : glyph_of p ≡ part_of shrink (get_or zs i 0) o) where
     pub may-lay : Small o → Layable (glyph_of p)
-    may-lay l = subst Layable (sym (part-glyph e)) (part-layable shrink (get_or zs i 0) o l (w.small i))
+    may-lay l = subst Layable (sym e) (part-layable shrink (get_or zs i 0) o l (w.small i))
 
     pub comes-next : o ≡ record_for s (get_or gs i 0) (get_or cs i 0) → i < length gs
         → drop i (parts_of s shrink zs gs cs) ≡ glyph_of p ∷ drop (suc i) (parts_of s shrink zs gs cs)
     comes-next r h =
         parts_next s shrink zs gs cs i w.sizes w.classes h
-        ∙ ap (λ (g : Glyph). g ∷ drop (suc i) (parts_of s shrink zs gs cs)) (sym (part-glyph e ∙ ap (part_of shrink (get_or zs i 0)) r))
+        ∙ ap (λ (g : Glyph). g ∷ drop (suc i) (parts_of s shrink zs gs cs)) (sym (e ∙ ap (part_of shrink (get_or zs i 0)) r))
 
 map-set : (f : ℕ → ℕ) (l : List ℕ) (i v : ℕ) → map f (set l i v) ≡ set (map f l) i (f v)
 map-set f [] i v = refl
@@ -225,14 +170,14 @@ map-set f (x ∷ l) (suc i) v = ap (λ (t : List ℕ). f x ∷ t) (map-set f l i
 sides-put : (f : ℕ → ℕ) (l : List ℕ) (place x y : ℕ) {u v : ℕ} → f x ≡ u → f y ≡ v → map f (put_sides l place x y) ≡ put_sides (map f l) place u v
 sides-put f l place x y d e = map-set f (set l (2 * place) x) (2 * place + 1) y ∙ rw (map-set f l (2 * place) x, d, e)
 
-pub laying : (g : Glyph) (place : ℕ) (sides fs : List ℕ) (x y : ℕ) {b a sum : ℕ} → (stage_in x ≡ g.stage) × (extra_in x ≡ 0) → (stage_in y ≡ g.stage) × (extra_in y ≡ g.extra)
-    → b ≡ g.before → a ≡ g.after → sum ≡ b + a → Laying g place sides fs sum (put_sides sides place x y) (put_sides fs place b a)
-laying g place sides fs x y {b} {a} {sum} wx wy eb ea e =
+pub laying : (g : Glyph) (place : ℕ) (sides fs : List ℕ) (x y : ℕ) {b a : ℕ} → (stage_in x ≡ g.stage) × (extra_in x ≡ 0) → (stage_in y ≡ g.stage) × (extra_in y ≡ g.extra)
+    → b ≡ g.before → a ≡ g.after → Laying g place sides fs (b + a) (put_sides sides place x y) (put_sides fs place b a)
+laying g place sides fs x y {b} {a} wx wy eb ea =
     record {
       stages = sides-put stage_in sides place x y wx.0 wy.0;
       extras = sides-put extra_in sides place x y wx.1 wy.1;
       factors = rw (eb, ea);
-      sum = rw (e, eb, ea);
+      sum = rw (eb, ea);
     }
 
 -- ---- a loop that fills the two lists

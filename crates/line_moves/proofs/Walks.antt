@@ -1,6 +1,6 @@
 -- The walk of a line by a direction's machine in the table's bytes is its walk by the machine of the table's meaning.
 use Prim.Native.Nat.{ℕ, zero, suc, ◌+◌, ◌*◌, ◌≤◌, ◌<◌, ◌^◌}
-use mathlib.Core.Path.{◌≡◌, refl, sym, ap, ◌∙◌}
+use mathlib.Core.Path.{◌≡◌, refl, sym, ap, ◌∙◌, subst}
 use mathlib.Core.Logic.{◌⊎◌, inl, inr}
 use mathlib.Core.Bool.{Bool, true, false, cond}
 use mathlib.Core.Option.{Option, none, some}
@@ -10,7 +10,7 @@ use native.Mathlib.Decide.{ℕ_discrete}
 use lib.Dec.{ltb}
 use lib.ListN.{length, get_or, replicate, length-map, length-replicate}
 use borrow.Author.Tests.{eq-eqb, ne_eqb, ltb-true}
-use Rattle.fields.specs.declared.Fault.TheVariants.{Clear}
+use Rattle.fields.specs.Faults.{Clear}
 use Rattle.types.specs.declared.Direction.{Direction}
 use Rattle.types.specs.declared.Entry.{Entry}
 use Rattle.units.specs.Flags.{stays}
@@ -32,13 +32,13 @@ use Rattle.table_ask.proofs.Rows.{cell-by, index_below}
 use Rattle.table_ask.proofs.Asked.{side-is, machine-is}
 use Rattle.class_walk.specs.Walk.{Machine, Line, Conf, Walk, going, stopped, Fits, glyphs, column_at, met, on_at, given_by, taken, step, begin, after, most_entries, walked, no_walk}
 use Rattle.class_walk.specs.Line.{machine_at, line_of, line_column, line_columns, HandedOut, SoundMachine, Columns}
-use Rattle.class_walk.specs.declared.Walked.{Walked}
+use Rattle.std.proofs.Common.{Some, None}
+use Rattle.std.specs.Prelude as std
 use Rattle.class_walk.proofs.Laws.{walked-ends, ends-length}
-use Rattle.class_walk.proofs.Line.{fits-of, columns_of_lem, handed-same, handed-ended, handed-going}
+use Rattle.class_walk.proofs.Line.{fits-of, columns_of_lem, handed-ended, handed-going}
 use Rattle.line_rule.specs.Line.{walk_machine, column_of, walk_of, has_stopped, classes_of, entries_of}
 use Rattle.line_rule.specs.Line as lines
 use Rattle.line_input.specs.Input.{KnownGlyphs}
-use Rattle.line_moves.specs.Parts.{bare_line}
 
 -- ---- two machines with the same cells walk alike
 
@@ -133,18 +133,16 @@ module _ (t : List ℕ) (n here : ℕ) where
           exact = cell-exact t n here clear;
         }
 
-    module _ (gs : List ℕ) (short : length gs ≤ 1024) (known : KnownGlyphs n gs) where
-      pub columns : Columns t here (line_columns t here gs)
-      columns = columns_of_lem t here n (classes-least t n here clear) (class-below t n here clear) gs short known
+    module _ (l : lines.Line) (short : length l.glyphs ≤ 1024) (known : KnownGlyphs n l.glyphs) where
+      pub columns : Columns t here (line_columns t here l.glyphs)
+      columns = columns_of_lem t here n (classes-least t n here clear) (class-below t n here clear) l.glyphs short known
 
-      pub same-walk : (starts ends : Bool)
-          → walked (machine_at t here) (line_of (line_columns t here gs) starts ends)
-          ≡ walk_of (some (means.machine_at t n here)) (bare_line gs starts ends)
+      pub same-walk : walked (machine_at t here) (line_of (line_columns t here l.glyphs) l.starts l.ends) ≡ walk_of (some (means.machine_at t n here)) l
       unfolding walk_of means.machine_at
-      same-walk starts ends =
-          same-walked (machine_at t here) (walk_machine (means.machine_at t n here)) (line_of (line_columns t here gs) starts ends)
-          (fits-of starts ends sound columns) same-cells refl
-          ∙ ap (λ (ks : List ℕ). walked (walk_machine (means.machine_at t n here)) (line_of ks starts ends)) (same-columns gs known)
+      same-walk =
+          same-walked (machine_at t here) (walk_machine (means.machine_at t n here)) (line_of (line_columns t here l.glyphs) l.starts l.ends)
+          (fits-of l.starts l.ends sound columns) same-cells refl
+          ∙ ap (λ (ks : List ℕ). walked (walk_machine (means.machine_at t n here)) (line_of ks l.starts l.ends)) (same-columns l.glyphs known)
 
 -- ---- a direction's machine
 
@@ -167,23 +165,15 @@ module _ (t : List ℕ) (n : ℕ) (d : Direction) where
         sym (present-some o _ z) ∙ ap (machine_part t n) e ∙ table.machine-clear t (direction_at t d) n (direction-clear t n ok d)
 
     -- no machine: every class 0, no entry taken
-    pub no_walk_lem : o ≡ 0 → (gs : List ℕ) (starts ends : Bool)
-        → walk_of (side_of d (meaning_of t n)).machine (bare_line gs starts ends) ≡ no_walk (line_of gs starts ends)
+    pub no_walk_lem : o ≡ 0 → (l : lines.Line) → walk_of (side_of d (meaning_of t n)).machine l ≡ no_walk (line_of l.glyphs l.starts l.ends)
     unfolding walk_of
-    no_walk_lem z gs starts ends = ap (λ (m : Option meaning.Machine). walk_of m (bare_line gs starts ends)) (none-there z)
+    no_walk_lem z l = ap (λ (m : Option meaning.Machine). walk_of m l) (none-there z)
 
-    pub a-walk : (z : o ≡ 0 → ⊥) (near : o + 8 < 2 ^ 32) (ok : table_fault t n ≡ Clear) (gs : List ℕ) → length gs ≤ 1024 → KnownGlyphs n gs → (starts ends : Bool)
-        → walked (machine_at t (o + 8)) (line_of (line_columns t (o + 8) gs) starts ends)
-        ≡ walk_of (side_of d (meaning_of t n)).machine (bare_line gs starts ends)
-    a-walk z near ok gs short known starts ends =
-        same-walk t n (o + 8) near (machine-clear ok z) gs short known starts ends
-        ∙ ap (λ (m : Option meaning.Machine). walk_of m (bare_line gs starts ends)) (sym (one-there z))
-
--- the walk looks at nothing of a line but this
-pub walk-bare : (m : Option meaning.Machine) (l : lines.Line) → walk_of m l ≡ walk_of m (bare_line l.glyphs l.starts l.ends)
-unfolding walk_of
-walk-bare none l = refl
-walk-bare (some m) l = refl
+    pub a-walk : (z : o ≡ 0 → ⊥) (near : o + 8 < 2 ^ 32) (ok : table_fault t n ≡ Clear) (l : lines.Line) → length l.glyphs ≤ 1024 → KnownGlyphs n l.glyphs
+        → walked (machine_at t (o + 8)) (line_of (line_columns t (o + 8) l.glyphs) l.starts l.ends) ≡ walk_of (side_of d (meaning_of t n)).machine l
+    a-walk z near ok l short known =
+        same-walk t n (o + 8) near (machine-clear ok z) l short known
+        ∙ ap (λ (m : Option meaning.Machine). walk_of m l) (sym (one-there z))
 
 -- ---- a walk of any machine, as it was handed out
 
@@ -195,27 +185,24 @@ walk-length (some m) l cs k e =
     ends-length (walk_machine m) (line_of (map (column_of m) l.glyphs) l.starts l.ends) cs k (walked-ends (walk_machine m) (line_of (map (column_of m) l.glyphs) l.starts l.ends) cs k e)
     ∙ length-map l.glyphs (column_of m)
 
--- what the answer of `line_walk`, and the room that was lent it, say of a walk that ended
-pub record Ended (m : Option meaning.Machine) (l : lines.Line) (r : Walked) (room : List ℕ) : Type 0 where
+-- what the count that `line_walk` answers, and the room that was lent it, say of a walk that ended
+pub record Ended (m : Option meaning.Machine) (l : lines.Line) (k : ℕ) (room : List ℕ) : Type 0 where
   pub stops : has_stopped (walk_of m l) ≡ true
   pub classes : room ≡ classes_of (walk_of m l)
-  pub count : r.count ≡ entries_of (walk_of m l)
+  pub count : k ≡ entries_of (walk_of m l)
   pub each : length (classes_of (walk_of m l)) ≡ length l.glyphs
 
-module _ (m : Option meaning.Machine) (l : lines.Line) (r : Walked) (room : List ℕ) (h : HandedOut (walk_of m (bare_line l.glyphs l.starts l.ends)) r room) where
-  out : HandedOut (walk_of m l) r room
-  out = handed-same (sym (walk-bare m l)) h
-
-  pub walk-ended : r.ends ≡ true → Ended m l r room
-  walk-ended q =
-      let f : walk_of m l ≡ stopped room r.count = handed-ended (walk_of m l) r room out q in
+module _ (m : Option meaning.Machine) (l : lines.Line) {r : std.Option ℕ} (room : List ℕ) (h : HandedOut (walk_of m l) r room) where
+  pub walk-ended : (k : ℕ) → r ≡ Some k → Ended m l k room
+  walk-ended k q =
+      let f : walk_of m l ≡ stopped room k = handed-ended (walk_of m l) k room (subst (λ (o : std.Option ℕ). HandedOut (walk_of m l) o room) q h) in
       let s : classes_of (walk_of m l) ≡ room = ap classes_of f in
       record {
         stops = ap has_stopped f;
         classes = sym s;
         count = sym (ap entries_of f);
-        each = ap length s ∙ walk-length m l room r.count f;
+        each = ap length s ∙ walk-length m l room k f;
       }
 
-  pub walk-endless : r.ends ≡ false → has_stopped (walk_of m l) ≡ false
-  walk-endless q = let f = handed-going (walk_of m l) r room out q in ap has_stopped f.1
+  pub walk-endless : r ≡ None → has_stopped (walk_of m l) ≡ false
+  walk-endless q = let f = handed-going (walk_of m l) room (subst (λ (o : std.Option ℕ). HandedOut (walk_of m l) o room) q h) in ap has_stopped f.1

@@ -1,46 +1,32 @@
 -- What a line's call works out before its verdicts, as the functions here have it (document 01, "The class walk" and "Sharing the gap"): a line's glyphs and
 -- their classes, the parts of the glyphs side by side, and a gap that was shared or that refusal 15 bars.
-use Rattle.std.specs.Prelude.{ℕ, ◌+◌, ◌*◌, ◌<◌, ◌≤◌, ◌^◌, ◌≡◌, Bool, cond, List, [], ℤ, pos, nat_abs, length, set}
+use Rattle.std.specs.Prelude.{ℕ, ◌+◌, ◌*◌, ◌<◌, ◌≤◌, ◌^◌, ◌≡◌, Bool, cond, List, [], ℤ, pos, nat_abs, length, set, Some, None}
+use Rattle.std.specs.Prelude as std
 use Rattle.std.proofs.Math.Option.{Option, none, some}
 use Rattle.std.specs.Int.Signed.{lt_z}
-use Rattle.types.specs.declared.Direction.TheVariants.{Horizontal}
 use Rattle.types.specs.declared.Pair.{Pair}
 use Rattle.meaning.specs.Meaning.{Side}
-use Rattle.meaning.specs.Limits.{OkLimits}
-use Rattle.fields.specs.declared.Fault.TheVariants.{Clear}
+use Rattle.meaning.specs.Limits.{em_limit, OkLimits}
+use Rattle.fields.specs.Faults.{Clear}
 use Rattle.table.specs.Table.{table_fault}
 use Rattle.share.specs.Carry.{widest}
 use Rattle.share.specs.Line.{Glyph, side_stages, side_factors, side_extras, line_moves, line_left, line_fits, signed_of}
 use Rattle.share.specs.Sides.{stages_in, extras_in, TotalsOf}
 use Rattle.share.specs.declared.Totals.{Totals}
+use Rattle.units.specs.declared.Units.{Units}
 use Rattle.units.specs.Fixed.{in_units}
 use Rattle.line_rule.specs.Line.{Line, goes_back, parts_of}
 use Rattle.line_input.specs.Input.{SmallSizes}
 use Rattle.line_moves.specs.declared.GlyphPart.{GlyphPart}
-use Rattle.line_moves.specs.declared.Shared.{Shared}
-use Rattle.line_moves.specs.declared.Shared.TheVariants.{Left, Over}
-
--- a line of which only that is said which the class walk looks at: its glyphs, and whether it starts and ends the text; no size and no edition
-abbrev pub bare_line : List ℕ → Bool → Bool → Line
-bare_line glyphs starts ends =
-    record { direction = Horizontal; starts = starts; ends = ends; sizes = []; glyphs = glyphs; advances = []; target = pos 0; edition = 0 }
 
 -- the limits of a width record, if there is one, are at most 16 em
 abbrev pub Small : Option Pair → Type 0
 Small none = Unit {0}
 Small (some p) = OkLimits p.before × OkLimits p.after
 
--- a limit as its size: not below 0, and no more than a Fixed's size can be
-pub record IsSize (limit : ℤ) : Type 0 where
-  pub plain : limit ≡ pos (nat_abs limit)
-  pub low : nat_abs limit ≤ 2 ^ 31
-
--- what the code has of a glyph is its part
-pub record PartOf (p : GlyphPart) (g : Glyph) : Type 0 where
-  pub priority : p.priority ≡ g.stage
-  pub extra : p.extra ≡ g.extra
-  pub before : p.before.0 ≡ pos g.before
-  pub after : p.after.0 ≡ pos g.after
+-- a limit of at most 16 em, which is not negative
+abbrev pub IsLimit : ℤ → Type 0
+IsLimit limit = (limit ≡ pos (nat_abs limit)) × (nat_abs limit ≤ em_limit)
 
 -- the part that the code has of a glyph
 abbrev pub glyph_of : GlyphPart → Glyph
@@ -77,16 +63,16 @@ pub record LaidOut (gs : List Glyph) (ts : Totals) (sides fs : List ℕ) : Type 
 
 -- a gap, given as its size, shared over the sides of glyphs with these parts, by an edition that goes back or not: the remainder with the gap's sign, the movements as their
 -- sizes; where a stage's total is above the most that it may be, the movements stay as they were
-abbrev pub shared_of : Bool → Bool → ℕ → List Glyph → Shared
-shared_of shrink back gap gs = cond (line_fits gs) (Left (in_units (signed_of shrink (line_left back gs gap)))) Over
+abbrev pub shared_of : Bool → Bool → ℕ → List Glyph → std.Option Units
+shared_of shrink back gap gs = cond (line_fits gs) (Some (in_units (signed_of shrink (line_left back gs gap)))) None
 
-pub record SharedOut (shrink back : Bool) (gap : ℕ) (gs : List Glyph) (ms : List ℕ) (shared : Shared) (ms' : List ℕ) : Type 0 where
+pub record SharedOut (shrink back : Bool) (gap : ℕ) (gs : List Glyph) (ms : List ℕ) (shared : std.Option Units) (ms' : List ℕ) : Type 0 where
   pub answer : shared ≡ shared_of shrink back gap gs
   pub moves : ms' ≡ cond (line_fits gs) (line_moves back gs gap) ms
 
--- a gap with its sign, shared by an edition over the sides of glyphs of these sizes and classes
-abbrev pub SharedGap : ℤ → ℕ → Side → List ℕ → List ℕ → List ℕ → List ℕ → Shared → List ℕ → Type 0
-SharedGap gap edition s sizes glyphs classes = SharedOut (lt_z gap (pos 0)) (goes_back edition) (nat_abs gap) (parts_of s (lt_z gap (pos 0)) sizes glyphs classes)
+-- a gap with its sign, shared by the line's edition over the sides of its glyphs, of these classes
+abbrev pub SharedGap : ℤ → Side → Line → List ℕ → List ℕ → std.Option Units → List ℕ → Type 0
+SharedGap gap s l classes = SharedOut (lt_z gap (pos 0)) (goes_back l.edition) (nat_abs gap) (parts_of s (lt_z gap (pos 0)) l.sizes l.glyphs classes)
 
 -- what is asked of a line whose gap is shared: the table is accepted; there are no more glyphs than a line may have, with a size and a class for each, and no size is too large
 pub record Sharable (t : List ℕ) (n : ℕ) (zs gs cs : List ℕ) : Type 0 where

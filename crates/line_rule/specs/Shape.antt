@@ -1,6 +1,7 @@
 -- A line from what its call is told in numbers and the slices that are lent with it (document 01, demand 2).
 use Rattle.std.specs.Prelude.{ℕ, List, ℤ}
 use Rattle.line_rule.specs.declared.LineShape.{LineShape}
+use Rattle.line_rule.specs.declared.LineView.{LineView}
 use Rattle.line_rule.specs.Line.{Line}
 
 abbrev pub line_by : LineShape → List ℕ → List ℕ → List ℤ → Line
@@ -15,3 +16,7 @@ line_by shape sizes glyphs advances =
       target = shape.target;
       edition = shape.edition;
     }
+
+-- a line as it is lent
+abbrev pub line_in : LineView → Line
+line_in v = line_by v.shape v.sizes.now v.glyphs.now v.advances.now

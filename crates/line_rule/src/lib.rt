@@ -9,7 +9,8 @@ ghost use Rattle.line_rule.specs.Line.{goes_back, known_edition};
 use types::Direction;
 
 // A line but for its glyphs, their point sizes and advances: its direction, whether it starts and ends the text, its
-// target, in units, and the edition of the rule. It goes by value from the call to where each is used.
+// target, in units, and the edition of the rule. It goes by value from the call to where each is used. The edition is a
+// number and no enum: one that is neither is handed in too, and refused in its turn (18).
 #[derive(Clone, Copy)]
 pub struct LineShape {
     pub direction: Direction,
@@ -17,6 +18,15 @@ pub struct LineShape {
     pub ends: bool,
     pub target: i32,
     pub edition: u32,
+}
+
+// A line as it is lent: beside its shape its glyphs, and the point size and the advance of each. It goes by value too.
+#[derive(Clone, Copy)]
+pub struct LineView<'a> {
+    pub shape: LineShape,
+    pub sizes: &'a [u32],
+    pub glyphs: &'a [u16],
+    pub advances: &'a [i32],
 }
 
 // The edition that goes back with what the stages leave, and the one that stops at the limits.
@@ -34,8 +44,5 @@ pub fn goes_back(edition: u32) -> bool
 pub fn known_edition(edition: u32) -> bool
     ensures { result ≡ known_edition edition }
 {
-    if goes_back(edition) {
-        return true;
-    }
-    edition == STOPPING
+    goes_back(edition) || edition == STOPPING
 }

@@ -9,7 +9,6 @@ use native.Mathlib.Numerals.{add-one}
 use lib.Dec.{eqb}
 use lib.IntN.{ℤ}
 use lib.ListN.{length, length-append}
-use lib.Pow.{pow_mono}
 use Rattle.fields.specs.Field.{u32_at}
 use Rattle.types.specs.declared.Verdict.{Verdict}
 use Rattle.meaning.specs.Meaning.{Action}
@@ -19,7 +18,7 @@ use Rattle.verdict.specs.declared.Fires.TheVariants.{No, Plain, Substitutes}
 use Rattle.verdict.specs.Verdict.{fires_of}
 use Rattle.line_rule.specs.Line.{record_if, firings}
 use Rattle.line_verdicts.specs.declared.GlyphBits.{GlyphBits}
-use Rattle.line_verdicts.specs.Bits.{verdict_of, bits_tell, fires_number, note_action, ClearList, Keeps}
+use Rattle.line_verdicts.specs.Bits.{verdict_of, bits_tell, no_bits, note_action, ClearList, Keeps}
 use Rattle.line_verdicts.proofs.Laws.{clear-past, one-most}
 
 -- ---- what bits tell
@@ -127,23 +126,6 @@ substitutes-most No bit = omega arith
 substitutes-most Plain bit = omega arith
 substitutes-most Substitutes bit = omega arith
 
-module _ (does bit : ℕ) (b : GlyphBits) where
-  pub note-none : does ≡ 0 → (f : Fires) → does ≡ fires_number f → b ≡ note_action f bit b
-  note-none z No e = refl
-  note-none z Plain e = absurd (omega arith)
-  note-none z Substitutes e = absurd (omega arith)
-
-  pub note-plain : does ≡ 1 → (f : Fires) → does ≡ fires_number f → record { fires = b.fires + bit; substitutes = b.substitutes; firing = b.firing + 1 } ≡ note_action f bit b
-  note-plain z No e = absurd (omega arith)
-  note-plain z Plain e = refl
-  note-plain z Substitutes e = absurd (omega arith)
-
-  pub note-substitutes : (does ≡ 0 → ⊥) → (does ≡ 1 → ⊥) → (f : Fires) → does ≡ fires_number f
-      → record { fires = b.fires + bit; substitutes = b.substitutes + bit; firing = b.firing + 1 } ≡ note_action f bit b
-  note-substitutes z u No e = absurd (z e)
-  note-substitutes z u Plain e = absurd (u e)
-  note-substitutes z u Substitutes e = refl
-
 -- ---- a list is passed
 
 -- the first so many actions of a list are noted, and so many are left
@@ -165,11 +147,11 @@ module _ (t : List ℕ) (class : ℕ) (growth : ℤ) (size : ℕ) where
   split place number zero at h = absurd (omega arith)
   split place number (suc m) at h = let d : suc m - 1 ≡ m = omega arith in simp (d, add-one)
 
-  pub noting-start : (count first : ℕ) → ClearList t count first
-      → Noting t class growth size count first (record { fires = 0; substitutes = 0; firing = 0 }) 0 count first
+  pub noting-start : {b : GlyphBits} {left : ℕ} (count first : ℕ) → b ≡ no_bits → left ≡ count → ClearList t count first
+      → Noting t class growth size count first b 0 left first
   unfolding bits_tell
-  noting-start count first s =
-      record {
+  noting-start count first e l s =
+      rw (e, l) (record {
         list = s;
         few = omega (arith, s.few);
         fires = omega arith;
@@ -177,21 +159,15 @@ module _ (t : List ℕ) (class : ℕ) (growth : ℤ) (size : ℕ) where
         told = λ place. refl;
         counted = λ place. refl;
         most = omega arith;
-      }
+      })
 
   module _ (count first : ℕ) (b : GlyphBits) (number left at : ℕ) (n : Noting t class growth size count first b number left at) where
-    -- there is room for the bit of the next
-    pub note-room : 0 < left → (b.fires + 2 ^ number < 2 ^ 64) × (b.substitutes + 2 ^ number < 2 ^ 64) × (b.firing < 64)
-    note-room h =
-        let m : 2 ^ suc number ≤ 2 ^ 64 = pow_mono {i = suc number} {j = 64} (omega (arith, n.few)) in
-        (omega (arith, m, pow-double number, n.fires), omega (arith, m, pow-double number, n.substitutes), omega (arith, n.few, n.most))
-
-    pub noting-next : 0 < left → (r : GlyphBits) → r ≡ note_action (fires_of (action_at t at) class growth size) (2 ^ number) b → (w : ℕ) → w ≡ u32_at t (at + 4)
-        → Noting t class growth size count first r (number + 1) (left - 1) (at + w)
-    noting-next h r e w g =
-        subst (λ (x : GlyphBits). Noting t class growth size count first x (number + 1) (left - 1) (at + w)) (sym e)
-        (subst (λ (k : ℕ). Noting t class growth size count first next (number + 1) (left - 1) (at + k)) (sym g)
-        (record {
+    pub noting-next : 0 < left → {does : Fires} → does ≡ fires_of (action_at t at) class growth size → {bit : ℕ} → bit ≡ 2 ^ number
+        → {r : GlyphBits} → r ≡ note_action does bit b → {w : ℕ} → w ≡ u32_at t (at + 4) → {less : ℕ} → less + 1 ≡ left
+        → Noting t class growth size count first r (number + 1) less (at + w)
+    noting-next h {does} d {bit} k {r} e {w} g {less} l =
+        let m : left - 1 ≡ less = omega arith in
+        rw (e, d, k, g, ← m) (record {
           list = clear-past t left at n.list h;
           few = omega (arith, n.few);
           fires = subst (λ (k : ℕ). next.fires < 2 ^ k) (sym (add-one number)) (omega (arith, n.fires, noted-fires (2 ^ number) b f, fires-most f (2 ^ number), pow-double number));
@@ -209,7 +185,7 @@ module _ (t : List ℕ) (class : ℕ) (growth : ℤ) (size : ℕ) where
               ∙ sym (length-append (bits_tell number place 0 b.fires b.substitutes) (record_if f place number))
               ∙ ap (λ (vs : List Verdict). length vs) (sym (longer place));
           most = omega (arith, n.most, noted-firing (2 ^ number) b f 0 0, one-most f 0 0);
-        }))
+        })
       where
         f : Fires
         f = fires_of (action_at t at) class growth size
@@ -240,8 +216,7 @@ module _ (t : List ℕ) (class : ℕ) (growth : ℤ) (size : ℕ) where
             ∙ append-nil _
 
 -- nothing is kept of an empty list
-pub keeps-none : (class : ℕ) (growth : ℤ) (size : ℕ) (actions : List Action) → actions ≡ [] → Keeps class growth size actions (record { fires = 0; substitutes = 0; firing = 0 })
+pub keeps-none : (class : ℕ) (growth : ℤ) (size : ℕ) (actions : List Action) {b : GlyphBits} → actions ≡ [] → b ≡ no_bits → Keeps class growth size actions b
 unfolding firings
-keeps-none class growth size actions e =
-    subst (λ (l : List Action). Keeps class growth size l (record { fires = 0; substitutes = 0; firing = 0 })) (sym e)
-    (record { told = λ place. tell-zero 64 place 0 0; firing = λ place. refl; few = omega arith })
+keeps-none class growth size actions e z =
+    rw (e, z) (record { told = λ place. tell-zero 64 place 0 0; firing = λ place. refl; few = omega arith })

@@ -9,18 +9,17 @@ use native.Mathlib.Nat.{add_assoc}
 use lib.IntN.{ℤ, ◌+ℤ◌}
 use lib.ListN.{length, get_or, drop, length-append}
 use borrow.Author.Tests.{eq-eqb, ne_eqb}
-use Rattle.fields.specs.declared.Fault.TheVariants.{Clear}
+use Rattle.fields.specs.Faults.{Clear}
 use Rattle.fields.specs.Field.{u16_at, u32_at}
 use Rattle.fields.proofs.Laws.{then-first, then-second}
 use Rattle.fields.specs.Walk.{walk}
 use Rattle.types.specs.declared.Direction.{Direction}
 use Rattle.meaning.specs.Meaning.{Action, Side}
 use Rattle.meaning.specs.Ask.{side_of}
-use Rattle.actions.specs.declared.Spot.{Spot}
-use Rattle.actions.specs.declared.Spot.TheVariants.{At, Nowhere}
+use Rattle.std.proofs.Common.{Option, Some, None}
 use Rattle.actions.specs.Faults.{action_fault, actions_fault, list_fault}
 use Rattle.encoding.proofs.UptoLaws.{get_or-from}
-use Rattle.actions.specs.Actions.{bytes_at, content_at, action_at, actions_at, list_at, SpotBelow}
+use Rattle.actions.specs.Actions.{bytes_at, content_at, action_at, actions_at, list_at}
 use Rattle.actions.proofs.Laws.{action-inside, list_count, list_length}
 use Rattle.lookup_targets.specs.declared.Kind.TheVariants.{Lists}
 use Rattle.lookup_targets.specs.Values.{list_here}
@@ -31,7 +30,6 @@ use Rattle.verdict.proofs.Laws.{u32-dropped}
 use Rattle.table.specs.Table.{table_fault}
 use Rattle.table.specs.Means.{meaning_of}
 use Rattle.table.proofs.Laws.{short}
-use Rattle.table_ask.specs.declared.Lookup.TheVariants.{Absent}
 use Rattle.table_ask.specs.Places.{lookup_in, spot_in}
 use Rattle.table_ask.proofs.Steps.{spot-found}
 use Rattle.table_ask.proofs.Asked.{side-is, lists-are}
@@ -43,13 +41,13 @@ use Rattle.line_verdicts.specs.Bits.{ClearList}
 
 module _ (t : List ℕ) (n : ℕ) (d : Direction) where
   -- a glyph's actions stand where they are found
-  pub list-here : (g : ℕ) (s : Spot) → s ≡ spot_in t n d Lists g → get_or (side_of d (meaning_of t n)).lists g [] ≡ list_here t s
+  pub list-here : (g : ℕ) (s : Option ℕ) → s ≡ spot_in t n d Lists g → get_or (side_of d (meaning_of t n)).lists g [] ≡ list_here t s
   list-here g s e = ap (λ (x : Side). get_or x.lists g []) (side-is t n d) ∙ lists-are t n d g ∙ ap (list_here t) (sym e)
 
   -- so many from its first on
-  pub list-there : (g q m : ℕ) → At q ≡ spot_in t n d Lists g → m ≡ u32_at t q → actions_at t m (q + 4) ≡ get_or (side_of d (meaning_of t n)).lists g []
+  pub list-there : (g q m : ℕ) → Some q ≡ spot_in t n d Lists g → m ≡ u32_at t q → actions_at t m (q + 4) ≡ get_or (side_of d (meaning_of t n)).lists g []
   unfolding list_at
-  list-there g q m e f = ap (λ (k : ℕ). actions_at t k (q + 4)) f ∙ sym (list-here g (At q) e)
+  list-there g q m e f = ap (λ (k : ℕ). actions_at t k (q + 4)) f ∙ sym (list-here g (Some q) e)
 
   module _ (ok : table_fault t n ≡ Clear) where
     table-short : length t ≤ 32768
@@ -57,7 +55,7 @@ module _ (t : List ℕ) (n : ℕ) (d : Direction) where
     table-short = short t n (then-first _ _ ok)
 
     -- and they have no fault
-    pub clear-there : (g q m : ℕ) → At q ≡ spot_in t n d Lists g → m ≡ u32_at t q → ClearList t m (q + 4)
+    pub clear-there : (g q m : ℕ) → Some q ≡ spot_in t n d Lists g → m ≡ u32_at t q → ClearList t m (q + 4)
     unfolding list_fault
     clear-there g q m e f =
         let clear = list-clear t n d ok g q (sym e) in
@@ -72,16 +70,13 @@ module _ (t : List ℕ) (n : ℕ) (d : Direction) where
     pub lists-few : (g : ℕ) → length (get_or (side_of d (meaning_of t n)).lists g []) ≤ 64
     lists-few g = go (spot_in t n d Lists g) refl
       where
-        go : (s : Spot) → s ≡ spot_in t n d Lists g → length (get_or (side_of d (meaning_of t n)).lists g []) ≤ 64
-        go (At q) e = omega (arith, ap length (list-here g (At q) e), list_length t q, list_count t n q (list-clear t n d ok g q (sym e)))
-        go Nowhere e = omega (arith, ap (λ (l : List Action). length l) (list-here g Nowhere e))
+        go : (s : Option ℕ) → s ≡ spot_in t n d Lists g → length (get_or (side_of d (meaning_of t n)).lists g []) ≤ 64
+        go (Some q) e = omega (arith, ap length (list-here g (Some q) e), list_length t q, list_count t n q (list-clear t n d ok g q (sym e)))
+        go None e = omega (arith, ap (λ (l : List Action). length l) (list-here g None e))
 
   -- without a lookup of lists every list is empty
-  pub lists-none : Absent ≡ lookup_in t d Lists → (g : ℕ) → length (get_or (side_of d (meaning_of t n)).lists g []) ≤ 0
-  lists-none e g = omega (arith, ap (λ (l : List Action). length l) (list-here g Nowhere (spot-found t n d Lists g e)))
-
-pub spot-below : (n p : ℕ) (s : Spot) → SpotBelow n s → s ≡ At p → p < n
-spot-below n p s h e = subst (SpotBelow n) e h
+  pub lists-none : None ≡ lookup_in t d Lists → (g : ℕ) → length (get_or (side_of d (meaning_of t n)).lists g []) ≤ 0
+  lists-none e g = omega (arith, ap (λ (l : List Action). length l) (list-here g None (spot-found t n d Lists g e)))
 
 -- ---- the first action of a list
 

@@ -11,7 +11,6 @@ use lib.ListN.{length, get_or, take, drop, set, length-set, length-drop}
 use lib.Seq.{drop-cons, length-take-le, take-suc-set, take_at, drop_at}
 use Rattle.types.specs.declared.Verdict.{Verdict}
 use Rattle.line_verdicts.specs.declared.VerdictCursor.{VerdictCursor}
-use Rattle.line_verdicts.specs.declared.VerdictStep.{VerdictStep}
 use Rattle.line_verdicts.specs.Bits.{verdict_of, bits_tell, tell_from, told_from, told, left_at, start_cursor, BitPairs, Serves, AtHand, tell_at, Takes}
 use Rattle.line_verdicts.proofs.Bits.{half-low, tell-zero}
 
@@ -141,14 +140,14 @@ module _ (bits : List ℕ) where
       record { begun = some-begun c s h; few = omega (arith, k.even, k.few, s.within); some = omega (arith, h); low = s.low }
 
   -- one is taken
-  pub left-taken : (c : VerdictCursor) (r : VerdictStep) → Takes c r → left_at bits c ≡ r.verdict ∷ left_at bits r.past
+  pub left-taken : (c : VerdictCursor) (v : Verdict) (past : VerdictCursor) → Takes c v past → left_at bits c ≡ v ∷ left_at bits past
   unfolding left_at
-  left-taken c r t =
+  left-taken c v past t =
       ap (λ (vs : List Verdict). vs ++ told_at bits c.next) t.first
-      ∙ ap (λ (k : ℕ). r.verdict ∷ (tell_at r.past ++ told_at bits k)) (sym t.stays)
+      ∙ ap (λ (k : ℕ). v ∷ (tell_at past ++ told_at bits k)) (sym t.stays)
 
-  pub serves-taken : (c : VerdictCursor) (r : VerdictStep) → Serves bits c → AtHand c → Takes c r → Serves bits r.past
-  serves-taken c r s a t =
+  pub serves-taken : (c : VerdictCursor) (v : Verdict) (past : VerdictCursor) → Serves bits c → AtHand c → Takes c v past → Serves bits past
+  serves-taken c v past s a t =
       record { within = omega (arith, t.stays, s.within); begun = λ e. absurd (omega (arith, t.stays, a.begun)); number = t.number; low = t.low }
 
 -- ---- the first action that is left of a glyph

@@ -1,7 +1,7 @@
 -- The verdicts of a line as they are kept from counting to storing (document 01, "Verdicts"): for each glyph two numbers, one after the other, whose bits say which of its
 -- actions fire and which of those substitute. Bit k is the action with number k, and a list has at most 64.
 use Rattle.std.specs.Prelude.{ℕ, zero, suc, ◌+◌, ◌-◌, ◌*◌, ◌/◌, ◌%◌, ◌<◌, ◌≤◌, ◌^◌, ◌≡◌, cond, List, [], ◌∷◌, ◌++◌, eqb, ℤ, length, drop}
-use Rattle.fields.specs.declared.Fault.TheVariants.{Clear}
+use Rattle.fields.specs.Faults.{Clear}
 use Rattle.types.specs.declared.Verdict.{Verdict}
 use Rattle.meaning.specs.Meaning.{Action}
 use Rattle.actions.specs.Faults.{actions_fault}
@@ -10,7 +10,6 @@ use Rattle.verdict.specs.declared.Fires.TheVariants.{No, Plain, Substitutes}
 use Rattle.line_rule.specs.Line.{firings}
 use Rattle.line_verdicts.specs.declared.GlyphBits.{GlyphBits}
 use Rattle.line_verdicts.specs.declared.VerdictCursor.{VerdictCursor}
-use Rattle.line_verdicts.specs.declared.VerdictStep.{VerdictStep}
 
 -- ---- what is told
 
@@ -71,20 +70,18 @@ pub record AtHand (c : VerdictCursor) : Type 0 where
   pub some : 0 < c.fires
   pub low : c.fires < 2 ^ (64 - c.number)
 
--- a step takes the first that is left of that glyph
-pub record Takes (c : VerdictCursor) (r : VerdictStep) : Type 0 where
-  pub first : tell_at c ≡ r.verdict ∷ tell_at r.past
-  pub stays : r.past.next ≡ c.next
-  pub number : r.past.number ≤ 64
-  pub low : r.past.fires < 2 ^ (64 - r.past.number)
+-- the first that is left of that glyph is taken, and the cursor is past it
+pub record Takes (c : VerdictCursor) (verdict : Verdict) (past : VerdictCursor) : Type 0 where
+  pub first : tell_at c ≡ verdict ∷ tell_at past
+  pub stays : past.next ≡ c.next
+  pub number : past.number ≤ 64
+  pub low : past.fires < 2 ^ (64 - past.number)
 
 -- ---- keeping those of a glyph
 
--- what an action does, as a number
-abbrev pub fires_number : Fires → ℕ
-fires_number No = 0
-fires_number Plain = 1
-fires_number Substitutes = 2
+-- those of no action
+abbrev pub no_bits : GlyphBits
+no_bits = record { fires = 0; substitutes = 0; firing = 0 }
 
 -- the bit of an action that was judged, beside those of the actions ahead of it
 abbrev pub note_action : Fires → ℕ → GlyphBits → GlyphBits

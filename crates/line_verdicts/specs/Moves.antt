@@ -1,6 +1,6 @@
 -- What a line's verdicts are asked of: the sizes, classes and movements of its glyphs, beside an accepted table.
 use Rattle.std.specs.Prelude.{ℕ, ◌*◌, ◌≤◌, ◌≡◌, Bool, List, map, ℤ, length, get_or}
-use Rattle.fields.specs.declared.Fault.TheVariants.{Clear}
+use Rattle.fields.specs.Faults.{Clear}
 use Rattle.share.specs.Line.{signed_of, evens, odds}
 use Rattle.table.specs.Table.{table_fault}
 

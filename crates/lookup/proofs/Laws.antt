@@ -1,4 +1,5 @@
 -- Laws of the definitions, one for each outcome, over values as the code has read them.
+use Rattle.std.specs.Prelude.{None, Some}
 use Prim.Native.Nat.{ℕ, zero, suc, ◌+◌, ◌-◌, ◌*◌, ◌/◌, ◌^◌, ◌≤◌, ◌<◌}
 use mathlib.Core.List.{List}
 use mathlib.Core.Bool.{Bool, true, false, cond}
@@ -8,14 +9,12 @@ use lib.ListN.{length}
 use lib.Dec.{leb, eqb}
 use borrow.Author.Tests.{le-leb, lt-leb, leb-true, leb-false, le-ltb, lt-ltb, eq-eqb, ne_eqb}
 use Rattle.fields.specs.declared.Refusal.TheVariants.{Outside, BadLookup}
-use Rattle.fields.specs.declared.Fault.TheVariants.{Clear, Bad}
+use Rattle.fields.specs.Faults.{Clear, Bad}
 use Rattle.fields.specs.Field.{u16_at, Bytes}
 use Rattle.fields.specs.Faults.{rule, inside}
 use Rattle.fields.proofs.Laws.{u16_at-fits, then-go, then-stop, rule-clear, clear-inside, bad-inside}
 use Rattle.fields.specs.Walk.{walk}
-use Rattle.lookup.specs.declared.Found.TheVariants.{Value, Nothing}
 use Rattle.lookup.specs.Units.{unit_size, last_of, first_of, range_fault, single_fault, unit_fault, array_fault}
-use Rattle.lookup.specs.Lookup.{counted_fault, segments_fault, trimmed_fault, format_fault, lookup_fault}
 use Rattle.lookup.specs.Find.{covers, unit_value, units_value, has_units, unit_count, trimmed_value, value_from, value_of}
 
 down : (n : ℕ) → suc n - 1 ≡ n
@@ -91,34 +90,6 @@ array-room t (suc n) p = go (leb (p + 2) (length t)) refl (array-room t n (p + 2
         let b : inside t p 2 ≡ Bad Outside p = bad-inside t p 2 h in
         then-stop _ b ∙ b ∙ simp (z, lt-leb (suc n) ((length t - p) / 2) (omega arith))
 
--- ---- the lookup's faults, `f` being its format as it was read
-
-module _ (t : List ℕ) (glyphs at f : ℕ) (i : inside t at 2 ≡ Clear) (r : f ≡ u16_at t at) where
-  pub format-0 : f ≡ 0 → lookup_fault t glyphs at ≡ array_fault t glyphs (at + 2)
-  unfolding lookup_fault format_fault
-  format-0 e = then-go _ i ∙ simp (← r, e)
-
-  pub format-2 : f ≡ 2 → lookup_fault t glyphs at ≡ counted_fault t 2 at
-  unfolding lookup_fault format_fault
-  format-2 e = then-go _ i ∙ simp (← r, e)
-
-  pub format-4 : f ≡ 4 → lookup_fault t glyphs at ≡ segments_fault t glyphs at
-  unfolding lookup_fault format_fault
-  format-4 e = then-go _ i ∙ simp (← r, e)
-
-  pub format-6 : f ≡ 6 → lookup_fault t glyphs at ≡ counted_fault t 6 at
-  unfolding lookup_fault format_fault
-  format-6 e = then-go _ i ∙ simp (← r, e)
-
-  pub format-8 : f ≡ 8 → lookup_fault t glyphs at ≡ trimmed_fault t glyphs at
-  unfolding lookup_fault format_fault
-  format-8 e = then-go _ i ∙ simp (← r, e)
-
-  pub format-other : (f ≡ 0 → ⊥) → (f ≡ 2 → ⊥) → (f ≡ 4 → ⊥) → (f ≡ 6 → ⊥) → (f ≡ 8 → ⊥) → lookup_fault t glyphs at ≡ Bad BadLookup at
-  unfolding lookup_fault format_fault
-  format-other n0 n2 n4 n6 n8 =
-      then-go _ i ∙ simp (← r, ne_eqb f 0 n0, ne_eqb f 2 n2, ne_eqb f 4 n4, ne_eqb f 6 n6, ne_eqb f 8 n8)
-
 -- ---- the unit that covers a glyph, `f` and `l` being its first and last glyph as they were read
 
 pub covers_high : (t : List ℕ) (format glyph p f : ℕ) → f ≡ first_of t format p → (l : ℕ) → l ≡ last_of t p → f ≤ glyph
@@ -128,7 +99,7 @@ covers_high t format glyph p f r l s h = simp (← r, ← s, le-leb f glyph h)
 
 module _ (t : List ℕ) (format at glyph : ℕ) where
   pub units-here : (n p : ℕ) → 0 < n → covers t format glyph p ≡ true
-      → units_value t format at glyph n p ≡ Value (unit_value t format at glyph p)
+      → units_value t format at glyph n p ≡ Some (unit_value t format at glyph p)
   unfolding units_value
   units-here zero p h e = absurd (omega arith)
   units-here (suc n) p h e = simp e
@@ -140,7 +111,7 @@ module _ (t : List ℕ) (format at glyph : ℕ) where
   units-next zero p q h e s = absurd (omega arith)
   units-next (suc n) p q h e s = simp (e, down n, s)
 
-  pub units-none : (n p : ℕ) → n ≤ 0 → units_value t format at glyph n p ≡ Nothing
+  pub units-none : (n p : ℕ) → n ≤ 0 → units_value t format at glyph n p ≡ None
   unfolding units_value
   units-none zero p h = refl
   units-none (suc n) p h = absurd (omega arith)
@@ -160,18 +131,6 @@ module _ (t : List ℕ) (format at glyph : ℕ) where
     value-6 n m = simp (ne_eqb format 2 n, ne_eqb format 4 m)
 
 -- ---- the counted units
-
-pub units-in-2 : (f : ℕ) → f ≡ 2 → has_units f ≡ true
-unfolding has_units
-units-in-2 f e = simp (eq-eqb f 2 e)
-
-pub units-in-4 : (f : ℕ) → (f ≡ 2 → ⊥) → f ≡ 4 → has_units f ≡ true
-unfolding has_units
-units-in-4 f n e = simp (ne_eqb f 2 n, eq-eqb f 4 e)
-
-pub units-in-6 : (f : ℕ) → (f ≡ 2 → ⊥) → (f ≡ 4 → ⊥) → has_units f ≡ eqb f 6
-unfolding has_units
-units-in-6 f n m = simp (ne_eqb f 2 n, ne_eqb f 4 m)
 
 module _ (t : List ℕ) (at f : ℕ) (r : f ≡ u16_at t at) where
   pub count-some : has_units f ≡ true → unit_count t at ≡ u16_at t (at + 4)
@@ -193,24 +152,24 @@ units-fit t at b = go (has_units (u16_at t at))
 -- ---- format 8, `f` and `n` being the first glyph and the count as they were read
 
 module _ (t : List ℕ) (at glyph f n : ℕ) (r : f ≡ u16_at t (at + 2)) (s : n ≡ u16_at t (at + 4)) where
-  pub trimmed-low : glyph < f → trimmed_value t at glyph ≡ Nothing
+  pub trimmed-low : glyph < f → trimmed_value t at glyph ≡ None
   unfolding trimmed_value
   trimmed-low h = simp (← r, ← s, lt-leb f glyph h)
 
-  pub trimmed-high : f + n ≤ glyph → trimmed_value t at glyph ≡ Nothing
+  pub trimmed-high : f + n ≤ glyph → trimmed_value t at glyph ≡ None
   unfolding trimmed_value
   trimmed-high h =
       let l : f ≤ glyph = omega arith in
       simp (← r, ← s, le-leb f glyph l, le-ltb glyph (f + n) h)
 
-  pub trimmed-in : f ≤ glyph → glyph < f + n → trimmed_value t at glyph ≡ Value (u16_at t (at + 6 + 2 * (glyph - f)))
+  pub trimmed-in : f ≤ glyph → glyph < f + n → trimmed_value t at glyph ≡ Some (u16_at t (at + 6 + 2 * (glyph - f)))
   unfolding trimmed_value
   trimmed-in l h = simp (← r, ← s, le-leb f glyph l, lt-ltb glyph (f + n) h)
 
 -- ---- the value at a glyph
 
 module _ (t : List ℕ) (at glyph n p f : ℕ) (r : f ≡ u16_at t at) where
-  pub from-0 : f ≡ 0 → value_from t at glyph n p ≡ Value (u16_at t (at + 2 + 2 * glyph))
+  pub from-0 : f ≡ 0 → value_from t at glyph n p ≡ Some (u16_at t (at + 2 + 2 * glyph))
   unfolding value_from
   from-0 e = simp (← r, e)
 
@@ -223,7 +182,7 @@ module _ (t : List ℕ) (at glyph n p f : ℕ) (r : f ≡ u16_at t at) where
   from-units n0 n8 = simp (← r, ne_eqb f 0 n0, ne_eqb f 8 n8)
 
 module _ (t : List ℕ) (glyphs at glyph : ℕ) where
-  pub value_none : glyphs ≤ glyph → value_of t glyphs at glyph ≡ Nothing
+  pub value_none : glyphs ≤ glyph → value_of t glyphs at glyph ≡ None
   unfolding value_of
   value_none h = simp (le-ltb glyph glyphs h)
 
@@ -249,3 +208,6 @@ single-clear t p least glyph h e a =
     then-go _ (clear-inside t p 2 (omega arith))
     ∙ then-go _ (rule-clear BadLookup p (le-leb least (u16_at t p) (omega arith)))
     ∙ clear-inside t (p + 2) 2 (omega arith)
+
+-- what the code of the units and of the arrays needs
+pub ruleset lookup_steps = (range_clear, single-clear, array-room)

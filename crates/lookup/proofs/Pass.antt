@@ -1,4 +1,5 @@
 -- Laws of the cursor.
+use Rattle.std.specs.Prelude.{Option, Some}
 use Prim.Native.Nat.{ℕ, zero, suc, ◌+◌, ◌-◌, ◌*◌, ◌≤◌, ◌<◌, ◌^◌}
 use mathlib.Core.List.{List}
 use mathlib.Core.Bool.{cond}
@@ -6,12 +7,10 @@ use mathlib.Core.Path.{◌≡◌, refl, sym, ◌∙◌, ap}
 use native.Mathlib.Omega.{arith}
 use lib.Dec.{eqb}
 use lib.ListN.{length}
-use Rattle.fields.specs.declared.Fault.TheVariants.{Clear}
+use Rattle.fields.specs.Faults.{Clear}
 use Rattle.fields.specs.Field.{u16_at}
 use Rattle.fields.proofs.Walk.{walk_none}
 use Rattle.lookup.specs.declared.Cursor.{Cursor}
-use Rattle.lookup.specs.declared.Found.{Found}
-use Rattle.lookup.specs.declared.Found.TheVariants.{Value}
 use Rattle.lookup.specs.Units.{unit_size, last_of, unit_fault}
 use Rattle.lookup.specs.Lookup.{lookup_fault}
 use Rattle.lookup.specs.Find.{units_value, unit_count, trimmed_value, value_from}
@@ -25,8 +24,8 @@ from-same : (t : List ℕ) (at glyph n p m q : ℕ) → units_value t (u16_at t 
 unfolding value_from
 from-same t at glyph n p m q e =
     ap
-    (λ (u : Found).
-    cond (eqb (u16_at t at) 0) (Value (u16_at t (at + 2 + 2 * glyph))) (cond (eqb (u16_at t at) 8) (trimmed_value t at glyph) u))
+    (λ (u : Option ℕ).
+    cond (eqb (u16_at t at) 0) (Some (u16_at t (at + 2 + 2 * glyph))) (cond (eqb (u16_at t at) 8) (trimmed_value t at glyph) u))
     e
 
 module _ (t : List ℕ) (at : ℕ) where

@@ -1,4 +1,5 @@
 -- In a lookup with no fault the counted units rise without overlap, so at most one of them covers a glyph, and its value is the glyph's.
+use Rattle.std.specs.Prelude.{None, Some}
 use Prim.Native.Nat.{ℕ, zero, suc, ◌+◌, ◌-◌, ◌*◌, ◌≤◌, ◌<◌}
 use mathlib.Core.List.{List}
 use mathlib.Core.Bool.{Bool, true, false, ◌&&◌}
@@ -8,12 +9,11 @@ use lib.Dec.{leb, ltb, eqb}
 use lib.ListN.{length}
 use borrow.Author.Tests.{leb-true, lt-leb, eqb-true, eqb-false, ltb-true, ltb-false}
 use Rattle.fields.specs.declared.Refusal.TheVariants.{BadLookup}
-use Rattle.fields.specs.declared.Fault.TheVariants.{Clear}
+use Rattle.fields.specs.Faults.{Clear}
 use Rattle.fields.specs.Field.{u16_at}
 use Rattle.fields.proofs.Laws.{then-first, then-second, rule-holds, inside-holds}
 use Rattle.fields.specs.Walk.{walk}
 use Rattle.fields.proofs.Walk.{walk_none}
-use Rattle.lookup.specs.declared.Found.TheVariants.{Value, Nothing}
 use Rattle.lookup.specs.Units.{unit_size, last_of, first_of, range_fault, single_fault, unit_fault, units_fault}
 use Rattle.lookup.specs.Lookup.{counted_fault, segments_fault, trimmed_fault, lookup_fault, format_fault}
 use Rattle.lookup.specs.Find.{covers, unit_value, units_value, has_units, unit_count, value_of}
@@ -52,7 +52,7 @@ begins-above t f glyph p h = simp (lt-leb (first_of t f p) glyph h)
 pub closing-none : (t : List ℕ) (f glyphs glyph p : ℕ) → glyphs < 65536 → glyph < glyphs → first_of t f p ≡ 65535 → covers t f glyph p ≡ false
 closing-none t f glyphs glyph p h g e = begins-above t f glyph p (omega arith)
 
-pub deleted-none : (t : List ℕ) (glyphs at : ℕ) → glyphs < 65536 → value_of t glyphs at 65535 ≡ Nothing
+pub deleted-none : (t : List ℕ) (glyphs at : ℕ) → glyphs < 65536 → value_of t glyphs at 65535 ≡ None
 deleted-none t glyphs at h = value_none t glyphs at 65535 (omega arith)
 
 module _ (t : List ℕ) (f : ℕ) where
@@ -134,7 +134,7 @@ module _ (t : List ℕ) (f : ℕ) where
       apart n (p + unit_size f) (last_of t p + 1) j k (then-second _ _ e) (omega arith) (omega arith) q s (omega arith) (omega arith)
 
   -- no unit covers a glyph below the first unit's least
-  pub none_above : (at glyph n p least : ℕ) → units_fault t f n p least ≡ Clear → glyph < least → units_value t f at glyph n p ≡ Nothing
+  pub none_above : (at glyph n p least : ℕ) → units_fault t f n p least ≡ Clear → glyph < least → units_value t f at glyph n p ≡ None
   unfolding walk units_value
   none_above at glyph zero p least e h = refl
   none_above at glyph (suc n) p least e h =
@@ -145,7 +145,7 @@ module _ (t : List ℕ) (f : ℕ) where
 
   -- a unit that covers a glyph gives it its value
   pub covering : (at glyph n p least k q : ℕ) → units_fault t f n p least ≡ Clear → k < n → q ≡ p + unit_size f * k → covers t f glyph q ≡ true
-      → units_value t f at glyph n p ≡ Value (unit_value t f at glyph q)
+      → units_value t f at glyph n p ≡ Some (unit_value t f at glyph q)
   unfolding walk
   covering at glyph zero p least k q e h s w = absurd (omega arith)
   covering at glyph (suc n) p least zero q e h s w =
@@ -214,7 +214,7 @@ module _ (t : List ℕ) (glyphs at : ℕ) (clear : lookup_fault t glyphs at ≡ 
 
   -- and its value is the glyph's
   pub its-value : (glyph k : ℕ) → glyph < glyphs → k < unit_count t at → covers t (u16_at t at) glyph (unit_at t at k) ≡ true
-      → value_of t glyphs at glyph ≡ Value (unit_value t (u16_at t at) at glyph (unit_at t at k))
+      → value_of t glyphs at glyph ≡ Some (unit_value t (u16_at t at) at glyph (unit_at t at k))
   unfolding has_units
   its-value glyph k g h u =
       value_in_lem t glyphs at glyph g

@@ -1,9 +1,8 @@
 -- The value that the lookup at an offset of the table gives a glyph (document 01, "The table", the lookup's passage). In formats 2, 4 and 6 it is the
 -- value of the first counted unit that covers the glyph: in a lookup with no fault at most one does.
+use Rattle.std.specs.Prelude.{None, Option, Some}
 use Rattle.std.specs.Prelude.{ℕ, zero, suc, ◌+◌, ◌-◌, ◌*◌, List, Bool, cond, ◌&&◌, ◌||◌, leb, ltb, eqb}
 use Rattle.fields.specs.Field.{u16_at}
-use Rattle.lookup.specs.declared.Found.{Found}
-use Rattle.lookup.specs.declared.Found.TheVariants.{Value, Nothing}
 use Rattle.lookup.specs.Units.{unit_size, last_of, first_of}
 
 -- whether the unit at `p` covers a glyph
@@ -18,10 +17,10 @@ unit_value t format at glyph p =
     (u16_at t (p + 2)))
 
 -- what the first of `n` units from `p` on that covers the glyph gives it
-unfoldable pub units_value : List ℕ → ℕ → ℕ → ℕ → ℕ → ℕ → Found
-units_value t format at glyph zero p = Nothing
+unfoldable pub units_value : List ℕ → ℕ → ℕ → ℕ → ℕ → ℕ → Option ℕ
+units_value t format at glyph zero p = None
 units_value t format at glyph (suc n) p =
-    cond (covers t format glyph p) (Value (unit_value t format at glyph p))
+    cond (covers t format glyph p) (Some (unit_value t format at glyph p))
     (units_value t format at glyph n (p + unit_size format))
 
 -- formats 2, 4 and 6 have units
@@ -33,20 +32,20 @@ unfoldable pub unit_count : List ℕ → ℕ → ℕ
 unit_count t at = cond (has_units (u16_at t at)) (u16_at t (at + 4)) 0
 
 -- format 8: first, count, values
-unfoldable pub trimmed_value : List ℕ → ℕ → ℕ → Found
+unfoldable pub trimmed_value : List ℕ → ℕ → ℕ → Option ℕ
 trimmed_value t at glyph =
     cond (leb (u16_at t (at + 2)) glyph && ltb glyph (u16_at t (at + 2) + u16_at t (at + 4)))
-    (Value (u16_at t (at + 6 + 2 * (glyph - u16_at t (at + 2)))))
-    Nothing
+    (Some (u16_at t (at + 6 + 2 * (glyph - u16_at t (at + 2)))))
+    None
 
 -- the value where the units that are looked at are `n`, from `p` on
-unfoldable pub value_from : List ℕ → ℕ → ℕ → ℕ → ℕ → Found
+unfoldable pub value_from : List ℕ → ℕ → ℕ → ℕ → ℕ → Option ℕ
 value_from t at glyph n p =
-    cond (eqb (u16_at t at) 0) (Value (u16_at t (at + 2 + 2 * glyph)))
+    cond (eqb (u16_at t at) 0) (Some (u16_at t (at + 2 + 2 * glyph)))
     (cond (eqb (u16_at t at) 8) (trimmed_value t at glyph)
     (units_value t (u16_at t at) at glyph n p))
 
 -- The value at a glyph: among all counted units, which stand 12 bytes past the lookup's start. A glyph that the font has not has none. A font has
 -- at most 65,535 glyphs, so glyph 0xFFFF has none, and a counted closing unit covers nothing.
-unfoldable pub value_of : List ℕ → ℕ → ℕ → ℕ → Found
-value_of t glyphs at glyph = cond (ltb glyph glyphs) (value_from t at glyph (unit_count t at) (at + 12)) Nothing
+unfoldable pub value_of : List ℕ → ℕ → ℕ → ℕ → Option ℕ
+value_of t glyphs at glyph = cond (ltb glyph glyphs) (value_from t at glyph (unit_count t at) (at + 12)) None

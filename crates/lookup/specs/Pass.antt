@@ -1,7 +1,7 @@
 -- A pass over glyphs upward, unit by unit (document 01, "Numbers of refusal": clusters and lists go by glyph). Units rise, so a unit whose glyphs were
 -- passed is done with, and the pass looks at each unit once.
 use Rattle.std.specs.Prelude.{ℕ, ◌+◌, ◌*◌, ◌≤◌, ◌<◌, ◌^◌, ◌≡◌, List, length}
-use Rattle.fields.specs.declared.Fault.TheVariants.{Clear}
+use Rattle.fields.specs.Faults.{Clear}
 use Rattle.fields.specs.Field.{u16_at}
 use Rattle.lookup.specs.declared.Cursor.{Cursor}
 use Rattle.lookup.specs.Units.{units_fault}

@@ -1,5 +1,6 @@
 -- Laws of a find by halves: how the count goes on after a look, its bound, and that the units left give what all of them give.
-use Prim.Native.Nat.{ℕ, zero, suc, ◌+◌, ◌-◌, ◌*◌, ◌/◌, ◌^◌, ◌≤◌, ◌<◌}
+use Rattle.std.specs.Prelude.{None, Option, Some}
+use Prim.Native.Nat.{ℕ, zero, suc, ◌+◌, ◌-◌, ◌/◌, ◌^◌, ◌≤◌, ◌<◌}
 use mathlib.Core.List.{List}
 use mathlib.Core.Bool.{Bool, true, false, cond, ◌&&◌}
 use mathlib.Core.Path.{◌≡◌, refl, sym, ◌∙◌, ap, ap₂}
@@ -7,16 +8,14 @@ use native.Mathlib.Omega.{arith}
 use lib.ListN.{length}
 use lib.Dec.{ltb, eqb}
 use borrow.Author.Tests.{le-leb, le-ltb, lt-ltb, eqb-true, eq-eqb, ne_eqb}
-use Rattle.fields.specs.declared.Fault.TheVariants.{Clear}
+use Rattle.fields.specs.Faults.{Clear}
 use Rattle.fields.specs.Field.{u16_at, Bytes}
 use Rattle.fields.proofs.Laws.{then-first, then-second, then-go}
 use Rattle.fields.specs.Walk.{walk}
 use Rattle.fields.proofs.Walk.{walk-each}
-use Rattle.lookup.specs.declared.Found.{Found}
-use Rattle.lookup.specs.declared.Found.TheVariants.{Value, Nothing}
 use Rattle.lookup.specs.Units.{unit_size, last_of, first_of, unit_fault, units_fault}
-use Rattle.lookup.specs.Find.{covers, unit_value, units_value, has_units, unit_count, trimmed_value, value_of}
-use Rattle.lookup.proofs.Laws.{covers_high, first-single, first_range, size-single, size-range, units-none, value_none, value_in_lem, from-0, from-8, from-units, count_none, units-fit}
+use Rattle.lookup.specs.Find.{covers, unit_value, units_value, has_units, unit_count, value_of}
+use Rattle.lookup.proofs.Laws.{first_range, covers_high, units-none, value_none, value_in_lem, from-units, count_none, units-fit}
 use Rattle.lookup.proofs.Unique.{ends-below, begins-above, unit-rules, unit-inside, rises, covering, none_above, units-clear}
 use Rattle.lookup_find.specs.declared.Head.{Head}
 use Rattle.lookup_find.specs.Halves.{unit_of, closes, open_of, open_count, looks_in, looks_of, head_at, Searchable}
@@ -129,7 +128,7 @@ module _ (t : List ℕ) (f : ℕ) where
         simp (begins-above t f glyph p l)
         (none_above t f at glyph n (p + unit_size f) (last_of t p + 1) (then-second _ _ e) (omega (arith, l, r)))
     value-front (suc n) p least (suc j) m e h s c =
-        ap (cond (covers t f glyph p) (Value (unit_value t f at glyph p)))
+        ap (cond (covers t f glyph p) (Some (unit_value t f at glyph p)))
         (value-front n (p + unit_size f) (last_of t p + 1) j m (then-second _ _ e) (omega arith) (omega arith) c)
 
     -- units up to one that ends below the glyph give it nothing
@@ -150,32 +149,6 @@ module _ (t : List ℕ) (f : ℕ) where
         simp (ends-below t f glyph p (omega (arith, i, o, c)))
         (value-back n (p + unit_size f) (last_of t p + 1) j m q k (then-second _ _ e) (omega arith) (omega arith) c u (omega arith))
 
--- ---- units as the code has read them
-
--- whether a unit is the closing one, `l` and `e` being its last and its first glyph
-module _ (t : List ℕ) (f p l : ℕ) (r : l ≡ last_of t p) where
-  pub closing-single : f ≡ 6 → eqb l 65535 ≡ closes t f p
-  unfolding closes
-  closing-single e = simp (first-single t f p e, ← r) (twice (eqb l 65535))
-    where
-      twice : (b : Bool) → b ≡ (b && b)
-      twice true = refl
-      twice false = refl
-
-  pub closing-range : (e : ℕ) → (f ≡ 6 → ⊥) → e ≡ u16_at t (p + 2) → e ≡ 65535 → eqb l 65535 ≡ closes t f p
-  unfolding closes
-  closing-range e n q h = simp (first_range t f p n, ← q, ← r, eq-eqb e 65535 h)
-
-pub closing-not : (t : List ℕ) (f p e : ℕ) → (f ≡ 6 → ⊥) → e ≡ u16_at t (p + 2) → (e ≡ 65535 → ⊥) → false ≡ closes t f p
-unfolding closes
-closing-not t f p e n q h = simp (first_range t f p n, ← q, ne_eqb e 65535 h)
-
-pub unit-of-single : (f p k : ℕ) → f ≡ 6 → (p + 4 * k ≡ unit_of f p k) × (p + 4 * k ≤ p + 6 * k)
-unit-of-single f p k e = (ap (λ (s : ℕ). p + s * k) (sym (size-single f e)), omega arith)
-
-pub unit-of-range : (f p k : ℕ) → (f ≡ 6 → ⊥) → (p + 6 * k ≡ unit_of f p k) × (p + 6 * k ≤ p + 6 * k)
-unit-of-range f p k e = (ap (λ (s : ℕ). p + s * k) (sym (size-range f e)), omega arith)
-
 -- ---- a find by halves on its way: `left` units from `p` on are left of `count` from `start` on, after `looks` looks
 
 pub record Halving (t : List ℕ) (f at glyph count start p left looks : ℕ) : Type 0 where
@@ -189,7 +162,7 @@ module _ {t : List ℕ} {f at glyph count start : ℕ} where
   halving-begin e = record { counted = omega arith; least = 0; clear = e; same = refl }
 
   pub halving-none : {p left looks : ℕ} → Halving t f at glyph count start p left looks → left ≤ 0
-      → (looks ≡ looks_in t f glyph count start count) × (Nothing ≡ units_value t f at glyph count start)
+      → (looks ≡ looks_in t f glyph count start count) × (None ≡ units_value t f at glyph count start)
   halving-none {p} {left} {looks} s h =
       (omega (arith, s.counted, looks-none t f glyph p left h), sym (s.same ∙ units-none t f at glyph left p h))
 
@@ -229,25 +202,16 @@ module _ {t : List ℕ} {f at glyph count start : ℕ} where
           }
 
       pub halving-here : (value : ℕ) → first_of t f m ≤ glyph → glyph ≤ last_of t m → value ≡ unit_value t f at glyph m
-          → (more ≡ looks_in t f glyph count start count) × (Value value ≡ units_value t f at glyph count start)
+          → (more ≡ looks_in t f glyph count start count) × (Some value ≡ units_value t f at glyph count start)
       halving-here value c d x =
           let w : covers t f glyph m ≡ true = covers_high t f glyph m _ refl _ refl c ∙ le-leb glyph _ d in (
             omega (arith, s.counted, looks-here t f glyph p left half m h u v w, n),
-            ap Value x ∙ sym (s.same ∙ covering t f at glyph left p s.least half m s.clear less v w),
+            ap Some x ∙ sym (s.same ∙ covering t f at glyph left p s.least half m s.clear less v w),
           )
 
 -- ---- the units that a find can look at
 
 module _ (t : List ℕ) (f p : ℕ) where
-  -- `b` being one less than the counted units, `q` the last one's place and `r` what is answered
-  pub open-closed : (n b q r : ℕ) → b ≡ n - 1 → q ≡ unit_of f p b → closes t f q ≡ true → r ≡ b → r ≡ open_of t f p n
-  unfolding open_of
-  open-closed n b q r d s c e = simp (rw (s ∙ ap (unit_of f p) d) at c) (e ∙ d)
-
-  pub open-all : (n b q r : ℕ) → b ≡ n - 1 → q ≡ unit_of f p b → closes t f q ≡ false → r ≡ n → r ≡ open_of t f p n
-  unfolding open_of
-  open-all n b q r d s c e = simp (rw (s ∙ ap (unit_of f p) d) at c) e
-
   pub open-most : (n : ℕ) → open_of t f p n ≤ n
   unfolding open_of
   open-most n = go (closes t f (unit_of f p (n - 1)))
@@ -295,21 +259,7 @@ looks-unitless t at glyph e =
 pub looks-few : (t : List ℕ) (at glyph : ℕ) → Bytes t → looks_of t at glyph ≤ 16
 looks-few t at glyph b = looks-bound t at glyph 16 (omega (arith, open-most t (u16_at t at) (at + 12) (unit_count t at), units-fit t at b))
 
--- ---- the value in the formats without units
-
-module _ (t : List ℕ) (glyphs at glyph : ℕ) (h : glyph < glyphs) where
-  pub value-0 : u16_at t at ≡ 0 → value_of t glyphs at glyph ≡ Value (u16_at t (at + 2 + 2 * glyph))
-  value-0 e = value_in_lem t glyphs at glyph h ∙ from-0 t at glyph _ _ _ refl e
-
-  pub value-8 : u16_at t at ≡ 8 → value_of t glyphs at glyph ≡ trimmed_value t at glyph
-  value-8 e = value_in_lem t glyphs at glyph h ∙ from-8 t at glyph _ _ _ refl e
-
 -- ---- the head
-
-pub head-is : (t : List ℕ) (at f n k : ℕ) → f ≡ u16_at t at → n ≡ unit_count t at → k ≡ open_of t f (at + 12) n
-    → ◌≡◌ {A = Head} (record { format = f; units = k }) (head_at t at)
-unfolding head_at
-head-is t at f n k r e s = rw (s, r, e)
 
 pub head-format : (t : List ℕ) (at : ℕ) {h : Head} → h ≡ head_at t at → h.format ≡ u16_at t at
 unfolding head_at
@@ -332,15 +282,15 @@ module _ {t : List ℕ} {glyphs at : ℕ} {head : Head} (s : Searchable t glyphs
       (units-front t (u16_at t at) (unit_count t at) (at + 12) 0 (open_count t at) (units-clear t at glyphs s.clear) (open-most t (u16_at t at) (at + 12) (unit_count t at)))
 
   module _ (glyph : ℕ) where
-    pub find-deleted : glyph ≡ 65535 → (0 ≡ looks_of t at glyph) × (Nothing ≡ value_of t glyphs at glyph)
+    pub find-deleted : glyph ≡ 65535 → (0 ≡ looks_of t at glyph) × (None ≡ value_of t glyphs at glyph)
     unfolding looks_of
     find-deleted e = (simp (eq-eqb glyph 65535 e), sym (value_none t glyphs at glyph (omega (arith, s.few))))
 
-    pub find-0 : {v : Found} → head.format ≡ 0 → v ≡ value_of t glyphs at glyph → (0 ≡ looks_of t at glyph) × (v ≡ value_of t glyphs at glyph)
+    pub find-0 : {v : Option ℕ} → head.format ≡ 0 → v ≡ value_of t glyphs at glyph → (0 ≡ looks_of t at glyph) × (v ≡ value_of t glyphs at glyph)
     unfolding has_units
     find-0 e w = (sym (looks-unitless t at glyph (simp (← head-format t at s.read, e))), w)
 
-    pub find-8 : {v : Found} → head.format ≡ 8 → v ≡ value_of t glyphs at glyph → (0 ≡ looks_of t at glyph) × (v ≡ value_of t glyphs at glyph)
+    pub find-8 : {v : Option ℕ} → head.format ≡ 8 → v ≡ value_of t glyphs at glyph → (0 ≡ looks_of t at glyph) × (v ≡ value_of t glyphs at glyph)
     unfolding has_units
     find-8 e w = (sym (looks-unitless t at glyph (simp (← head-format t at s.read, e))), w)
 
@@ -352,10 +302,10 @@ module _ {t : List ℕ} {glyphs at : ℕ} {head : Head} (s : Searchable t glyphs
           simp (ne_eqb glyph 65535 n)
           (l ∙ ap₂ (λ (g k : ℕ). looks_in t g glyph k (at + 12) k) (r ∙ head-format t at s.read) (head-units t at s.read))
 
-      pub find_past : glyphs ≤ glyph → (looks ≡ looks_of t at glyph) × (Nothing ≡ value_of t glyphs at glyph)
+      pub find_past : glyphs ≤ glyph → (looks ≡ looks_of t at glyph) × (None ≡ value_of t glyphs at glyph)
       find_past h = (looks-as, sym (value_none t glyphs at glyph h))
 
-      pub find-units : {v : Found} → glyph < glyphs → (f ≡ 0 → ⊥) → (f ≡ 8 → ⊥) → v ≡ units_value t f at glyph head.units (at + 12)
+      pub find-units : {v : Option ℕ} → glyph < glyphs → (f ≡ 0 → ⊥) → (f ≡ 8 → ⊥) → v ≡ units_value t f at glyph head.units (at + 12)
           → (looks ≡ looks_of t at glyph) × (v ≡ value_of t glyphs at glyph)
       find-units h n0 n8 w =
           let g : f ≡ u16_at t at = r ∙ head-format t at s.read in (
@@ -365,3 +315,8 @@ module _ {t : List ℕ} {glyphs at : ℕ} {head : Head} (s : Searchable t glyphs
                 ∙ open-value t (u16_at t at) (at + 12) at glyph (unit_count t at) (units-clear t at glyphs s.clear) (omega (arith, n, h, s.few))
                 ∙ sym (value_in_lem t glyphs at glyph h ∙ from-units t at glyph (unit_count t at) (at + 12) f g n0 n8 ∙ ap (λ (k : ℕ). units_value t k at glyph (unit_count t at) (at + 12)) g),
           )
+
+-- a last field alone does not make a unit the closing one
+pub closing-not : (t : List ℕ) (f p e : ℕ) → (f ≡ 6 → ⊥) → e ≡ u16_at t (p + 2) → (e ≡ 65535 → ⊥) → false ≡ closes t f p
+unfolding closes
+closing-not t f p e n q h = simp (first_range t f p n, ← q, ne_eqb e 65535 h)

@@ -1,7 +1,7 @@
 -- A find by halves (document 02, 9/14): it looks at the middle of the units left, the lower of two, stops if that covers the glyph, else keeps the half on
 -- the glyph's side. This page has how many units it looks at; the value is the one that a walk finds (`value_of` of crate `lookup`, specs/Find.antt).
 use Rattle.std.specs.Prelude.{ℕ, zero, suc, ◌+◌, ◌-◌, ◌*◌, ◌/◌, ◌<◌, ◌^◌, List, ◌≡◌, Bool, cond, ◌&&◌, ltb, eqb}
-use Rattle.fields.specs.declared.Fault.TheVariants.{Clear}
+use Rattle.fields.specs.Faults.{Clear}
 use Rattle.fields.specs.Field.{u16_at}
 use Rattle.lookup.specs.Units.{unit_size, last_of, first_of}
 use Rattle.lookup.specs.Lookup.{lookup_fault}

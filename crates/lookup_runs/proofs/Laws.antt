@@ -1,85 +1,43 @@
 -- What follows a cursor: the run of each kind of lookup, over values as the code has read them.
+use Rattle.std.specs.Prelude.{None, Some}
 use Prim.Native.Nat.{ℕ, ◌+◌, ◌-◌, ◌*◌, ◌≤◌, ◌<◌, ◌^◌, max}
 use mathlib.Core.List.{List}
 use mathlib.Core.Bool.{Bool, true, false, cond}
 use mathlib.Core.Path.{◌≡◌, refl, sym, ◌∙◌, ap}
 use native.Mathlib.Omega.{arith}
 use lib.Dec.{ltb, eqb}
-use borrow.Author.Tests.{le-leb, lt-ltb, le-ltb, ltb-true, ltb-false, eqb-true, eqb-false, eq-eqb, ne_eqb}
-use Rattle.fields.specs.declared.Fault.TheVariants.{Clear}
+use borrow.Author.Tests.{le-leb, ltb-true, ltb-false, eqb-true, eqb-false, eq-eqb, ne_eqb}
+use Rattle.fields.specs.Faults.{Clear}
 use Rattle.fields.specs.Field.{u16_at}
 use Rattle.lookup.specs.declared.Cursor.{Cursor}
-use Rattle.lookup.specs.declared.Found.TheVariants.{Value, Nothing}
 use Rattle.lookup.specs.Units.{unit_size, last_of, first_of, units_fault}
 use Rattle.lookup.specs.Find.{unit_value, units_value, has_units, unit_count, value_from}
 use Rattle.lookup.specs.Pass.{Serves}
 use Rattle.lookup.proofs.Laws.{count_none, first_range, covers_high, units-next, units-here, units-none, value-2, value-4, value-6, from-0, from-8, from-units, trimmed-low, trimmed-high, trimmed-in}
 use Rattle.lookup.proofs.Unique.{begins-above, unit-rules, units-rest, units-first, none_above}
 use Rattle.lookup.proofs.Pass.{serves-later, serves-past}
-use Rattle.lookup_runs.specs.Runs.{unit_place, no_run, every_run, trimmed_from, trimmed_run, units_run, next_run, Follows}
+use Rattle.lookup_runs.specs.Runs.{unit_place, Follows}
 
 -- where a unit's values stand, by its format
 module _ (t : List ℕ) (f at p : ℕ) where
-  pub place-2 : f ≡ 2 → unit_place t f at p ≡ p + 4
+  place-2 : f ≡ 2 → unit_place t f at p ≡ p + 4
   unfolding unit_place
   place-2 e = simp (eq-eqb f 2 e)
 
-  pub place-4 : (o : ℕ) → o ≡ u16_at t (p + 4) → (f ≡ 2 → ⊥) → f ≡ 4 → unit_place t f at p ≡ at + o
+  place-4 : (o : ℕ) → o ≡ u16_at t (p + 4) → (f ≡ 2 → ⊥) → f ≡ 4 → unit_place t f at p ≡ at + o
   unfolding unit_place
   place-4 o r n e = simp (ne_eqb f 2 n, eq-eqb f 4 e, r)
 
-  pub place-6 : (f ≡ 2 → ⊥) → (f ≡ 4 → ⊥) → unit_place t f at p ≡ p + 2
+  place-6 : (f ≡ 2 → ⊥) → (f ≡ 4 → ⊥) → unit_place t f at p ≡ p + 2
   unfolding unit_place
   place-6 n m = simp (ne_eqb f 2 n, ne_eqb f 4 m)
 
-pub is-4 : (f : ℕ) → f ≡ 4 → f ≡ 6 → ⊥
+is-4 : (f : ℕ) → f ≡ 4 → f ≡ 6 → ⊥
 is-4 f e q = let z : ◌≡◌ {A = ℕ} 4 6 = sym e ∙ q in absurd (omega arith)
-
--- the next run, by the format as it was read
-module _ (t : List ℕ) (at f glyph : ℕ) (c : Cursor) (is : f ≡ u16_at t at) where
-  pub next-every : f ≡ 0 → every_run at c glyph ≡ next_run t at c glyph
-  unfolding next_run
-  next-every e = sym (simp (eq-eqb (u16_at t at) 0 (sym is ∙ e)))
-
-  pub next-trimmed : (f ≡ 0 → ⊥) → f ≡ 8 → trimmed_run t at c glyph ≡ next_run t at c glyph
-  unfolding next_run
-  next-trimmed n e = sym (simp (ne_eqb (u16_at t at) 0 (λ z. n (is ∙ z)), eq-eqb (u16_at t at) 8 (sym is ∙ e)))
-
-  pub next-units : (f ≡ 0 → ⊥) → (f ≡ 8 → ⊥) → units_run t f at c ≡ next_run t at c glyph
-  unfolding next_run
-  next-units n m = ap (λ (k : ℕ). units_run t k at c) is ∙ sym (simp (ne_eqb (u16_at t at) 0 (λ z. n (is ∙ z)), ne_eqb (u16_at t at) 8 (λ z. m (is ∙ z))))
-
--- format 8: `first`, `count` and `from` as the code has them
-module _ (t : List ℕ) (at glyph : ℕ) (c : Cursor) (first count from : ℕ) (f : first ≡ u16_at t (at + 2)) (n : count ≡ u16_at t (at + 4))
-    (m : from ≡ max first glyph) where
-  trimmed-is : trimmed_from at c first count from ≡ trimmed_run t at c glyph
-  unfolding trimmed_run
-  trimmed-is = simp (m, f, n)
-
-  pub trimmed-end : first + count ≤ from → no_run c ≡ trimmed_run t at c glyph
-  unfolding trimmed_from
-  trimmed-end h = sym (simp (le-ltb from (first + count) h)) ∙ trimmed-is
-
-  pub trimmed-some : from < first + count
-      → record { from = from; until = first + count; place = at + 6 + 2 * (from - first); array = true; cursor = c } ≡ trimmed_run t at c glyph
-  unfolding trimmed_from
-  trimmed-some h = sym (simp (lt-ltb from (first + count) h)) ∙ trimmed-is
-
--- a unit's fields as the code has them
-module _ (t : List ℕ) (f at : ℕ) (c : Cursor) where
-  pub units-over : c.left ≡ 0 → no_run c ≡ units_run t f at c
-  unfolding units_run
-  units-over e = sym (simp (eq-eqb c.left 0 e))
-
-  pub unit-is : (from place last size : ℕ) → (c.left ≡ 0 → ⊥) → from ≡ first_of t f c.at → place ≡ unit_place t f at c.at → last ≡ last_of t c.at
-      → size ≡ unit_size f
-      → record { from = from; until = last + 1; place = place; array = eqb f 4; cursor = record { at = c.at + size; left = c.left - 1 } } ≡ units_run t f at c
-  unfolding units_run
-  unit-is from place last size n d v l s = simp (ne_eqb c.left 0 n, d, v, l, s)
 
 -- units that begin above a glyph give it nothing
 none_before : (t : List ℕ) (f at glyph n p least : ℕ) → 0 < n → units_fault t f n p least ≡ Clear → glyph < first_of t f p
-    → units_value t f at glyph n p ≡ Nothing
+    → units_value t f at glyph n p ≡ None
 none_before t f at glyph n p least h e l =
     let rest : units_fault t f (n - 1) (p + unit_size f) (last_of t p + 1) ≡ Clear = units-rest t f n p least _ h refl e in
     let r = unit-rules t f p least (units-first t f n p least h e) in
@@ -109,16 +67,16 @@ module _ (t : List ℕ) (at glyph : ℕ) (c : Cursor) (s : Serves t at glyph c) 
         none = λ g a b _. absurd (omega arith);
         some = λ g a b _.
             let q : at + 2 + 2 * g ≡ at + 2 + 2 * glyph + 2 * (g - glyph) = omega arith in
-            from-0 t at g _ _ (u16_at t at) refl e ∙ ap (λ (x : ℕ). Value (u16_at t x)) q;
+            from-0 t at g _ _ (u16_at t at) refl e ∙ ap (λ (x : ℕ). Some (u16_at t x)) q;
         serves = serves-later t at glyph 65536 (omega arith) (none_left t at 0 e none-in-0 s) s;
       }
 
   -- format 8: `first` and `count` as they were read
   module _ (first count : ℕ) (e : u16_at t at ≡ 8) (f : first ≡ u16_at t (at + 2)) (n : count ≡ u16_at t (at + 4)) where
-    trimmed-none : (g : ℕ) → glyph ≤ g → g < first → value_from t at g (unit_count t at) (at + 12) ≡ Nothing
+    trimmed-none : (g : ℕ) → glyph ≤ g → g < first → value_from t at g (unit_count t at) (at + 12) ≡ None
     trimmed-none g a b = from-8 t at g _ _ (u16_at t at) refl e ∙ trimmed-low t at g first count f n b
 
-    trimmed-past : (g : ℕ) → first + count ≤ g → value_from t at g (unit_count t at) (at + 12) ≡ Nothing
+    trimmed-past : (g : ℕ) → first + count ≤ g → value_from t at g (unit_count t at) (at + 12) ≡ None
     trimmed-past g b = from-8 t at g _ _ (u16_at t at) refl e ∙ trimmed-high t at g first count f n b
 
     pub trimmed-ends : (from : ℕ) → from ≡ max first glyph → first + count ≤ from
@@ -133,7 +91,7 @@ module _ (t : List ℕ) (at glyph : ℕ) (c : Cursor) (s : Serves t at glyph c) 
           serves = serves-later t at glyph 65537 (omega arith) (none_left t at 8 e none-in-8 s) s;
         }
       where
-        go : (g : ℕ) → glyph ≤ g → (b : Bool) → ltb g first ≡ b → value_from t at g (unit_count t at) (at + 12) ≡ Nothing
+        go : (g : ℕ) → glyph ≤ g → (b : Bool) → ltb g first ≡ b → value_from t at g (unit_count t at) (at + 12) ≡ None
         go g a true w = trimmed-none g a (ltb-true g first w)
         go g a false w = let l : first ≤ g = ltb-false g first w in trimmed-past g (omega arith)
 
@@ -149,7 +107,7 @@ module _ (t : List ℕ) (at glyph : ℕ) (c : Cursor) (s : Serves t at glyph c) 
               let q : at + 6 + 2 * (g - first) ≡ at + 6 + 2 * (from - first) + 2 * (g - from) = omega arith in
               from-8 t at g _ _ (u16_at t at) refl e
               ∙ trimmed-in t at g first count f n (omega arith) (omega arith)
-              ∙ ap (λ (x : ℕ). Value (u16_at t x)) q;
+              ∙ ap (λ (x : ℕ). Some (u16_at t x)) q;
           serves = serves-later t at glyph (first + count) (omega arith) (none_left t at 8 e none-in-8 s) s;
         }
 
@@ -178,10 +136,10 @@ module _ (t : List ℕ) (at glyph : ℕ) (c : Cursor) (s : Serves t at glyph c) 
     rules : (glyph ≤ first_of t f c.at) × (first_of t f c.at ≤ last_of t c.at)
     rules = unit-rules t f c.at glyph (units-first t f c.left c.at glyph left rising)
 
-    before : (g : ℕ) → glyph ≤ g → g < from → value_from t at g (unit_count t at) (at + 12) ≡ Nothing
+    before : (g : ℕ) → glyph ≤ g → g < from → value_from t at g (unit_count t at) (at + 12) ≡ None
     before g a b = by_units g a ∙ none_before t f at g c.left c.at glyph left rising (omega arith)
 
-    among : (g : ℕ) → from ≤ g → g ≤ last_of t c.at → value_from t at g (unit_count t at) (at + 12) ≡ Value (unit_value t f at g c.at)
+    among : (g : ℕ) → from ≤ g → g ≤ last_of t c.at → value_from t at g (unit_count t at) (at + 12) ≡ Some (unit_value t f at g c.at)
     among g a b =
         by_units g (omega (arith, rules.0))
         ∙ units-here t f at g c.left c.at left
@@ -217,6 +175,6 @@ module _ (t : List ℕ) (at glyph : ℕ) (c : Cursor) (s : Serves t at glyph c) 
           more = omega (arith, rules.1);
           near = k;
           none = λ g a b _. before g a b;
-          some = λ g a b _. among g a (omega arith) ∙ ap Value (there g a);
+          some = λ g a b _. among g a (omega arith) ∙ ap Some (there g a);
           serves = serves-past t at glyph c.at c.left q last s left l step (omega (arith, s.near));
         }

@@ -1,9 +1,9 @@
 -- A run of glyphs that have a value, in a pass over the lookup at `at` that has come to `glyph` (document 01, "The table", the lookup's passage). A glyph is
 -- a 16-bit number: what is said is said of glyphs, so a run past the last of them says that no glyph from `glyph` on has a value.
+use Rattle.std.specs.Prelude.{None, Some}
 use Rattle.std.specs.Prelude.{ℕ, ◌+◌, ◌-◌, ◌*◌, ◌≤◌, ◌<◌, ◌^◌, max, true, false, cond, ◌≡◌, List, eqb, ltb}
 use Rattle.fields.specs.Field.{u16_at}
 use Rattle.lookup.specs.declared.Cursor.{Cursor}
-use Rattle.lookup.specs.declared.Found.TheVariants.{Value, Nothing}
 use Rattle.lookup.specs.Units.{unit_size, first_of, last_of}
 use Rattle.lookup.specs.Find.{unit_count, value_from}
 use Rattle.lookup.specs.Pass.{Serves}
@@ -54,6 +54,6 @@ pub record Follows (t : List ℕ) (at glyph : ℕ) (r : Run) : Type 0 where
   pub begins : glyph ≤ r.from
   pub more : r.from < r.until
   pub near : r.place < 2 ^ 41
-  pub none : (g : ℕ) → glyph ≤ g → g < r.from → g < 2 ^ 16 → value_from t at g (unit_count t at) (at + 12) ≡ Nothing
-  pub some : (g : ℕ) → r.from ≤ g → g < r.until → g < 2 ^ 16 → value_from t at g (unit_count t at) (at + 12) ≡ Value (u16_at t (field_in_run r g))
+  pub none : (g : ℕ) → glyph ≤ g → g < r.from → g < 2 ^ 16 → value_from t at g (unit_count t at) (at + 12) ≡ None
+  pub some : (g : ℕ) → r.from ≤ g → g < r.until → g < 2 ^ 16 → value_from t at g (unit_count t at) (at + 12) ≡ Some (u16_at t (field_in_run r g))
   pub serves : Serves t at r.until r.cursor

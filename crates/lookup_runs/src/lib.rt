@@ -1,6 +1,6 @@
 // A pass over the glyphs of a lookup that have a value (document 01, "Numbers of refusal": clusters and lists go by
 // glyph): a run of glyphs at a time, upward, whose values are one field or an array. Glyphs without a value cost nothing.
-#![tactic(auto)]
+#![tactic(auto, unfolding(lookup::specs::Units::unit_size, crate::specs::Runs::unit_place, crate::specs::Runs::trimmed_from, crate::specs::Runs::trimmed_run, crate::specs::Runs::units_run, crate::specs::Runs::next_run))]
 
 ghost use Rattle.std.specs.Prelude.{◌≡◌, ℕ, ◌+◌, ◌*◌, ◌≤◌, ◌<◌, ◌^◌, length};
 ghost use Rattle.fields.specs.Field.{u16_at};
@@ -22,13 +22,17 @@ pub struct Run {
     pub cursor: Cursor,
 }
 
-// No glyph is left that has a value.
+// As many glyphs as there can be.
+const ALL_GLYPHS: usize = 65536;
+
+// No glyph is left that has a value. This is a run and no Option: a run may begin past the font's last glyph, so that callers
+// look at where it begins anyway, and one that begins past every glyph needs no other answer.
 fn no_run(cursor: Cursor) -> Run
     ensures { result ≡ no_run cursor }
 {
     Run {
-        from: 65536,
-        until: 65537,
+        from: ALL_GLYPHS,
+        until: ALL_GLYPHS + 1,
         place: 0,
         array: false,
         cursor,
@@ -38,11 +42,12 @@ fn no_run(cursor: Cursor) -> Run
 // Format 8.
 fn trimmed_run(table: &[u8], at: usize, cursor: Cursor, glyph: usize) -> Run
     requires { (at < 2 ^ 32) × ((glyph < 2 ^ 16) × ((u16_at table.now at ≡ 8) × Serves table.now at glyph cursor)) }
-    ensures { (result ≡ trimmed_run table.now at cursor glyph) × Follows table.now at glyph result }
+    ensures run { result ≡ trimmed_run table.now at cursor glyph }
+    ensures follows { Follows table.now at glyph result }
 {
     let first = fields::u16_in(table, at + 2);
     let count = fields::u16_in(table, at + 4);
-    let from = fields::larger(first, glyph);
+    let from = first.max(glyph);
     if first + count <= from {
         return no_run(cursor);
     }
@@ -60,36 +65,32 @@ fn unit_place(table: &[u8], format: usize, at: usize, p: usize) -> usize
     requires { (at < 2 ^ 32) × ((p < 2 ^ 40) × (p + unit_size format ≤ length table.now)) }
     ensures { (result ≡ unit_place table.now format at p) × (result < 2 ^ 41) }
 {
-    if format == 2 {
-        return p + 4;
+    match format {
+        2 => p + 4,
+        4 => at + fields::u16_in(table, p + 4),
+        _ => p + 2,
     }
-    if format == 4 {
-        return at + fields::u16_in(table, p + 4);
-    }
-    p + 2
 }
 
 // Formats 2, 4 and 6: the glyphs of the next unit.
 fn units_run(table: &[u8], format: usize, at: usize, cursor: Cursor) -> Run
-    requires at_bound { (at < 2 ^ 32) × ((format ≡ u16_at table.now at) × (cursor.at + 6 * cursor.left < 2 ^ 40)) }
-    requires fact { (format ≡ 0 → ⊥) × ((format ≡ 8 → ⊥) × (0 < cursor.left → cursor.at + unit_size format ≤ length table.now)) }
-    ensures { (result ≡ units_run table.now format at cursor) × ((glyph : ℕ) → glyph < 2 ^ 16 → Serves table.now at glyph cursor → Follows table.now at glyph result) }
+    requires near { (at < 2 ^ 32) × ((format ≡ u16_at table.now at) × (cursor.at + 6 * cursor.left < 2 ^ 40)) }
+    requires with_units { (format ≡ 0 → ⊥) × ((format ≡ 8 → ⊥) × (0 < cursor.left → cursor.at + unit_size format ≤ length table.now)) }
+    ensures run { result ≡ units_run table.now format at cursor }
+    ensures follows { (glyph : ℕ) → glyph < 2 ^ 16 → Serves table.now at glyph cursor → Follows table.now at glyph result }
 {
     let p = cursor.at;
-    let left = cursor.left;
-    if left == 0 {
+    if cursor.left == 0 {
         return no_run(cursor);
     }
-    let from = lookup::first_of(table, format, p);
-    let place = unit_place(table, format, at, p);
     Run {
-        from,
+        from: lookup::first_of(table, format, p),
         until: fields::u16_in(table, p) + 1,
-        place,
+        place: unit_place(table, format, at, p),
         array: format == 4,
         cursor: Cursor {
             at: p + lookup::unit_size(format),
-            left: left - 1,
+            left: cursor.left - 1,
         },
     }
 }
@@ -99,17 +100,15 @@ pub fn next_run(table: &[u8], format: usize, at: usize, cursor: Cursor, glyph: u
     requires { (at < 2 ^ 32) × ((glyph < 2 ^ 16) × ((format ≡ u16_at table.now at) × Serves table.now at glyph cursor)) }
     ensures { (result ≡ next_run table.now at cursor glyph) × Follows table.now at glyph result }
 {
-    if format == 0 {
-        return Run {
+    match format {
+        0 => Run {
             from: glyph,
-            until: 65536,
+            until: ALL_GLYPHS,
             place: at + 2 + 2 * glyph,
             array: true,
             cursor,
-        };
+        },
+        8 => trimmed_run(table, at, cursor, glyph),
+        _ => units_run(table, format, at, cursor),
     }
-    if format == 8 {
-        return trimmed_run(table, at, cursor, glyph);
-    }
-    units_run(table, format, at, cursor)
 }

@@ -1,4 +1,9 @@
 -- Laws of what a lookup's values lead to, for the proofs of the functions and for callers.
+use Rattle.std.specs.Prelude.{Err}
+use Rattle.fields.specs.declared.Fault.{Fault}
+use Rattle.fields.specs.Faults.{earlier}
+use Rattle.std.specs.Prelude.{None, Option, Some}
+use Rattle.std.specs.Prelude.{Ok, Err}
 use Prim.Native.Nat.{ℕ, zero, suc, ◌+◌, ◌-◌, ◌*◌, ◌/◌, ◌%◌, ◌≤◌, ◌<◌, ◌^◌, min, max}
 use mathlib.Core.Path.{◌≡◌, refl, sym, ap, ap₂, subst, ◌∙◌}
 use mathlib.Core.List.{List}
@@ -11,21 +16,17 @@ use borrow.Author.Tests.{eq-eqb, ne_eqb, le-leb, lt-leb, ltb-true, ltb-false}
 use lib.ListN.{get_or, set, replicate}
 use lib.Seq.{get_or-set_other}
 use Rattle.fields.specs.declared.Refusal.{Refusal}
-use Rattle.fields.specs.declared.Fault.{Fault}
-use Rattle.fields.specs.declared.Fault.TheVariants.{Clear, Bad}
+use Rattle.fields.specs.Faults.{FirstFault}
+use Rattle.fields.specs.Faults.{Clear, Bad}
 use Rattle.fields.specs.Field.{u16_at}
 use Rattle.fields.specs.Faults.{◌then◌}
 use Rattle.fields.proofs.Laws.{then-assoc, then-clear, then-second, then-stop, then-go}
 use Rattle.fields.specs.Walk.{walk, each}
 use Rattle.fields.proofs.Walk.{walk-stop, walk-next, walk_none}
-use Rattle.lookup.specs.declared.Found.{Found}
-use Rattle.lookup.specs.declared.Found.TheVariants.{Value, Nothing}
 use Rattle.lookup.proofs.Laws.{value_in_lem}
 use Rattle.lookup_runs.specs.declared.Run.{Run}
 use Rattle.lookup_runs.specs.Runs.{field_in_run, Follows}
 use Rattle.lookup.specs.Find.{value_of}
-use Rattle.actions.specs.declared.Spot.{Spot}
-use Rattle.actions.specs.declared.Spot.TheVariants.{At, Nowhere}
 use Rattle.actions.specs.Faults.{actions_fault}
 use Rattle.actions.specs.Notes.{Passing}
 use Rattle.actions.proofs.Notes.{set_here, no_note, each_fewer, blank-passed}
@@ -34,28 +35,10 @@ use Rattle.lookup_targets.specs.declared.Kind.TheVariants.{Clusters, Lists}
 use Rattle.lookup_targets.specs.Values.{spot_of, item_fault, spot_fault, place_fault, target_fault, from_glyph, NoteTells, besides, Judged, Told, Ahead, note_at, note_each, note_along, Noted}
 
 -- what is judged of a value, from what its steps found
-pub place_of : (t : List ℕ) (glyphs : ℕ) (kind : Kind) (base p : ℕ) {fault : Fault} {spot : Spot}
-    → fault ≡ spot_fault t glyphs kind spot → spot ≡ spot_of kind base (Value (u16_at t p)) → fault ≡ place_fault t glyphs kind base p
+pub place_of : (t : List ℕ) (glyphs : ℕ) (kind : Kind) (base p : ℕ) {fault : FirstFault} {spot : Option ℕ}
+    → fault ≡ spot_fault t glyphs kind spot → spot ≡ spot_of kind base (Some (u16_at t p)) → fault ≡ place_fault t glyphs kind base p
 unfolding place_fault
 place_of t glyphs kind base p f s = f ∙ ap (spot_fault t glyphs kind) s
-
--- what a value leads to has no fault where that is noted, and where it leads nowhere
-pub told_at_lem : (t : List ℕ) (kind : Kind) (base p : ℕ) (judged : List ℕ) (at : ℕ) → At at ≡ spot_of kind base (Value (u16_at t p)) → NoteTells kind (get_or judged at 0)
-    → Told t kind base judged p
-told_at_lem t kind base p judged at s e = record { clear = λ glyphs m. sym (place_of t glyphs kind base p (sym (m.clear kind at e)) s) }
-
-pub told-nowhere : (t : List ℕ) (kind : Kind) (base p : ℕ) (judged : List ℕ) → Nowhere ≡ spot_of kind base (Value (u16_at t p)) → Told t kind base judged p
-told-nowhere t kind base p judged s = record { clear = λ glyphs m. sym (place_of t glyphs kind base p refl s) }
-
--- one value more of which the notes tell
-pub told-next : {t : List ℕ} {kind : Kind} {base : ℕ} {judged : List ℕ} (place count left p : ℕ) → left ≤ count → p ≡ place + 2 * (count - left)
-    → ((i : ℕ) → i < count - left → Told t kind base judged (place + 2 * i)) → Told t kind base judged p
-    → (i : ℕ) → i < count - (left - 1) → Told t kind base judged (place + 2 * i)
-told-next {t} {kind} {base} {judged} place count left p fewer here before told i l = go (ℕ_discrete i (count - left))
-  where
-    go : Dec (i ≡ count - left) → Told t kind base judged (place + 2 * i)
-    go (yes q) = let e : p ≡ place + 2 * i = omega arith in subst (Told t kind base judged) e told
-    go (no n) = before i (omega arith)
 
 -- nothing is noted at first
 pub blank-judged : (t : List ℕ) (glyphs : ℕ) (judged : List ℕ) → ((i : ℕ) → get_or judged i 0 ≡ 0) → Judged t glyphs judged
@@ -68,14 +51,6 @@ blank-judged t glyphs judged blank = record { clear = λ kind i e. absurd (none 
 pub none-judged : (t : List ℕ) (glyphs n : ℕ) → Judged t glyphs (replicate n 0)
 none-judged t glyphs n = blank-judged t glyphs (replicate n 0) (no_note n)
 
--- judging actions keeps what is known of clusters and lists
-pub actions-judged : {t : List ℕ} {glyphs : ℕ} {before after : List ℕ} → Judged t glyphs before → Passing t glyphs before after → Judged t glyphs after
-actions-judged {t} {glyphs} {before} {after} j p = record { clear = clear; passed = p.passed }
-  where
-    clear : (kind : Kind) (i : ℕ) → NoteTells kind (get_or after i 0) → item_fault t glyphs kind i ≡ Clear
-    clear Clusters i e = j.clear Clusters i (omega (arith, p.rest i))
-    clear Lists i e = j.clear Lists i (omega (arith, p.rest i))
-
 -- what a note tells besides, it tells of one kind
 besides-told : (kind k : Kind) (note : ℕ) → NoteTells k (besides kind note) → (k ≡ kind) ⊎ NoteTells k note
 besides-told Clusters Clusters note e = inl refl
@@ -87,37 +62,9 @@ besides-passed : (kind : Kind) (note : ℕ) → besides kind note / 4 ≡ note /
 besides-passed Clusters note = omega arith
 besides-passed Lists note = omega arith
 
--- what was found without fault may be noted
-pub item-judged : {t : List ℕ} {glyphs : ℕ} {judged : List ℕ} (kind : Kind) (at byte : ℕ) → Judged t glyphs judged → item_fault t glyphs kind at ≡ Clear
-    → byte ≡ besides kind (get_or judged at 0) → Judged t glyphs (set judged at byte)
-item-judged {t} {glyphs} {judged} kind at byte j found e =
-    record { clear = λ k i o. clear k i o (ℕ_discrete i at); passed = record { clear = λ i. ap (λ (k : ℕ). actions_fault t glyphs k i) (passed i (ℕ_discrete i at)) ∙ j.passed.clear i } }
-  where
-    here : (k : Kind) → NoteTells k (get_or (set judged at byte) at 0) → item_fault t glyphs k at ≡ Clear
-    here k o =
-        ⊎_elim
-        (λ s.
-        ⊎_elim
-        (λ q. ap (λ (x : Kind). item_fault t glyphs x at) q ∙ found)
-        (λ w. j.clear k at w)
-        (besides-told kind k (get_or judged at 0) (subst (NoteTells k) (s ∙ e) o)))
-        (λ s. j.clear k at (subst (NoteTells k) s o))
-        (set_here judged at byte)
-
-    clear : (k : Kind) (i : ℕ) → NoteTells k (get_or (set judged at byte) i 0) → Dec (i ≡ at) → item_fault t glyphs k i ≡ Clear
-    clear k i o (yes q) = ap (item_fault t glyphs k) q ∙ here k (rw q at o)
-    clear k i o (no n) = j.clear k i (subst (NoteTells k) (get_or-set_other judged at i byte 0 n) o)
-
-    passed_here : get_or (set judged at byte) at 0 / 4 ≡ get_or judged at 0 / 4
-    passed_here = ⊎_elim (λ s. ap (λ (m : ℕ). m / 4) (s ∙ e) ∙ besides-passed kind (get_or judged at 0)) (λ s. ap (λ (m : ℕ). m / 4) s) (set_here judged at byte)
-
-    passed : (i : ℕ) → Dec (i ≡ at) → get_or (set judged at byte) i 0 / 4 ≡ get_or judged i 0 / 4
-    passed i (yes q) = rw q passed_here
-    passed i (no n) = ap (λ (m : ℕ). m / 4) (get_or-set_other judged at i byte 0 n)
-
 -- values that follow each other are judged as two stretches
-each_both : (one : ℕ → Fault) (n m p : ℕ) → each one (λ q. q + 2) (n + m) p ≡ (each one (λ q. q + 2) n p then each one (λ q. q + 2) m (p + 2 * n))
-unfolding walk ◌then◌
+each_both : (one : ℕ → FirstFault) (n m p : ℕ) → each one (λ q. q + 2) (n + m) p ≡ (each one (λ q. q + 2) n p then each one (λ q. q + 2) m (p + 2 * n))
+unfolding walk earlier
 each_both one zero m p =
     let count : 0 + m ≡ m = omega arith in
     let e : p ≡ p + 2 * 0 = omega arith in
@@ -126,12 +73,21 @@ each_both one (suc n) m p =
     let count : suc n + m ≡ suc (n + m) = omega arith in
     let end : p + 2 + 2 * n ≡ p + 2 * suc n = omega arith in
     ap (λ (k : ℕ). each one (λ q. q + 2) k p) count
-    ∙ ap (λ (f : Fault). one p then f) (each_both one n m (p + 2))
+    ∙ ap (λ (f : FirstFault). one p then f) (each_both one n m (p + 2))
     ∙ sym (then-assoc (one p) (each one (λ q. q + 2) n (p + 2)) (each one (λ q. q + 2) m (p + 2 + 2 * n)))
     ∙ ap (λ (k : ℕ). each one (λ q. q + 2) (suc n) p then each one (λ q. q + 2) m k) end
 
+-- one value more of which the notes tell
+pub told-more : {t : List ℕ} {kind : Kind} {base : ℕ} {judged : List ℕ} (place from value : ℕ) → ((i : ℕ) → from ≤ i → i < value → Told t kind base judged (place + 2 * i))
+    → Told t kind base judged (place + 2 * value) → (i : ℕ) → from ≤ i → i < value + 1 → Told t kind base judged (place + 2 * i)
+told-more {t} {kind} {base} {judged} place from value before here i low high = go (ℕ_discrete i value)
+  where
+    go : Dec (i ≡ value) → Told t kind base judged (place + 2 * i)
+    go (yes q) = let e : place + 2 * value ≡ place + 2 * i = omega arith in subst (Told t kind base judged) e here
+    go (no n) = before i low (omega arith)
+
 -- values that each lead to no fault
-each-clear : (one : ℕ → Fault) (n p : ℕ) → ((i : ℕ) → i < n → one (p + 2 * i) ≡ Clear) → each one (λ q. q + 2) n p ≡ Clear
+each-clear : (one : ℕ → FirstFault) (n p : ℕ) → ((i : ℕ) → i < n → one (p + 2 * i) ≡ Clear) → each one (λ q. q + 2) n p ≡ Clear
 unfolding walk
 each-clear one zero p clear = refl
 each-clear one (suc n) p clear = then-go _ (first (clear 0 (omega arith))) ∙ each-clear one n (p + 2) (λ i l. next i (clear (suc i) (omega arith)))
@@ -142,25 +98,27 @@ each-clear one (suc n) p clear = then-go _ (first (clear 0 (omega arith))) ∙ e
     next : (i : ℕ) → one (p + 2 * suc i) ≡ Clear → one (p + 2 + 2 * i) ≡ Clear
     next i e = let q : p + 2 + 2 * i ≡ p + 2 * suc i = omega arith in ap one q ∙ e
 
--- values of which the notes tell are passed: `rest` are left
-pub each-told : (t : List ℕ) (glyphs : ℕ) (kind : Kind) (base : ℕ) (judged : List ℕ) (left p rest : ℕ) → Judged t glyphs judged
-    → (rest ≤ left) × ((i : ℕ) → i < left - rest → Told t kind base judged (p + 2 * i))
-    → each (place_fault t glyphs kind base) (λ q. q + 2) left p ≡ each (place_fault t glyphs kind base) (λ q. q + 2) rest (p + 2 * (left - rest))
-each-told t glyphs kind base judged left p rest m told =
-    let fewer : rest ≤ left = told.0 in
-    let count : left ≡ left - rest + rest = omega arith in
-    ap (λ (k : ℕ). each (place_fault t glyphs kind base) (λ q. q + 2) k p) count
-    ∙ each_both (place_fault t glyphs kind base) (left - rest) rest p
-    ∙ then-go _ (each-clear (place_fault t glyphs kind base) (left - rest) p (λ i l. (told.1 i l).clear glyphs m))
+-- values of which the notes tell are passed, those from number `from` on and before number `k`
+pub passed-told : (t : List ℕ) (glyphs : ℕ) (kind : Kind) (base : ℕ) (judged : List ℕ) (place count from k : ℕ) → Judged t glyphs judged → from ≤ k → k ≤ count
+    → ((i : ℕ) → from ≤ i → i < k → Told t kind base judged (place + 2 * i))
+    → each (place_fault t glyphs kind base) (λ q. q + 2) (count - from) (place + 2 * from) ≡ each (place_fault t glyphs kind base) (λ q. q + 2) (count - k) (place + 2 * k)
+passed-told t glyphs kind base judged place count from k m low high told =
+    let all : count - from ≡ k - from + (count - k) = omega arith in
+    let end : place + 2 * from + 2 * (k - from) ≡ place + 2 * k = omega arith in
+    ap (λ (n : ℕ). each (place_fault t glyphs kind base) (λ q. q + 2) n (place + 2 * from)) all
+    ∙ each_both (place_fault t glyphs kind base) (k - from) (count - k) (place + 2 * from)
+    ∙ then-go _ (each-clear (place_fault t glyphs kind base) (k - from) (place + 2 * from) clear)
+    ∙ ap (λ (p : ℕ). each (place_fault t glyphs kind base) (λ q. q + 2) (count - k) p) end
+  where
+    clear : (i : ℕ) → i < k - from → place_fault t glyphs kind base (place + 2 * from + 2 * i) ≡ Clear
+    clear i l =
+        let here : place + 2 * from + 2 * i ≡ place + 2 * (from + i) = omega arith in
+        ap (place_fault t glyphs kind base) here ∙ (told (from + i) (omega arith) (omega arith)).clear glyphs m
 
 -- the values of a run: one, or as many as an array has
-pub one_value : (one : ℕ → Fault) (array : Bool) (n p : ℕ) → array ≡ false → one p ≡ each one (λ q. q + 2) (cond array n 1) p
+pub one_value : (one : ℕ → FirstFault) (array : Bool) (n p : ℕ) → array ≡ false → one p ≡ each one (λ q. q + 2) (cond array n 1) p
 unfolding walk
 one_value one array n p e = sym (ap (λ (b : Bool). each one (λ q. q + 2) (cond b n 1) p) e ∙ then-clear (one p))
-
-pub array-values : (one : ℕ → Fault) (array : Bool) (count n p : ℕ) → array ≡ true → count ≡ n
-    → each one (λ q. q + 2) count p ≡ each one (λ q. q + 2) (cond array n 1) p
-array-values one array count n p e q = ap (λ (k : ℕ). each one (λ q. q + 2) k p) q ∙ sym (ap (λ (b : Bool). each one (λ q. q + 2) (cond b n 1) p) e)
 
 -- ---- values of which is known what they lead to
 
@@ -168,26 +126,17 @@ array-values one array count n p e q = ap (λ (k : ℕ). each one (λ q. q + 2) 
 pub none_ahead : (t : List ℕ) (glyphs : ℕ) (kind : Kind) (base n : ℕ) → Ahead t glyphs kind base (replicate n 0)
 none_ahead t glyphs kind base n = record { clear = λ p. walk_none _ _ _ _ _ _ (omega (arith, no_note n p)) }
 
--- a note as the code makes it: `told` are as many as a byte tells, `known` is what was told
-pub note-kept : (place count told known : ℕ) (ahead : List ℕ) → told ≡ min count 255 → known ≡ get_or ahead place 0 → told ≤ known → ahead ≡ note_at place count ahead
-unfolding note_at
-note-kept place count told known ahead e f h = sym (simp (le-leb (min count 255) (get_or ahead place 0) (omega (arith, e, f, h))))
-
-pub note-made : (place count told known : ℕ) (ahead : List ℕ) → told ≡ min count 255 → known ≡ get_or ahead place 0 → known < told
-    → set ahead place told ≡ note_at place count ahead
-unfolding note_at
-note-made place count told known ahead e f h = ap (set ahead place) e ∙ sym (simp (lt-leb (min count 255) (get_or ahead place 0) (omega (arith, e, f, h))))
-
 -- one turn of noting, and its end
-pub each_turn : (place left : ℕ) (ahead after : List ℕ) → 0 < left → after ≡ note_at place left ahead → note_each place left ahead ≡ note_each (place + 2) (left - 1) after
+pub each_turn : (count value p q : ℕ) (ahead after : List ℕ) → value < count → q ≡ p + 2 → after ≡ note_at p (count - value) ahead
+    → note_each p (count - value) ahead ≡ note_each q (count - (value + 1)) after
 unfolding note_each
-each_turn place zero ahead after h e = absurd (omega arith)
-each_turn place (suc left) ahead after h e = let down : left ≡ suc left - 1 = omega arith in ap₂ (λ (k : ℕ) (l : List ℕ). note_each (place + 2) k l) down (sym e)
+each_turn count value p q ahead after h e n =
+    let more : count - value ≡ suc (count - (value + 1)) = omega arith in
+    rw more (ap₂ (λ (k : ℕ) (l : List ℕ). note_each k (count - (value + 1)) l) (sym e) (sym (n ∙ ap (λ (k : ℕ). note_at p k ahead) more)))
 
-pub each_over : (place left : ℕ) (ahead : List ℕ) → left ≡ 0 → note_each place left ahead ≡ ahead
+pub each_over : (count value p : ℕ) (ahead : List ℕ) → count ≤ value → note_each p (count - value) ahead ≡ ahead
 unfolding note_each
-each_over place zero ahead e = refl
-each_over place (suc left) ahead e = absurd (omega arith)
+each_over count value p ahead h = let none : count - value ≡ 0 = omega arith in rw none refl
 
 pub along-turn : (turns place left told part : ℕ) (ahead after : List ℕ) → 0 < left → left ≤ turns → told ≡ max 1 (get_or ahead place 0) → part ≡ min told left
     → after ≡ note_at place left ahead → note_along turns place left ahead ≡ note_along (turns - 1) (place + 2 * part) (left - part) after
@@ -299,23 +248,21 @@ module _ (t : List ℕ) (glyphs : ℕ) (kind : Kind) (base : ℕ) where
   part-known {ahead} p known part a e h = each_fewer (place_fault t glyphs kind base) (λ q. q + 2) part (get_or ahead p 0) p (omega arith) (a.clear p)
 
   -- a part with a fault ends the search
-  pub part-stops : (left p part : ℕ) {r : Refusal} {at : ℕ} → part ≤ left → each (place_fault t glyphs kind base) (λ q. q + 2) part p ≡ Bad r at
-      → each (place_fault t glyphs kind base) (λ q. q + 2) left p ≡ each (place_fault t glyphs kind base) (λ q. q + 2) part p
-  part-stops left p part h bad =
+  pub part-stops : (left p part : ℕ) (f : Fault) → part ≤ left → each (place_fault t glyphs kind base) (λ q. q + 2) part p ≡ Err f
+      → each (place_fault t glyphs kind base) (λ q. q + 2) left p ≡ Err f
+  part-stops left p part f h bad =
       let all : left ≡ part + (left - part) = omega arith in
       ap (λ (k : ℕ). each (place_fault t glyphs kind base) (λ q. q + 2) k p) all
       ∙ each_both (place_fault t glyphs kind base) part (left - part) p
       ∙ then-stop _ bad
+      ∙ bad
 
 -- where an action value leads
-pub list-nowhere : (base value : ℕ) → value ≡ 0 → spot_of Lists base (Value value) ≡ Nowhere
+pub list-nowhere : (base value : ℕ) → value ≡ 0 → spot_of Lists base (Some value) ≡ None
 list-nowhere base value e = simp (eq-eqb value 0 e)
 
-pub list_at_lem : (base value : ℕ) → (value ≡ 0 → ⊥) → spot_of Lists base (Value value) ≡ At (base + value)
-list_at_lem base value n = simp (ne_eqb value 0 n)
-
 -- glyphs without fault may be passed, as far as they are glyphs of the font
-pub each-skip : (one : ℕ → Fault) (n g m : ℕ) → ((k : ℕ) → g ≤ k → k < g + m → k < n → one k ≡ Clear)
+pub each-skip : (one : ℕ → FirstFault) (n g m : ℕ) → ((k : ℕ) → g ≤ k → k < g + m → k < n → one k ≡ Clear)
     → each one (λ k. k + 1) (n - g) g ≡ each one (λ k. k + 1) (n - (g + m)) (g + m)
 each-skip one n g zero h =
     let e : g ≡ g + 0 = omega arith in
@@ -339,9 +286,9 @@ each-skip one n g (suc m) h = go (ltb g n) refl (each-skip one n (g + 1) m (λ k
         ∙ sym (walk_none (λ p _. one p) (λ k. k + 1) (λ p. 0) (n - (g + suc m)) (g + suc m) 0 (omega arith))
 
 -- glyphs whose values stand one after the other from `p` on are judged by their values
-each-places : (one two : ℕ → Fault) (n m g p : ℕ) → g + m ≤ n → ((i : ℕ) → i < m → one (g + i) ≡ two (p + 2 * i))
+each-places : (one two : ℕ → FirstFault) (n m g p : ℕ) → g + m ≤ n → ((i : ℕ) → i < m → one (g + i) ≡ two (p + 2 * i))
     → each one (λ k. k + 1) (n - g) g ≡ (each two (λ q. q + 2) m p then each one (λ k. k + 1) (n - (g + m)) (g + m))
-unfolding walk ◌then◌
+unfolding walk earlier
 each-places one two n zero g p h same =
     let e : g ≡ g + 0 = omega arith in
     ap (λ (k : ℕ). each one (λ k. k + 1) (n - k) k) e
@@ -364,9 +311,9 @@ each-places one two n (suc m) g p h same =
     after i = let e : p + 2 * suc i ≡ p + 2 + 2 * i = omega arith in ap two e
 
 -- a glyph without a value has no fault
-no_value : (t : List ℕ) (glyphs : ℕ) (kind : Kind) (at base glyph : ℕ) → value_of t glyphs at glyph ≡ Nothing → target_fault t glyphs kind at base glyph ≡ Clear
+no_value : (t : List ℕ) (glyphs : ℕ) (kind : Kind) (at base glyph : ℕ) → value_of t glyphs at glyph ≡ None → target_fault t glyphs kind at base glyph ≡ Clear
 unfolding target_fault
-no_value t glyphs kind at base glyph e = ap (λ (f : Found). spot_fault t glyphs kind (spot_of kind base f)) e
+no_value t glyphs kind at base glyph e = ap (λ (f : Option ℕ). spot_fault t glyphs kind (spot_of kind base f)) e
 
 -- the glyphs before a run, and the glyphs of the run
 module _ (t : List ℕ) (glyphs : ℕ) (kind : Kind) (at base glyph : ℕ) (r : Run) (w : Follows t at glyph r) (few : glyphs < 2 ^ 16) where
@@ -386,7 +333,7 @@ module _ (t : List ℕ) (glyphs : ℕ) (kind : Kind) (at base glyph : ℕ) (r : 
   by_place : (g : ℕ) → r.from ≤ g → g < r.until → g < glyphs
       → target_fault t glyphs kind at base g ≡ place_fault t glyphs kind base (field_in_run r g)
   unfolding target_fault place_fault
-  by_place g a b c = ap (λ (f : Found). spot_fault t glyphs kind (spot_of kind base f)) (value_in_lem t glyphs at g c ∙ w.some g a b (omega arith))
+  by_place g a b c = ap (λ (f : Option ℕ). spot_fault t glyphs kind (spot_of kind base f)) (value_in_lem t glyphs at g c ∙ w.some g a b (omega arith))
 
   -- the values of an array: as many as the font has glyphs for
   array-judged : r.array ≡ true → r.from < glyphs
@@ -397,7 +344,7 @@ module _ (t : List ℕ) (glyphs : ℕ) (kind : Kind) (at base glyph : ℕ) (r : 
       let more : r.from < r.until = w.more in
       each-places (target_fault t glyphs kind at base) (place_fault t glyphs kind base) glyphs (min r.until glyphs - r.from) r.from r.place (omega arith)
       (λ i l. by_place (r.from + i) (omega arith) (omega arith) (omega arith) ∙ ap (place_fault t glyphs kind base) (there i))
-      ∙ ap (λ (f : Fault). each (place_fault t glyphs kind base) (λ q. q + 2) (min r.until glyphs - r.from) r.place then f) (ends (ltb r.until glyphs) refl more)
+      ∙ ap (λ (f : FirstFault). each (place_fault t glyphs kind base) (λ q. q + 2) (min r.until glyphs - r.from) r.place then f) (ends (ltb r.until glyphs) refl more)
     where
       there : (i : ℕ) → field_in_run r (r.from + i) ≡ r.place + 2 * i
       there i =
@@ -421,7 +368,7 @@ module _ (t : List ℕ) (glyphs : ℕ) (kind : Kind) (at base glyph : ℕ) (r : 
       → each (target_fault t glyphs kind at base) (λ k. k + 1) (glyphs - r.from) r.from
       ≡ (each (place_fault t glyphs kind base) (λ q. q + 2) 1 r.place
       then each (target_fault t glyphs kind at base) (λ k. k + 1) (glyphs - r.until) r.until)
-  unfolding walk ◌then◌
+  unfolding walk earlier
   one-judged e h = go (place_fault t glyphs kind base r.place) refl
     where
       there : (g : ℕ) → field_in_run r g ≡ r.place
@@ -430,24 +377,24 @@ module _ (t : List ℕ) (glyphs : ℕ) (kind : Kind) (at base glyph : ℕ) (r : 
       alike : (g : ℕ) → r.from ≤ g → g < r.until → g < glyphs → target_fault t glyphs kind at base g ≡ place_fault t glyphs kind base r.place
       alike g a b c = by_place g a b c ∙ ap (place_fault t glyphs kind base) (there g)
 
-      go : (f : Fault) → place_fault t glyphs kind base r.place ≡ f
+      go : (f : FirstFault) → place_fault t glyphs kind base r.place ≡ f
           → each (target_fault t glyphs kind at base) (λ k. k + 1) (glyphs - r.from) r.from
           ≡ ((place_fault t glyphs kind base r.place then Clear)
           then each (target_fault t glyphs kind at base) (λ k. k + 1) (glyphs - r.until) r.until)
-      go Clear x =
+      go (Ok u) x =
           let more : r.from < r.until = w.more in
           let end : r.from + (r.until - r.from) ≡ r.until = omega arith in
           each-skip (target_fault t glyphs kind at base) glyphs r.from (r.until - r.from) (λ g a b c. alike g a (omega arith) c ∙ x)
           ∙ ap (λ (j : ℕ). each (target_fault t glyphs kind at base) (λ k. k + 1) (glyphs - j) j) end
-          ∙ sym (ap (λ (f : Fault). (f then Clear) then each (target_fault t glyphs kind at base) (λ k. k + 1) (glyphs - r.until) r.until) x)
-      go (Bad k p) x =
+          ∙ sym (ap (λ (f : FirstFault). (f then Clear) then each (target_fault t glyphs kind at base) (λ k. k + 1) (glyphs - r.until) r.until) x)
+      go (Err bad) x =
           let here = alike r.from (omega arith) w.more h in
           walk-stop (λ p _. target_fault t glyphs kind at base p) (λ k. k + 1) (λ p. 0) (glyphs - r.from) r.from 0 (omega arith) (here ∙ x)
           ∙ here ∙ x
-          ∙ sym (ap (λ (f : Fault). (f then Clear) then each (target_fault t glyphs kind at base) (λ k. k + 1) (glyphs - r.until) r.until) x)
+          ∙ sym (ap (λ (f : FirstFault). (f then Clear) then each (target_fault t glyphs kind at base) (λ k. k + 1) (glyphs - r.until) r.until) x)
 
   -- the run's values, `fault` being what was found of them, and then the glyphs after it
-  pub run-judged : r.from < glyphs → (fault : Fault)
+  pub run-judged : r.from < glyphs → (fault : FirstFault)
       → fault ≡ each (place_fault t glyphs kind base) (λ q. q + 2) (cond r.array (min r.until glyphs - r.from) 1) r.place
       → each (target_fault t glyphs kind at base) (λ k. k + 1) (glyphs - glyph) glyph
       ≡ (fault then each (target_fault t glyphs kind at base) (λ k. k + 1) (glyphs - r.until) r.until)
@@ -457,15 +404,11 @@ module _ (t : List ℕ) (glyphs : ℕ) (kind : Kind) (at base glyph : ℕ) (r : 
           → fault ≡ each (place_fault t glyphs kind base) (λ q. q + 2) (cond b (min r.until glyphs - r.from) 1) r.place
           → each (target_fault t glyphs kind at base) (λ k. k + 1) (glyphs - r.from) r.from
           ≡ (fault then each (target_fault t glyphs kind at base) (λ k. k + 1) (glyphs - r.until) r.until)
-      go true e f = array-judged e h ∙ ap (λ (x : Fault). x then each (target_fault t glyphs kind at base) (λ k. k + 1) (glyphs - r.until) r.until) (sym f)
-      go false e f = one-judged e h ∙ ap (λ (x : Fault). x then each (target_fault t glyphs kind at base) (λ k. k + 1) (glyphs - r.until) r.until) (sym f)
+      go true e f = array-judged e h ∙ ap (λ (x : FirstFault). x then each (target_fault t glyphs kind at base) (λ k. k + 1) (glyphs - r.until) r.until) (sym f)
+      go false e f = one-judged e h ∙ ap (λ (x : FirstFault). x then each (target_fault t glyphs kind at base) (λ k. k + 1) (glyphs - r.until) r.until) (sym f)
 
   -- a run whose one value leads to what the notes tell of is passed
   pub run-told : r.from < glyphs → r.array ≡ false → (judged : List ℕ) → Judged t glyphs judged → Told t kind base judged r.place
       → from_glyph t glyphs kind at base glyph ≡ from_glyph t glyphs kind at base r.until
   run-told h e judged m told =
       run-judged h Clear (sym (told.clear glyphs m) ∙ one_value (place_fault t glyphs kind base) r.array (min r.until glyphs - r.from) r.place e) ∙ then-go _ refl
-
--- at first all glyphs are left
-pub all_left : (one : ℕ → Fault) (n : ℕ) → each one (λ k. k + 1) n 0 ≡ each one (λ k. k + 1) (n - 0) 0
-all_left one n = let e : n ≡ n - 0 = omega arith in ap (λ (k : ℕ). each one (λ k. k + 1) k 0) e

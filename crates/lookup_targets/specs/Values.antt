@@ -1,78 +1,78 @@
 -- What the values of a direction's two lookups lead to (document 01, "The table"): a width value to a cluster, an action value to an action list; the first
 -- fault of the lookup and of all that its values lead to, glyph by glyph; and what each glyph has.
+use Rattle.std.specs.Prelude.{None, Option, Some}
 use Rattle.std.specs.Prelude.{ℕ, zero, suc, ◌+◌, ◌-◌, ◌*◌, ◌/◌, ◌%◌, ◌≤◌, ◌<◌, ◌^◌, min, max, cond, ◌≡◌, List, [], ◌⊎◌, leb, eqb, get_or, set}
-use Rattle.fields.specs.declared.Fault.{Fault}
-use Rattle.fields.specs.declared.Fault.TheVariants.{Clear}
+use Rattle.fields.specs.Faults.{FirstFault}
+use Rattle.fields.specs.Faults.{Clear}
 use Rattle.fields.specs.Field.{u16_at}
 use Rattle.fields.specs.Faults.{◌then◌}
 use Rattle.fields.specs.Walk.{each}
 use Rattle.types.specs.declared.Pair.{Pair}
 use Rattle.meaning.specs.Meaning.{Action}
-use Rattle.lookup.specs.declared.Found.{Found}
-use Rattle.lookup.specs.declared.Found.TheVariants.{Value, Nothing}
 use Rattle.lookup.specs.Lookup.{lookup_fault}
 use Rattle.lookup.specs.Find.{value_of}
 use Rattle.cluster.specs.Faults.{cluster_fault}
 use Rattle.cluster.specs.Pairs.{cluster_at}
-use Rattle.actions.specs.declared.Spot.{Spot}
-use Rattle.actions.specs.declared.Spot.TheVariants.{At, Nowhere}
 use Rattle.actions.specs.Faults.{list_fault}
 use Rattle.actions.specs.Actions.{list_at}
 use Rattle.actions.specs.Notes.{Passed}
 use Rattle.lookup_targets.specs.declared.Kind.{Kind}
 use Rattle.lookup_targets.specs.declared.Kind.TheVariants.{Clusters, Lists}
 use Rattle.lookup_targets.specs.declared.Source.{Source}
-use Rattle.lookup_targets.specs.declared.Source.TheVariants.{Lookup, Absent}
+
+-- the source that a lookup at `at` is, whose values are offsets from `base`
+abbrev pub from_lookup : ℕ → ℕ → Option Source
+from_lookup at base = Some (record { at = at; base = base })
 
 -- where the cluster or the list stands that a value leads to, an offset from `base`: a width value of 0 is an offset like any other, an action value of 0 means none
-abbrev pub spot_of : Kind → ℕ → Found → Spot
-spot_of kind base Nothing = Nowhere
-spot_of Clusters base (Value v) = At (base + v)
-spot_of Lists base (Value v) = cond (eqb v 0) Nowhere (At (base + v))
+abbrev pub spot_of : Kind → ℕ → Option ℕ → Option ℕ
+spot_of kind base None = None
+spot_of Clusters base (Some v) = Some (base + v)
+spot_of Lists base (Some v) = cond (eqb v 0) None (Some (base + v))
 
 -- the first fault of the cluster or the list at `at`
-abbrev pub item_fault : List ℕ → ℕ → Kind → ℕ → Fault
+abbrev pub item_fault : List ℕ → ℕ → Kind → ℕ → FirstFault
 item_fault t glyphs Clusters at = cluster_fault t at
 item_fault t glyphs Lists at = list_fault t glyphs at
 
-abbrev pub spot_fault : List ℕ → ℕ → Kind → Spot → Fault
-spot_fault t glyphs kind (At p) = item_fault t glyphs kind p
-spot_fault t glyphs kind Nowhere = Clear
+abbrev pub spot_fault : List ℕ → ℕ → Kind → Option ℕ → FirstFault
+spot_fault t glyphs kind (Some p) = item_fault t glyphs kind p
+spot_fault t glyphs kind None = Clear
 
 -- the first fault of what the value that stands at `p` leads to
-unfoldable pub place_fault : List ℕ → ℕ → Kind → ℕ → ℕ → Fault
-place_fault t glyphs kind base p = spot_fault t glyphs kind (spot_of kind base (Value (u16_at t p)))
+unfoldable pub place_fault : List ℕ → ℕ → Kind → ℕ → ℕ → FirstFault
+place_fault t glyphs kind base p = spot_fault t glyphs kind (spot_of kind base (Some (u16_at t p)))
 
 -- the first fault of what a glyph's value leads to; the lookup stands at `at`
-unfoldable pub target_fault : List ℕ → ℕ → Kind → ℕ → ℕ → ℕ → Fault
+unfoldable pub target_fault : List ℕ → ℕ → Kind → ℕ → ℕ → ℕ → FirstFault
 target_fault t glyphs kind at base glyph = spot_fault t glyphs kind (spot_of kind base (value_of t glyphs at glyph))
 
 -- what the glyphs from one on lead to
-abbrev pub from_glyph : List ℕ → ℕ → Kind → ℕ → ℕ → ℕ → Fault
+abbrev pub from_glyph : List ℕ → ℕ → Kind → ℕ → ℕ → ℕ → FirstFault
 from_glyph t glyphs kind at base glyph = each (target_fault t glyphs kind at base) (λ g. g + 1) (glyphs - glyph) glyph
 
 -- the lookup, then what its values lead to, glyphs upward
-unfoldable pub values_fault : List ℕ → ℕ → Kind → ℕ → ℕ → Fault
+unfoldable pub values_fault : List ℕ → ℕ → Kind → ℕ → ℕ → FirstFault
 values_fault t glyphs kind at base = lookup_fault t glyphs at then each (target_fault t glyphs kind at base) (λ g. g + 1) glyphs 0
 
 -- the same of a source, which has no fault where there is no lookup
-abbrev pub source_fault : List ℕ → ℕ → Kind → Source → Fault
-source_fault t glyphs kind (Lookup at base) = values_fault t glyphs kind at base
-source_fault t glyphs kind Absent = Clear
+abbrev pub source_fault : List ℕ → ℕ → Kind → Option Source → FirstFault
+source_fault t glyphs kind (Some s) = values_fault t glyphs kind s.at s.base
+source_fault t glyphs kind None = Clear
 
 -- its lookup, and what the values count from, stand where 16-bit offsets lead
-abbrev pub NearSource : Source → Type 0
-NearSource (Lookup at base) = (at < 2 ^ 17) × (base < 2 ^ 16)
-NearSource Absent = Unit {0}
+abbrev pub NearSource : Option Source → Type 0
+NearSource (Some s) = (s.at < 2 ^ 17) × (s.base < 2 ^ 16)
+NearSource None = Unit {0}
 
 -- the cluster, and the action list, of a place; none where there is none
-abbrev pub cluster_here : List ℕ → Spot → List Pair
-cluster_here t (At p) = cluster_at t p
-cluster_here t Nowhere = []
+abbrev pub cluster_here : List ℕ → Option ℕ → List Pair
+cluster_here t (Some p) = cluster_at t p
+cluster_here t None = []
 
-abbrev pub list_here : List ℕ → Spot → List Action
-list_here t (At p) = list_at t p
-list_here t Nowhere = []
+abbrev pub list_here : List ℕ → Option ℕ → List Action
+list_here t (Some p) = list_at t p
+list_here t None = []
 
 -- what a note tells of a cluster, and of a list
 abbrev pub NoteTells : Kind → ℕ → Type 0
@@ -92,6 +92,11 @@ pub record Judged (t : List ℕ) (glyphs : ℕ) (judged : List ℕ) : Type 0 whe
 -- the notes in `judged` tell that what the value at `place` leads to has no fault
 pub record Told (t : List ℕ) (kind : Kind) (base : ℕ) (judged : List ℕ) (place : ℕ) : Type 0 where
   pub clear : (glyphs : ℕ) → Judged t glyphs judged → place_fault t glyphs kind base place ≡ Clear
+
+-- the number of the first value of which the notes tell nothing, from number `from` on, of `count` values that stand from `place` on
+abbrev pub FirstUntold : List ℕ → Kind → ℕ → List ℕ → ℕ → ℕ → ℕ → Option ℕ → Type 0
+FirstUntold t kind base judged place from count (Some k) = (from ≤ k) × (k < count) × ((i : ℕ) → from ≤ i → i < k → Told t kind base judged (place + 2 * i))
+FirstUntold t kind base judged place from count None = (i : ℕ) → from ≤ i → i < count → Told t kind base judged (place + 2 * i)
 
 -- so many values from each position on, as `ahead` tells, lead to nothing with a fault
 pub record Ahead (t : List ℕ) (glyphs : ℕ) (kind : Kind) (base : ℕ) (ahead : List ℕ) : Type 0 where

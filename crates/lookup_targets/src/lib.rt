@@ -1,63 +1,81 @@
 // What the values of a direction's two lookups lead to (document 01, "The table"): clusters of width records and
 // lists of actions. The lookup is judged first, then, glyphs upward, what each value leads to (refusals 4 to 6 and 8).
-#![tactic(auto)]
+#![tactic(auto, using(fields::proofs::Walk::walk_steps), unfolding(fields::specs::Faults::earlier, crate::specs::Values::place_fault, crate::specs::Values::target_fault, crate::specs::Values::values_fault, crate::specs::Values::note_at))]
 
-ghost use Rattle.std.specs.Prelude.{◌≡◌, true, cond, ℕ, ◌+◌, ◌-◌, ◌*◌, ◌≤◌, ◌<◌, ◌^◌, min};
-ghost use Rattle.fields.specs.declared.Fault.TheVariants.{Clear};
+ghost use Rattle.std.specs.Prelude.{◌≡◌, true, cond, ℕ, ◌+◌, ◌-◌, ◌*◌, ◌≤◌, ◌<◌, ◌^◌, min, Some};
+ghost use Rattle.fields.specs.Faults.{Clear};
 ghost use Rattle.fields.specs.Field.{u16_at};
 ghost use Rattle.fields.specs.Walk.{each};
-ghost use Rattle.lookup.specs.declared.Found.TheVariants.{Value};
 ghost use Rattle.lookup.specs.Lookup.{lookup_fault};
 ghost use Rattle.lookup.specs.Pass.{Serves};
 ghost use Rattle.actions.specs.Actions.{SpotBelow};
-ghost use Rattle.lookup_targets.specs.Values.{spot_of, item_fault, place_fault, target_fault, from_glyph, values_fault, NoteTells, besides, Judged, Told, Ahead, note_at, note_each, note_along};
+ghost use Rattle.lookup_targets.specs.InC.{kind_in};
+ghost use Rattle.lookup_targets.specs.Values.{spot_of, item_fault, place_fault, target_fault, from_glyph, values_fault, NoteTells, besides, Judged, FirstUntold, Told, Ahead, note_at, note_each, note_along};
 
-use actions::Spot;
 use fields::Fault;
-use lookup::{Cursor, Found};
+use lookup::Cursor;
 use lookup_runs::Run;
 
 // What a lookup's values lead to.
-#[derive(Clone, Copy)]
+#[derive(Clone, Copy, PartialEq, Eq)]
 pub enum Kind {
     Clusters,
     Lists,
 }
 
-// Where the glyphs' clusters or lists come from: a lookup, whose values are offsets from `base`, or nothing.
+// Where the glyphs' clusters or lists come from: a lookup, whose values are offsets from `base`.
 #[derive(Clone, Copy)]
-pub enum Source {
-    Lookup { at: usize, base: usize },
-    Absent,
+pub struct Source {
+    pub at: usize,
+    pub base: usize,
+}
+
+// The lookup that a number names, for programs in C and other languages.
+impl From<u32> for Kind {
+    ghost from_gives = { λ number kind. kind ≡ kind_in number };
+
+    fn from(number: u32) -> Kind {
+        if number == 0 {
+            return Kind::Clusters;
+        }
+        Kind::Lists
+    }
 }
 
 // Where the list stands that an action value leads to, an offset from `base`; 0 leads nowhere.
-fn list_spot(base: usize, value: u16) -> Spot
+fn list_spot(base: usize, value: u16) -> Option<usize>
     requires { base < 2 ^ 16 }
-    ensures { (result ≡ spot_of Kind.Lists base (Value value)) × SpotBelow (2 ^ 17) result }
+    ensures { (result ≡ spot_of Kind.Lists base (Some value)) × SpotBelow (2 ^ 17) result }
 {
     if value == 0 {
-        return Spot::Nowhere;
+        return None;
     }
-    Spot::At(base + (value as usize))
+    Some(base + usize::from(value))
 }
 
 // Where the cluster or the list stands that a value leads to, an offset from `base`.
-pub fn spot_of(kind: Kind, base: usize, found: Found) -> Spot
+pub fn spot_of(kind: Kind, base: usize, found: Option<u16>) -> Option<usize>
     requires { base < 2 ^ 16 }
     ensures { (result ≡ spot_of kind base found) × SpotBelow (2 ^ 17) result }
 {
-    let Found::Value(value) = found else {
-        return Spot::Nowhere;
-    };
+    let value = found?;
     match kind {
-        Kind::Clusters => Spot::At(base + (value as usize)),
+        Kind::Clusters => Some(base + usize::from(value)),
         Kind::Lists => list_spot(base, value),
     }
 }
 
+// The functions below hand on table, glyph count, kind, base and the notes apart: in a struct the notes would be lent anew at each
+// step, and their contracts would say what stays the same of each part besides.
+
 // The first fault of the cluster or the list at `at`.
-fn item_fault(table: &[u8], glyphs: usize, kind: Kind, at: usize, judged: &mut [u8]) -> Fault
+fn item_fault(
+    table: &[u8],
+    glyphs: usize,
+    kind: Kind,
+    at: usize,
+    judged: &mut [u8],
+) -> Result<(), Fault>
     requires { Judged table.now glyphs judged.old }
     ensures { (result ≡ item_fault table.now glyphs kind at) × Judged table.now glyphs judged.new }
 {
@@ -90,29 +108,22 @@ fn note_of(kind: Kind, note: usize) -> u8
 
 // The first fault of the cluster or the list at `at`; where none is found, that is noted in `judged`, so that it is judged
 // once.
-fn judge(table: &[u8], glyphs: usize, kind: Kind, at: usize, judged: &mut [u8]) -> Fault
+fn judge(table: &[u8], glyphs: usize, kind: Kind, at: usize, judged: &mut [u8]) -> Result<(), Fault>
     requires { Judged table.now glyphs judged.old }
     ensures { (result ≡ item_fault table.now glyphs kind at) × Judged table.now glyphs judged.new }
 {
-    let fault = item_fault(table, glyphs, kind, at, judged);
-    if let Fault::Bad { refusal: _, at: _ } = fault {
-        return fault;
-    }
+    item_fault(table, glyphs, kind, at, judged)?;
     let note = note_of(kind, fields::u8_at(judged, at));
     fields::put_u8(judged, at, note);
-    Fault::Clear
+    Ok(())
 }
 
 // Where the cluster or the list stands that the value at `place` leads to.
-fn spot_at(table: &[u8], kind: Kind, base: usize, place: usize) -> Spot
+fn spot_at(table: &[u8], kind: Kind, base: usize, place: usize) -> Option<usize>
     requires { base < 2 ^ 16 }
-    ensures { result ≡ spot_of kind base (Value (u16_at table.now place)) }
+    ensures { result ≡ spot_of kind base (Some (u16_at table.now place)) }
 {
-    spot_of(
-        kind,
-        base,
-        Found::Value(fields::u16_at(table, place) as u16),
-    )
+    spot_of(kind, base, Some(fields::u16_at(table, place) as u16))
 }
 
 // The first fault of what the value at `place` leads to.
@@ -123,14 +134,14 @@ fn judge_value(
     base: usize,
     place: usize,
     judged: &mut [u8],
-) -> Fault
+) -> Result<(), Fault>
     requires base_bound { base < 2 ^ 16 }
-    requires judged { Judged table.now glyphs judged.old }
+    requires true_notes { Judged table.now glyphs judged.old }
     ensures { (result ≡ place_fault table.now glyphs kind base place) × Judged table.now glyphs judged.new }
 {
     match spot_at(table, kind, base, place) {
-        Spot::At(at) => judge(table, glyphs, kind, at, judged),
-        Spot::Nowhere => Fault::Clear,
+        Some(at) => judge(table, glyphs, kind, at, judged),
+        None => Ok(()),
     }
 }
 
@@ -140,8 +151,8 @@ fn is_judged(table: &[u8], kind: Kind, base: usize, place: usize, judged: &[u8])
     ensures { result ≡ true → Told table.now kind base judged.now place }
 {
     match spot_at(table, kind, base, place) {
-        Spot::At(at) => tells(kind, fields::u8_at(judged, at)),
-        Spot::Nowhere => true,
+        Some(at) => tells(kind, fields::u8_at(judged, at)),
+        None => true,
     }
 }
 
@@ -153,39 +164,37 @@ fn value_fault(
     base: usize,
     place: usize,
     judged: &mut [u8],
-) -> Fault
+) -> Result<(), Fault>
     requires base_bound { base < 2 ^ 16 }
-    requires judged { Judged table.now glyphs judged.old }
+    requires true_notes { Judged table.now glyphs judged.old }
     ensures { (result ≡ place_fault table.now glyphs kind base place) × Judged table.now glyphs judged.new }
 {
     if is_judged(table, kind, base, place, judged) {
-        return Fault::Clear;
+        return Ok(());
     }
     judge_value(table, glyphs, kind, base, place, judged)
 }
 
-// How many of `count` values, which stand from `place` on, are left from the first on of which the notes tell nothing.
-fn unjudged(
+// The first of the values from number `from` on, of `count` that stand from `place` on, of which the notes tell nothing. Most
+// values are passed here, where nothing is written.
+fn first_untold(
     table: &[u8],
     kind: Kind,
     base: usize,
     place: usize,
+    from: usize,
     count: usize,
     judged: &[u8],
-) -> usize
-    requires { (base < 2 ^ 16) × (place + 2 * count < 2 ^ 50) }
-    ensures { (result ≤ count) × ((i : ℕ) → i < count - result → Told table.now kind base judged.now (place + 2 * i)) }
+) -> Option<usize>
+    requires { (base < 2 ^ 16) × ((from ≤ count) × (place + 2 * count < 2 ^ 50)) }
+    ensures { FirstUntold table.now kind base judged.now place from count result }
 {
-    let mut p = place;
-    let mut left = count;
-    while 0 < left {
-        if !is_judged(table, kind, base, p, judged) {
-            return left;
+    for value in from..count {
+        if !is_judged(table, kind, base, place + 2 * value, judged) {
+            return Some(value);
         }
-        p += 2;
-        left -= 1;
     }
-    0
+    None
 }
 
 // The first fault of what `count` values, which stand from `place` on, lead to: value by value.
@@ -197,27 +206,18 @@ fn stretch_fault(
     place: usize,
     count: usize,
     judged: &mut [u8],
-) -> Fault
+) -> Result<(), Fault>
     requires base_bound { (base < 2 ^ 16) × (place + 2 * count < 2 ^ 50) }
-    requires judged { Judged table.now glyphs judged.old }
+    requires true_notes { Judged table.now glyphs judged.old }
     ensures { (result ≡ each (place_fault table.now glyphs kind base) (λ p. p + 2) count place) × Judged table.now glyphs judged.new }
 {
-    let mut p = place;
-    let mut left = count;
-    while 0 < left {
-        let rest = unjudged(table, kind, base, p, left, judged);
-        if rest == 0 {
-            return Fault::Clear;
-        }
-        let here = p + 2 * (left - rest);
-        let fault = judge_value(table, glyphs, kind, base, here, judged);
-        if let Fault::Bad { refusal: _, at: _ } = fault {
-            return fault;
-        }
-        p = here + 2;
-        left = rest - 1;
+    let mut value: usize = 0;
+    // No count: each turn passes all values of which the notes tell.
+    while let Some(untold) = first_untold(table, kind, base, place, value, count, judged) {
+        judge_value(table, glyphs, kind, base, place + 2 * untold, judged)?;
+        value = untold + 1;
     }
-    Fault::Clear
+    Ok(())
 }
 
 // How many of `count` values, which stand from `place` on, come before one of which `ahead` tells; it is not asked of the first.
@@ -225,16 +225,12 @@ fn untold(place: usize, count: usize, ahead: &[u8]) -> usize
     requires { (0 < count) × (place + 2 * count < 2 ^ 50) }
     ensures { (0 < result) × (result ≤ count) }
 {
-    let mut p = place + 2;
-    let mut passed: usize = 1;
-    while passed < count {
-        if 0 < fields::u8_at(ahead, p) {
+    for passed in 1..count {
+        if 0 < fields::u8_at(ahead, place + 2 * passed) {
             return passed;
         }
-        p += 2;
-        passed += 1;
     }
-    passed
+    count
 }
 
 // Notes at `place` that `count` values from there on have something in common: as many as a byte tells, where that is more than
@@ -242,7 +238,7 @@ fn untold(place: usize, count: usize, ahead: &[u8]) -> usize
 fn note_at(place: usize, count: usize, ahead: &mut [u8])
     ensures { ahead.new ≡ note_at place count ahead.old }
 {
-    let told = fields::lower(count, 255);
+    let told = count.min(255);
     if told <= fields::u8_at(ahead, place) {
         return;
     }
@@ -254,12 +250,8 @@ fn note_each(place: usize, count: usize, ahead: &mut [u8])
     requires { place + 2 * count < 2 ^ 50 }
     ensures { ahead.new ≡ note_each place count ahead.old }
 {
-    let mut p = place;
-    let mut left = count;
-    while 0 < left {
-        note_at(p, left, ahead);
-        p += 2;
-        left -= 1;
+    for value in 0..count {
+        note_at(place + 2 * value, count - value, ahead);
     }
 }
 
@@ -271,10 +263,11 @@ pub fn note_values(place: usize, count: usize, ahead: &mut [u8])
 {
     let mut p = place;
     let mut left = count;
+    // No count: each turn passes as many values as were told at one.
     while 0 < left {
-        let told = fields::larger(1, fields::u8_at(ahead, p));
+        let told = fields::u8_at(ahead, p).max(1);
         note_at(p, left, ahead);
-        let part = fields::lower(told, left);
+        let part = told.min(left);
         p += 2 * part;
         left -= part;
     }
@@ -291,32 +284,30 @@ fn places_fault(
     count: usize,
     judged: &mut [u8],
     ahead: &mut [u8],
-) -> Fault
+) -> Result<(), Fault>
     requires base_bound { (base < 2 ^ 16) × (place + 2 * count < 2 ^ 42) }
-    requires judged { Judged table.now glyphs judged.old × Ahead table.now glyphs kind base ahead.old }
+    requires true_notes { Judged table.now glyphs judged.old × Ahead table.now glyphs kind base ahead.old }
     ensures { (result ≡ each (place_fault table.now glyphs kind base) (λ p. p + 2) count place) × (Judged table.now glyphs judged.new × Ahead table.now glyphs kind base ahead.new) }
 {
     let mut p = place;
     let mut left = count;
+    // No count: each turn passes the values that are known, or judges those up to the next that are.
     while 0 < left {
         let known = fields::u8_at(ahead, p);
         if 0 < known {
-            let part = fields::lower(known, left);
+            let part = known.min(left);
             p += 2 * part;
             left -= part;
         } else {
             let part = untold(p, left, ahead);
-            let fault = stretch_fault(table, glyphs, kind, base, p, part, judged);
-            if let Fault::Bad { refusal: _, at: _ } = fault {
-                return fault;
-            }
+            stretch_fault(table, glyphs, kind, base, p, part, judged)?;
             note_each(p, part, ahead);
             p += 2 * part;
             left -= part;
         }
     }
     note_values(place, count, ahead);
-    Fault::Clear
+    Ok(())
 }
 
 // How many values an array has for the glyphs of a run: those below `glyphs`.
@@ -324,10 +315,7 @@ fn value_count(glyphs: usize, from: usize, until: usize) -> usize
     requires { (from < until) × (from < glyphs) }
     ensures { (result ≡ min until glyphs - from) × (result ≤ glyphs) }
 {
-    if until < glyphs {
-        return until - from;
-    }
-    glyphs - from
+    until.min(glyphs) - from
 }
 
 // The first fault of what the values of a run lead to: one for all its glyphs, or those of an array, which only units of
@@ -341,9 +329,9 @@ fn run_fault(
     run: Run,
     judged: &mut [u8],
     ahead: &mut [u8],
-) -> Fault
+) -> Result<(), Fault>
     requires base_bound { (base < 2 ^ 16) × ((glyphs < 2 ^ 16) × ((run.from < run.until) × ((run.from < glyphs) × (run.place < 2 ^ 41)))) }
-    requires judged { Judged table.now glyphs judged.old × Ahead table.now glyphs kind base ahead.old }
+    requires true_notes { Judged table.now glyphs judged.old × Ahead table.now glyphs kind base ahead.old }
     ensures { (result ≡ each (place_fault table.now glyphs kind base) (λ p. p + 2) (cond run.array (min run.until glyphs - run.from) 1) run.place) × (Judged table.now glyphs judged.new × Ahead table.now glyphs kind base ahead.new) }
 {
     if !run.array {
@@ -380,7 +368,7 @@ fn pass_told(
     judged: &[u8],
 ) -> PassPlace
     requires at_bound { (at < 2 ^ 32) × ((base < 2 ^ 16) × ((glyphs < 2 ^ 16) × (format ≡ u16_at table.now at))) }
-    requires judged { Judged table.now glyphs judged.now × Serves table.now at run.until run.cursor }
+    requires true_notes { Judged table.now glyphs judged.now × Serves table.now at run.until run.cursor }
     ensures { (run.until ≤ result.glyph) × (Serves table.now at result.glyph result.cursor × (from_glyph table.now glyphs kind at base run.until ≡ from_glyph table.now glyphs kind at base result.glyph)) }
 {
     let mut cursor = run.cursor;
@@ -388,6 +376,7 @@ fn pass_told(
     if format != 2 {
         return PassPlace { cursor, glyph };
     }
+    // No count: each turn passes the glyphs of a run.
     while glyph < glyphs {
         let next = lookup_runs::next_run(table, 2, at, cursor, glyph);
         if glyphs <= next.from {
@@ -414,53 +403,43 @@ fn targets_fault(
     base: usize,
     judged: &mut [u8],
     ahead: &mut [u8],
-) -> Fault
+) -> Result<(), Fault>
     requires at_bound { (at < 2 ^ 32) × ((base < 2 ^ 16) × ((glyphs < 2 ^ 16) × (lookup_fault table.now glyphs at ≡ Clear))) }
-    requires judged { Judged table.now glyphs judged.old × Ahead table.now glyphs kind base ahead.old }
+    requires true_notes { Judged table.now glyphs judged.old × Ahead table.now glyphs kind base ahead.old }
     ensures { (result ≡ each (target_fault table.now glyphs kind at base) (λ g. g + 1) glyphs 0) × Judged table.now glyphs judged.new }
 {
     let format = fields::u16_at(table, at);
     let mut cursor = lookup::begin(table, at);
     let mut glyph: usize = 0;
+    // No count: each turn passes the glyphs of a run and of those that follow it and are told.
     while glyph < glyphs {
         let run = lookup_runs::next_run(table, format, at, cursor, glyph);
         if glyphs <= run.from {
-            return Fault::Clear;
+            return Ok(());
         }
-        let fault = run_fault(table, glyphs, kind, base, format, run, judged, ahead);
-        if let Fault::Bad { refusal, at } = fault {
-            return Fault::Bad { refusal, at };
-        }
+        run_fault(table, glyphs, kind, base, format, run, judged, ahead)?;
         let passed = pass_told(table, format, glyphs, kind, at, base, run, judged);
         cursor = passed.cursor;
         glyph = passed.glyph;
     }
-    Fault::Clear
+    Ok(())
 }
 
-// The same where units can share values: what is known of them is noted for each position of the table, which has at most
-// 32,768 bytes.
-fn shared_fault(
+// The same with room to note what is known of values that units share.
+fn shared_fault<const NOTES: usize>(
     table: &[u8],
     glyphs: usize,
     kind: Kind,
     at: usize,
     base: usize,
     judged: &mut [u8],
-) -> Fault
+) -> Result<(), Fault>
+    requires notes_fit { NOTES < 2 ^ 63 }
     requires at_bound { (at < 2 ^ 32) × ((base < 2 ^ 16) × ((glyphs < 2 ^ 16) × (lookup_fault table.now glyphs at ≡ Clear))) }
-    requires judged { Judged table.now glyphs judged.old }
+    requires true_notes { Judged table.now glyphs judged.old }
     ensures { (result ≡ each (target_fault table.now glyphs kind at base) (λ g. g + 1) glyphs 0) × Judged table.now glyphs judged.new }
 {
-    if table.len() <= 512 {
-        let mut ahead = [0u8; 512];
-        return targets_fault(table, glyphs, kind, at, base, judged, &mut ahead);
-    }
-    if table.len() <= 4096 {
-        let mut ahead = [0u8; 4096];
-        return targets_fault(table, glyphs, kind, at, base, judged, &mut ahead);
-    }
-    let mut ahead = [0u8; 32768];
+    let mut ahead = [0u8; NOTES];
     targets_fault(table, glyphs, kind, at, base, judged, &mut ahead)
 }
 
@@ -474,19 +453,19 @@ pub fn values_fault(
     at: usize,
     base: usize,
     judged: &mut [u8],
-) -> Fault
+) -> Result<(), Fault>
     requires at_bound { (at < 2 ^ 32) × ((base < 2 ^ 16) × (glyphs < 2 ^ 16)) }
-    requires judged { Judged table.now glyphs judged.old }
+    requires true_notes { Judged table.now glyphs judged.old }
     ensures { (result ≡ values_fault table.now glyphs kind at base) × Judged table.now glyphs judged.new }
 {
-    let fault = lookup::lookup_fault(table, glyphs, at);
-    if let Fault::Bad { refusal, at } = fault {
-        return Fault::Bad { refusal, at };
-    }
-    // Only units of format 4 can share values.
+    lookup::lookup_fault(table, glyphs, at)?;
+    // Only units of format 4 can share values; then there is a note for each position of the table, which has at most 32,768 bytes.
     if fields::u16_at(table, at) != 4 {
-        let mut none = [0u8; 0];
-        return targets_fault(table, glyphs, kind, at, base, judged, &mut none);
+        return shared_fault::<0>(table, glyphs, kind, at, base, judged);
     }
-    shared_fault(table, glyphs, kind, at, base, judged)
+    match table.len() {
+        0..=512 => shared_fault::<512>(table, glyphs, kind, at, base, judged),
+        513..=4096 => shared_fault::<4096>(table, glyphs, kind, at, base, judged),
+        _ => shared_fault::<32768>(table, glyphs, kind, at, base, judged),
+    }
 }

@@ -10,8 +10,8 @@ use lib.ListN.{get_or}
 use lib.Dec.{ltb}
 use borrow.Author.Tests.{leb-true, ltb-true, ltb-false, eqb-true}
 use Rattle.fields.specs.declared.Refusal.TheVariants.{BadMachine}
-use Rattle.fields.specs.declared.Fault.{Fault}
-use Rattle.fields.specs.declared.Fault.TheVariants.{Clear}
+use Rattle.fields.specs.Faults.{FirstFault}
+use Rattle.fields.specs.Faults.{Clear}
 use Rattle.fields.specs.Field.{u16_at, Bytes}
 use Rattle.fields.specs.Faults.{◌then◌}
 use Rattle.fields.specs.Walk.{each}
@@ -23,7 +23,7 @@ use Rattle.machine.specs.Machine.{head_fault, class_fault, covered, class_table_
 use Rattle.machine.proofs.Steps.{raised-within, unless-clear, class-before, class-after, class-among}
 
 -- each of things one after the other, none at fault, is without fault
-each-clear : (one : ℕ → Fault) (n at : ℕ) → each one (λ p. p + 1) n at ≡ Clear → (p : ℕ) → at ≤ p → p < at + n → one p ≡ Clear
+each-clear : (one : ℕ → FirstFault) (n at : ℕ) → each one (λ p. p + 1) n at ≡ Clear → (p : ℕ) → at ≤ p → p < at + n → one p ≡ Clear
 each-clear one n at e p l h =
     let q : at + 1 * (p - at) ≡ p = omega arith in
     rw q at (walk-each (λ p _. one p) 1 (λ p. 0) n at 0 e (p - at) (omega arith)).1

@@ -1,88 +1,93 @@
 -- One step of the loops over a row's cells and over the rows, and what is known of what is clear.
-use Prim.Native.Nat.{ℕ, zero, suc, ◌+◌, ◌-◌, ◌*◌, ◌/◌, ◌%◌, ◌≤◌, ◌<◌, ◌^◌, max}
+use Rattle.fields.specs.Faults.{earlier}
+use Rattle.std.specs.Prelude.{Ok, Err}
+use Prim.Native.Nat.{ℕ, zero, suc, ◌+◌, ◌-◌, ◌*◌, ◌/◌, ◌%◌, ◌≤◌, ◌<◌, max}
 use mathlib.Core.Path.{◌≡◌, refl, sym, ◌∙◌, ap, ap₂}
 use mathlib.Core.List.{List}
 use native.Mathlib.Omega.{arith}
-use native.Mathlib.Nat.{mul-le-mul}
 use native.Mathlib.Decide.{ℕ_discrete}
 use lib.ListN.{length, get_or, set, replicate, get_or-replicate}
 use lib.Seq.{get_or-set_other}
 use borrow.Author.Tests.{leb-true, le-leb, lt-leb, lt-ltb, le-ltb, eq-eqb}
-use Rattle.fields.specs.declared.Refusal.{Refusal}
-use Rattle.fields.specs.declared.Refusal.TheVariants.{BadMachine}
 use Rattle.fields.specs.declared.Fault.{Fault}
-use Rattle.fields.specs.declared.Fault.TheVariants.{Clear, Bad}
+use Rattle.machine.specs.declared.Grid.{Grid}
+use Rattle.fields.specs.declared.Refusal.TheVariants.{BadMachine}
+use Rattle.fields.specs.Faults.{FirstFault}
+use Rattle.fields.specs.Faults.{Clear}
 use Rattle.fields.specs.Field.{u16_at}
 use Rattle.fields.specs.Faults.{◌then◌}
-use Rattle.fields.proofs.Laws.{then-first, then-second, then-go, clear-inside, inside-holds, rule-clear, rule-holds}
+use Rattle.fields.proofs.Laws.{then-first, then-second, then-go, clear-inside, rule-clear, rule-holds}
 use Rattle.fields.specs.Walk.{walk}
-use Rattle.fields.proofs.Walk.{walk-stop, walk-next, walk_none}
-use Rattle.machine.specs.declared.Scan.TheVariants.{Broken, Count}
+use Rattle.fields.proofs.Walk.{walk-fails, walk-goes, walk-ends}
+use Rattle.std.specs.Prelude.{Bool, true, false, ◌&&◌, take, drop}
+use Rattle.std.specs.List.{list_all}
+use lib.Dec.{ltb}
+use borrow.Author.Tests.{ltb-true}
+use lib.Seq.{drop-cons}
+use native.Mathlib.Numerals.{add-one}
 use Rattle.machine.specs.Cells.{class_count, class_table, class_at, entry_at, number_at, cell_at}
-use Rattle.machine.specs.Rows.{cell_place, entry_place, entry_fault, cell_fault, cells_fault, row_fault, raised, raised_by, fault_from, count_from, unless, fault_of, count_of, Met}
+use Rattle.machine.specs.Rows.{cell_place, entry_place, entry_fault, cell_fault, cells_fault, row_fault, raised, raised_by, fault_from, count_from, unless, GridAt, Met}
 use Rattle.machine.specs.Machine.{class_fault, classes_fault}
 
 -- ---- a fault, or else a number
 
-pub unless-bad : {f : Fault} (k : ℕ) {r : Refusal} {p : ℕ} → f ≡ Bad r p → unless f k ≡ Broken f
-unfolding unless
-unless-bad {f} k e = cc
-
-pub unless-clear : {f : Fault} (k : ℕ) → f ≡ Clear → unless f k ≡ Count k
+pub unless-clear : {f : FirstFault} (k : ℕ) → f ≡ Clear → unless f k ≡ Ok k
 unfolding unless
 unless-clear {f} k e = cc
 
-pub unless-fault : (f : Fault) (k : ℕ) → fault_of (unless f k) ≡ f
+-- what a number says of the fault before it
+pub unless-count : (f : FirstFault) (k : ℕ) {j : ℕ} → unless f k ≡ Ok j → (f ≡ Clear) × (k ≡ j)
 unfolding unless
-unless-fault Clear k = refl
-unless-fault (Bad r p) k = refl
+unless-count (Ok u) k e = (refl, cc)
+unless-count (Err f) k e = cc
 
--- what a number, or a fault, says of the fault before it
-pub unless-count : (f : Fault) (k : ℕ) {j : ℕ} → unless f k ≡ Count j → (f ≡ Clear) × (k ≡ j)
-unfolding unless
-unless-count Clear k e = (refl, cc)
-unless-count (Bad r p) k e = let z : ◌≡◌ {A = ℕ} 0 1 = cc in absurd (omega arith)
-
-unless-broken : (f g : Fault) (k j : ℕ) {h : Fault} → unless f k ≡ Broken h → unless (f then g) j ≡ unless f k
-unfolding ◌then◌ unless
-unless-broken Clear g k j e = let z : ◌≡◌ {A = ℕ} 0 1 = cc in absurd (omega arith)
-unless-broken (Bad r p) g k j e = refl
+-- a fault before another one
+unless-stops : (f g : FirstFault) (k j : ℕ) {h : Fault} → unless f k ≡ Err h → unless (f then g) j ≡ Err h
+unfolding earlier unless
+unless-stops (Ok u) g k j e = cc
+unless-stops (Err f) g k j e = e
 
 -- ---- the cells of a row
-
-down : (n : ℕ) → suc n - 1 ≡ n
-down n = omega arith
 
 pub cell-few : (t : List ℕ) (here row class : ℕ) → cell_fault t here row class ≡ Clear → (cell_at t here row class).row ≤ 255
 unfolding cell_fault entry_fault cell_at
 cell-few t here row class e = leb-true _ _ (rule-holds _ BadMachine _ (then-first _ _ (then-second _ _ (then-second _ _ (then-second _ _ (then-second _ _ e))))))
 
 module _ (t : List ℕ) (here row : ℕ) where
-  -- `k` is the row count as the code has it
-  pub raised-next : (n class s k : ℕ) → 0 < n → k ≡ max s ((cell_at t here row class).row + 1)
-      → raised t here row n class s ≡ raised t here row (n - 1) (class + 1) k
+  -- a loop over a row's cells begins, `n` being the class count as it was read
+  pub raised-starts : (n s : ℕ) → n ≡ class_count t here → raised_by t here row s ≡ raised t here row (n - 0) 0 s
+  unfolding raised_by
+  raised-starts n s e = let z : n - 0 ≡ class_count t here = omega (arith, e) in rw z refl
+
+  pub cells-start : (n s : ℕ) → n ≡ class_count t here
+      → unless (row_fault t here row) (raised_by t here row s) ≡ unless (cells_fault t here row (n - 0) 0) (raised t here row (n - 0) 0 s)
+  unfolding row_fault raised_by
+  cells-start n s e = let z : n - 0 ≡ class_count t here = omega (arith, e) in rw z refl
+
+  -- the cells before `i` of `n` are past; `k` is the row count as the code has it
+  pub raised-goes : (n i s k : ℕ) → i < n → k ≡ max s ((cell_at t here row i).row + 1)
+      → raised t here row (n - i) i s ≡ raised t here row (n - (i + 1)) (i + 1) k
   unfolding raised
-  raised-next zero class s k h q = absurd (omega arith)
-  raised-next (suc n) class s k h q = simp (down n, q)
+  raised-goes n i s k h q = let r : n - i ≡ suc (n - (i + 1)) = omega arith in rw (r, q) refl
 
-  pub raised-none : (n class s : ℕ) → n ≤ 0 → raised t here row n class s ≡ s
+  pub raised-ends : (n i s : ℕ) → n ≤ i → raised t here row (n - i) i s ≡ s
   unfolding raised
-  raised-none zero class s h = refl
-  raised-none (suc n) class s h = absurd (omega arith)
+  raised-ends n i s h = let z : n - i ≡ 0 = omega arith in rw z refl
 
-  pub cells-stop : (n class s : ℕ) {r : Refusal} {p : ℕ} → 0 < n → cell_fault t here row class ≡ Bad r p
-      → unless (cells_fault t here row n class) (raised t here row n class s) ≡ Broken (cell_fault t here row class)
-  cells-stop n class s h e =
-      let q : cells_fault t here row n class ≡ cell_fault t here row class = walk-stop _ _ _ n class 0 h e in
-      unless-bad _ (q ∙ e) ∙ ap Broken q
+  pub cells-fail : (n i s : ℕ) (f : Fault) → i < n → cell_fault t here row i ≡ Err f
+      → unless (cells_fault t here row (n - i) i) (raised t here row (n - i) i s) ≡ Err f
+  unfolding unless
+  cells-fail n i s f h e = simp (walk-fails (λ c _. cell_fault t here row c) (λ c. c + 1) (λ c. 0) n i i 0 f h e)
 
-  pub cells-next : (n class s k : ℕ) → 0 < n → cell_fault t here row class ≡ Clear → k ≡ max s ((cell_at t here row class).row + 1)
-      → unless (cells_fault t here row n class) (raised t here row n class s)
-      ≡ unless (cells_fault t here row (n - 1) (class + 1)) (raised t here row (n - 1) (class + 1) k)
-  cells-next n class s k h e q = ap₂ unless (walk-next _ _ _ n class 0 (class + 1) 0 h e refl refl) (raised-next n class s k h q)
+  pub cells-go : (n i s k : ℕ) (u : Unit) → i < n → cell_fault t here row i ≡ Ok u → k ≡ max s ((cell_at t here row i).row + 1)
+      → unless (cells_fault t here row (n - i) i) (raised t here row (n - i) i s)
+      ≡ unless (cells_fault t here row (n - (i + 1)) (i + 1)) (raised t here row (n - (i + 1)) (i + 1) k)
+  cells-go n i s k u h e q =
+      ap₂ unless (walk-goes (λ c _. cell_fault t here row c) (λ c. c + 1) (λ c. 0) n i i 0 (i + 1) 0 u h e refl refl) (raised-goes n i s k h q)
 
-  pub cells-none : (n class s : ℕ) → n ≤ 0 → unless (cells_fault t here row n class) (raised t here row n class s) ≡ Count s
-  cells-none n class s h = unless-clear _ (walk_none _ _ _ n class 0 h) ∙ ap Count (raised-none n class s h)
+  pub cells-end : (n i s : ℕ) → n ≤ i → unless (cells_fault t here row (n - i) i) (raised t here row (n - i) i s) ≡ Ok s
+  cells-end n i s h =
+      unless-clear _ (walk-ends (λ c _. cell_fault t here row c) (λ c. c + 1) (λ c. 0) n i i 0 h) ∙ ap Ok (raised-ends n i s h)
 
   raised-more : (n class s : ℕ) → s ≤ raised t here row n class s
   unfolding raised
@@ -96,85 +101,76 @@ module _ (t : List ℕ) (here row : ℕ) where
       let few : (cell_at t here row class).row ≤ 255 = cell-few t here row class (then-first _ _ e) in
       raised-within n (class + 1) (max s ((cell_at t here row class).row + 1)) (omega arith) (then-second _ _ e)
 
+-- what a loop over the cells of a row needs
+pub ruleset cell_steps = (cells-start, cells-fail, cells-go, cells-end)
+
 -- ---- the rows
 
 module _ (t : List ℕ) (here : ℕ) where
-  pub rows-stop : (n row s : ℕ) {f : Fault} → 0 < n → row < s → unless (row_fault t here row) (raised_by t here row s) ≡ Broken f
-      → unless (fault_from t here n row s) (count_from t here n row s) ≡ unless (row_fault t here row) (raised_by t here row s)
+  pub rows-stop : (n row s : ℕ) (f : Fault) → 0 < n → row < s → unless (row_fault t here row) (raised_by t here row s) ≡ Err f
+      → unless (fault_from t here n row s) (count_from t here n row s) ≡ Err f
   unfolding fault_from count_from
-  rows-stop zero row s h l e = absurd (omega arith)
-  rows-stop (suc n) row s h l e = rw (lt-ltb row s l) (unless-broken _ _ _ _ e)
+  rows-stop zero row s f h l e = absurd (omega arith)
+  rows-stop (suc n) row s f h l e = rw (lt-ltb row s l) (unless-stops _ _ _ _ e)
 
   -- `k` and `m` are the row count and the rows left as the code has them
-  pub rows_next : (n row s k j m : ℕ) → row < s → unless (row_fault t here row) (raised_by t here row s) ≡ Count j → k ≡ count_of (Count j) → n ≡ suc m
+  pub rows_next : (n row s k m : ℕ) → row < s → unless (row_fault t here row) (raised_by t here row s) ≡ Ok k → n ≡ suc m
       → unless (fault_from t here n row s) (count_from t here n row s) ≡ unless (fault_from t here m (row + 1) k) (count_from t here m (row + 1) k)
   unfolding fault_from count_from
-  rows_next n row s k j m l e q r =
+  rows_next n row s k m l e r =
       let u = unless-count (row_fault t here row) (raised_by t here row s) e in
-      rw (r, lt-ltb row s l, u.1, q) (ap (λ (f : Fault). unless f (count_from t here m (row + 1) j)) (then-go _ u.0))
+      rw (r, lt-ltb row s l, u.1) (ap (λ (f : FirstFault). unless f (count_from t here m (row + 1) k)) (then-go _ u.0))
 
-  pub rows_none : (n row s : ℕ) → s ≤ row → unless (fault_from t here n row s) (count_from t here n row s) ≡ Count s
+  pub rows_none : (n row s : ℕ) → s ≤ row → unless (fault_from t here n row s) (count_from t here n row s) ≡ Ok s
   unfolding fault_from count_from unless
   rows_none zero row s h = refl
   rows_none (suc n) row s h = simp (le-ltb row s h)
 
-  pub rows-within : (row s j : ℕ) → s ≤ 256 → unless (row_fault t here row) (raised_by t here row s) ≡ Count j → j ≤ 256
+  pub rows-within : (row s j : ℕ) → s ≤ 256 → unless (row_fault t here row) (raised_by t here row s) ≡ Ok j → j ≤ 256
   unfolding row_fault raised_by
   rows-within row s j h e =
       let u = unless-count (row_fault t here row) (raised_by t here row s) e in
       omega (arith, u.1, raised-within t here row (class_count t here) 0 s h u.0)
 
+-- what the loop over the rows needs
+pub ruleset row_steps = (rows-stop, rows_next, rows_none, rows-within)
+
 -- ---- entries that were met
 
 -- at first none
-pub met-none : (t : List ℕ) (here s : ℕ) → Met t here s (replicate 256 0)
-met-none t here s =
-    record {
-      clear = λ i h o. absurd (omega (arith, get_or-replicate {A = ℕ} 256 i 0 0 h));
-      below = λ i h o. absurd (omega (arith, get_or-replicate {A = ℕ} 256 i 0 0 h));
-    }
+pub met-none : (t : List ℕ) (here s : ℕ) → Met t here s (replicate 256 false)
+met-none t here s = record { clear = λ i h o. none i h o; below = λ i h o. none i h o }
+  where
+    none : {A : Type 0} (i : ℕ) → i < 256 → get_or (replicate 256 false) i false ≡ true → A
+    none i h o = let z : false ≡ true = sym (get_or-replicate 256 i false false h) ∙ o in cc
 
 -- the row count only grows
-pub met-more : {t : List ℕ} {here s : ℕ} {met : List ℕ} (k : ℕ) → s ≤ k → Met t here s met → Met t here k met
+pub met-more : {t : List ℕ} {here s : ℕ} {met : List Bool} (k : ℕ) → s ≤ k → Met t here s met → Met t here k met
 met-more k l m = record { clear = m.clear; below = λ i h o. omega (arith, m.below i h o) }
 
--- what is met up to a cell leads below what the cells from it on raise the row count to
-pub met_next : (t : List ℕ) (here row n class s : ℕ) {met : List ℕ} → 0 < n → Met t here (max s ((cell_at t here row class).row + 1)) met
-    → Met t here (raised t here row n class s) met
-met_next t here row n class s h =
-    met-more (raised t here row n class s)
-    (omega (arith, raised-next t here row n class s (max s ((cell_at t here row class).row + 1)) h refl, raised-more t here row (n - 1) (class + 1) (max s ((cell_at t here row class).row + 1))))
+-- what is met up to the cell `i` of `n` leads below what the cells from it on raise the row count to
+pub met_next : (t : List ℕ) (here row n i s : ℕ) {met : List Bool} → i < n → Met t here (max s ((cell_at t here row i).row + 1)) met
+    → Met t here (raised t here row (n - i) i s) met
+met_next t here row n i s h =
+    met-more (raised t here row (n - i) i s)
+    (omega (arith, raised-goes t here row n i s (max s ((cell_at t here row i).row + 1)) h refl, raised-more t here row (n - (i + 1)) (i + 1) (max s ((cell_at t here row i).row + 1))))
 
--- the entry of a cell is met, or comes to be
-module _ (t : List ℕ) (here row class number s : ℕ) (met : List ℕ) (q : number ≡ number_at t here row class) (few : number < 256) (m : Met t here s met) where
-  -- a cell whose entry was met has no fault, and leaves the row count as it is
-  pub met-cell : cell_place t here row class < length t → 0 < get_or met number 0
-      → (cell_fault t here row class ≡ Clear) × (s ≡ max s ((cell_at t here row class).row + 1))
-  unfolding cell_fault cell_at
-  met-cell h told = (
-    then-go _ (clear-inside t (cell_place t here row class) 1 (omega arith)) ∙ sym (ap (entry_fault t here) q) ∙ m.clear number few told,
-    rw (sym q) (omega (arith, m.below number few told)),
-  )
-
-  -- that of a cell without fault comes to be
-  pub met-entry : cell_fault t here row class ≡ Clear → Met t here (max s ((cell_at t here row class).row + 1)) (set met number 1)
-  unfolding cell_fault cell_at
+-- the entry of a cell without fault comes to be met
+module _ (t : List ℕ) (here row class number s : ℕ) (met : List Bool) (q : number ≡ number_at t here row class) (m : Met t here s met) where
+  pub met-entry : entry_fault t here number ≡ Clear → Met t here (max s ((cell_at t here row class).row + 1)) (set met number true)
+  unfolding cell_at
   met-entry e = record { clear = λ i l h. clear i l h (ℕ_discrete i number); below = λ i l h. below i l h (ℕ_discrete i number) }
     where
-      clear : (i : ℕ) → i < 256 → 0 < get_or (set met number 1) i 0 → Dec (i ≡ number) → entry_fault t here i ≡ Clear
-      clear i l h (yes o) = ap (entry_fault t here) (o ∙ q) ∙ then-second _ _ e
-      clear i l h (no n) = m.clear i l (rw (get_or-set_other met number i 1 0 n) at h)
+      clear : (i : ℕ) → i < 256 → get_or (set met number true) i false ≡ true → Dec (i ≡ number) → entry_fault t here i ≡ Clear
+      clear i l h (yes o) = ap (entry_fault t here) o ∙ e
+      clear i l h (no n) = m.clear i l (rw (get_or-set_other met number i true false n) at h)
 
-      below : (i : ℕ) → i < 256 → 0 < get_or (set met number 1) i 0 → Dec (i ≡ number)
+      below : (i : ℕ) → i < 256 → get_or (set met number true) i false ≡ true → Dec (i ≡ number)
           → (entry_at t here i).row < max s ((entry_at t here (number_at t here row class)).row + 1)
       below i l h (yes o) = rw (o ∙ q) (omega arith)
-      below i l h (no n) = omega (arith, m.below i l (rw (get_or-set_other met number i 1 0 n) at h))
+      below i l h (no n) = omega (arith, m.below i l (rw (get_or-set_other met number i true false n) at h))
 
--- ---- class bytes, and places
-
-pub class-inside : (t : List ℕ) (here at : ℕ) → class_fault t here at ≡ Clear → at + 1 ≤ length t
-unfolding class_fault
-class-inside t here at e = inside-holds t at 1 (then-first _ _ e)
+-- ---- class bytes, entries and cells as they were read
 
 -- a class byte that lies inside and is below the class count has no fault
 pub class-clear : (t : List ℕ) (here at class classes : ℕ) → at < length t → class ≡ get_or t at 0 → classes ≡ class_count t here → class < classes
@@ -183,43 +179,48 @@ unfolding class_fault
 class-clear t here at class classes h e f l =
     then-go _ (clear-inside t at 1 (omega arith)) ∙ rule-clear BadMachine at (lt-ltb (get_or t at 0) (class_count t here) (omega arith))
 
--- class bytes up to `end`
-module _ (t : List ℕ) (here : ℕ) where
-  pub classes-start : (first count : ℕ) → classes_fault t here count first ≡ classes_fault t here (first + count - first) first
-  classes-start first count =
-      let e : count ≡ first + count - first = omega arith in
-      ap (λ (k : ℕ). classes_fault t here k first) e
+and-parts : (a b : Bool) → (a && b) ≡ true → (a ≡ true) × (b ≡ true)
+and-parts true b e = (refl, e)
+and-parts false b e = cc
 
-  pub classes-next : (at end : ℕ) → at < end → class_fault t here at ≡ Clear
-      → classes_fault t here (end - at) at ≡ classes_fault t here (end - (at + 1)) (at + 1)
-  classes-next at end h e =
-      let down : end - at - 1 ≡ end - (at + 1) = omega arith in
-      walk-next (λ p _. class_fault t here p) (λ p. p + 1) (λ p. 0) (end - at) at 0 (at + 1) 0 (omega arith) e refl refl
-      ∙ ap (λ (k : ℕ). classes_fault t here k (at + 1)) down
+-- class bytes that stand in the table, each below the class count
+module _ (t : List ℕ) (here classes : ℕ) (e : classes ≡ class_count t here) where
+  pub classes-clear : (n at : ℕ) → at + n ≤ length t → list_all (λ class. ltb class classes) (take n (drop at t)) ≡ true → classes_fault t here n at ≡ Clear
+  unfolding walk
+  classes-clear zero at h o = refl
+  classes-clear (suc n) at h o =
+      let b = and-parts _ _ (rw (drop-cons t at 0 (omega arith)) at o) in
+      let next : list_all (λ class. ltb class classes) (take n (drop (at + 1) t)) ≡ true = rw add-one b.1 in
+      then-go _ (class-clear t here at (get_or t at 0) classes (omega arith) refl e (ltb-true _ _ b.0)) ∙ classes-clear n (at + 1) (omega arith) next
 
-  pub classes-none : (at end : ℕ) → end ≤ at → classes_fault t here (end - at) at ≡ Clear
-  classes-none at end h = walk_none (λ p _. class_fault t here p) (λ p. p + 1) (λ p. 0) (end - at) at 0 (omega arith)
+-- an entry that was read by a grid: it leads to a whole row, 255 or less
+module _ (t : List ℕ) (here number at to : ℕ) (g : Grid) (k : GridAt t here g) (q : at ≡ g.entries + 4 * number) (r : to ≡ u16_at t at) where
+  entry_there : at ≡ entry_place t here number
+  entry_there = rw (← k.entries) q
 
-at_most : (n : ℕ) → n < 256 → n ≤ 255
-at_most n h = omega arith
+  pub entry-leads : (to - g.array) / g.classes ≡ (entry_at t here number).row
+  unfolding entry_at
+  entry-leads = rw (r, entry_there, k.array, k.classes) refl
 
--- a cell whose entry, at `p`, was read: it leads to a whole row, 255 or less
-module _ (t : List ℕ) (here row class classes array p to : ℕ) (f : classes ≡ class_count t here) (g : array ≡ u16_at t (here + 4))
-    (q : p ≡ entry_place t here (number_at t here row class)) (r : to ≡ u16_at t p) where
-  pub cell-leads : (to - array) / classes ≡ (cell_at t here row class).row
-  unfolding cell_at entry_at
-  cell-leads = rw (r, q, f, g) refl
+  pub entry-clear : at + 4 ≤ length t → g.array ≤ to → (to - g.array) % g.classes ≡ 0 → (to - g.array) / g.classes ≤ 255 → entry_fault t here number ≡ Clear
+  unfolding entry_fault
+  entry-clear h past whole few =
+      then-go _ (clear-inside t (entry_place t here number) 2 (omega (arith, entry_there)))
+      ∙ then-go _ (rule-clear BadMachine _ (le-leb _ _ (rw (r, entry_there, k.array) at past)))
+      ∙ then-go _ (rule-clear BadMachine _ (eq-eqb _ _ (rw (r, entry_there, k.array, k.classes) at whole)))
+      ∙ then-go _ (rule-clear BadMachine _ (le-leb _ _ (rw entry-leads at few)))
+      ∙ clear-inside t (entry_place t here number + 2) 2 (omega (arith, entry_there))
 
-  pub cell-clear : cell_place t here row class < length t → p + 4 ≤ length t → array ≤ to → (to - array) % classes ≡ 0 → (to - array) / classes < 256
-      → cell_fault t here row class ≡ Clear
-  unfolding cell_fault entry_fault cell_at
-  cell-clear h k past whole few =
-      then-go _ (clear-inside t (cell_place t here row class) 1 (omega arith))
-      ∙ then-go _ (clear-inside t (entry_place t here (number_at t here row class)) 2 (omega arith))
-      ∙ then-go _ (rule-clear BadMachine _ (le-leb _ _ (rw (r, q, g) at past)))
-      ∙ then-go _ (rule-clear BadMachine _ (eq-eqb _ _ (rw (r, q, f, g) at whole)))
-      ∙ then-go _ (rule-clear BadMachine _ (le-leb _ _ (at_most _ (rw cell-leads at few))))
-      ∙ clear-inside t (entry_place t here (number_at t here row class) + 2) 2 (omega arith)
+-- and so is the cell that names it
+pub cell-clear : (t : List ℕ) (here row class at number : ℕ) → at ≡ cell_place t here row class → number ≡ get_or t at 0 → at < length t
+    → entry_fault t here number ≡ Clear → cell_fault t here row class ≡ Clear
+unfolding cell_fault
+cell-clear t here row class at number p q h e =
+    then-go _ (clear-inside t (cell_place t here row class) 1 (omega arith)) ∙ sym (ap (entry_fault t here) (q ∙ ap (λ (i : ℕ). get_or t i 0) p)) ∙ e
+
+pub cell-row : (t : List ℕ) (here row class number : ℕ) → number ≡ number_at t here row class → (entry_at t here number).row ≡ (cell_at t here row class).row
+unfolding cell_at
+cell-row t here row class number q = ap (λ (n : ℕ). (entry_at t here n).row) q
 
 -- a glyph before the class table's first, after its last, and among them
 module _ (t : List ℕ) (here glyph : ℕ) where
@@ -235,7 +236,3 @@ module _ (t : List ℕ) (here glyph : ℕ) where
       → class_at t here glyph ≡ get_or t (class_table t here + 4 + (glyph - u16_at t (class_table t here))) 0
   unfolding class_at
   class-among g h = simp (le-leb _ _ g, lt-ltb _ _ h)
-
--- a row's place fits
-pub place-fits : (row classes : ℕ) → row < 2 ^ 16 → classes < 2 ^ 16 → row * classes ≤ 65535 * 65535
-place-fits row classes h l = mul-le-mul {n₁ = row} {m₁ = classes} {n₂ = 65535} {m₂ = 65535} (omega arith) (omega arith)

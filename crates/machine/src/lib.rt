@@ -1,25 +1,17 @@
 // The class machine of a table (document 01, "The table", Machine): its first fault (refusals 4 and 7), its row
 // count S, a glyph's class, and what a cell holds. `here` is the place after the machine's 8-byte header, from
 // which the machine's offsets count.
-#![tactic(auto)]
+#![tactic(auto, using(fields::proofs::Walk::walk_steps), unfolding(fields::specs::Faults::earlier, fields::specs::Faults::rule, crate::specs::Cells::entry_at, crate::specs::Cells::cell_at, crate::specs::Rows::entry_fault, crate::specs::Rows::cell_fault, crate::specs::Rows::unless, crate::specs::Rows::row_count, crate::specs::Machine::head_fault, crate::specs::Machine::class_fault, crate::specs::Machine::class_table_fault, crate::specs::Machine::machine_fault))]
 
-ghost use Rattle.std.specs.Prelude.{◌≡◌, true, ℕ, ◌+◌, ◌<◌, ◌^◌, max};
-ghost use Rattle.fields.specs.declared.Fault.TheVariants.{Clear};
-ghost use Rattle.machine.specs.declared.Scan.TheVariants.{Count};
+ghost use Rattle.std.specs.Prelude.{◌≡◌, true, ℕ, ◌+◌, ◌<◌, ◌^◌, max, IfSome};
+ghost use Rattle.fields.specs.Faults.{Clear};
 ghost use Rattle.machine.specs.Cells.{class_count, class_table, array_offset, state_array, entry_table, class_at, entry_at, cell_at};
 ghost use Rattle.machine.specs.Classes.{Near, ClassesAt};
-ghost use Rattle.machine.specs.Rows.{cell_place, entry_place, entry_fault, cell_fault, row_fault, raised_by, unless, fault_of, count_of, rows_of, row_count, Met};
+ghost use Rattle.machine.specs.Rows.{cell_place, entry_place, entry_fault, cell_fault, row_fault, raised_by, unless, rows_of, row_count, Small, GridAt, Met};
 ghost use Rattle.machine.specs.Machine.{head_fault, class_fault, classes_fault, covered, class_table_fault, machine_fault};
 
 use fields::{Fault, Refusal};
 use types::Entry;
-
-// The first fault of a machine's rows, or their count.
-#[derive(Clone, Copy)]
-pub enum Scan {
-    Broken(Fault),
-    Count(usize),
-}
 
 // A class table: where it stands, its first glyph and its count of glyphs.
 #[derive(Clone, Copy)]
@@ -27,6 +19,14 @@ pub struct ClassTable {
     pub at: usize,
     pub first: usize,
     pub count: usize,
+}
+
+// What the cells of every row are read by: the class count, the offset of the state array, and where the entry table stands.
+#[derive(Clone, Copy)]
+struct Grid {
+    classes: usize,
+    array: usize,
+    entries: usize,
 }
 
 // The bytes at a machine's offset that are not read; past them stands `here`, its class count, from which its offsets are.
@@ -101,7 +101,7 @@ pub fn entry_at(table: &[u8], here: usize, number: usize) -> Entry
     ensures { result ≡ entry_at table.now here number }
 {
     let at = entry_place(table, here, number);
-    let past = fields::less(fields::u16_at(table, at), array_offset(table, here));
+    let past = fields::u16_at(table, at).saturating_sub(array_offset(table, here));
     let row = past / class_count(table, here);
     Entry {
         row: row as u16,
@@ -137,11 +137,8 @@ pub fn class_by(table: &[u8], classes: ClassTable, glyph: u16) -> u8
     ensures { (here : ℕ) → ClassesAt table.now here classes → result ≡ class_at table.now here glyph }
 {
     let first = classes.first;
-    let asked = glyph as usize;
-    if asked < first {
-        return 1;
-    }
-    if first + classes.count <= asked {
+    let asked = usize::from(glyph);
+    if asked < first || first + classes.count <= asked {
         return 1;
     }
     fields::u8_at(table, classes.at + 4 + (asked - first)) as u8
@@ -156,28 +153,26 @@ pub fn class_of(table: &[u8], here: usize, glyph: u16) -> u8
 }
 
 // The class count and the three offsets.
-fn head_fault(table: &[u8], here: usize) -> Fault
+fn head_fault(table: &[u8], here: usize) -> Result<(), Fault>
     requires { here < 2 ^ 32 }
     ensures { result ≡ head_fault table.now here }
 {
-    let count_in = fields::in_table(table, here, 2);
+    fields::in_table(table, here, 2)?;
     let count = class_count(table, here);
-    let enough = fields::ruled(4 <= count, Refusal::BadMachine, here);
-    let few = fields::ruled(count <= 255, Refusal::BadMachine, here);
-    let classes_in = fields::in_table(table, here + CLASS_TABLE, 2);
-    let states_in = fields::in_table(table, here + STATE_ARRAY, 2);
-    let entries_in = fields::in_table(table, here + ENTRY_TABLE, 2);
-    let offsets = fields::then(classes_in, fields::then(states_in, entries_in));
-    fields::then(count_in, fields::then(enough, fields::then(few, offsets)))
+    fields::ruled(4 <= count, Refusal::BadMachine, here)?;
+    fields::ruled(count <= 255, Refusal::BadMachine, here)?;
+    fields::in_table(table, here + CLASS_TABLE, 2)?;
+    fields::in_table(table, here + STATE_ARRAY, 2)?;
+    fields::in_table(table, here + ENTRY_TABLE, 2)
 }
 
 // The class byte at a position.
-fn class_fault(table: &[u8], here: usize, at: usize) -> Fault
+fn class_fault(table: &[u8], here: usize, at: usize) -> Result<(), Fault>
     ensures { result ≡ class_fault table.now here at }
 {
-    let inside = fields::in_table(table, at, 1);
+    fields::in_table(table, at, 1)?;
     let low = fields::u8_at(table, at) < class_count(table, here);
-    fields::then(inside, fields::ruled(low, Refusal::BadMachine, at))
+    fields::ruled(low, Refusal::BadMachine, at)
 }
 
 // Whether `count` class bytes are seen to be without fault: most are, and a chain of fields is slower.
@@ -190,255 +185,205 @@ fn classes_are_clear(table: &[u8], here: usize, first: usize, count: usize) -> b
     if table.len() < end {
         return false;
     }
-    let mut at = first;
-    while at < end {
-        if classes <= fields::u8_at(table, at) {
-            return false;
-        }
-        at += 1;
-    }
-    true
+    table[first..end]
+        .iter()
+        .all(|class| usize::from(*class) < classes)
 }
 
 // `count` class bytes.
-fn classes_fault(table: &[u8], here: usize, first: usize, count: usize) -> Fault
+fn classes_fault(table: &[u8], here: usize, first: usize, count: usize) -> Result<(), Fault>
     requires { (first < 2 ^ 34) × (count < 2 ^ 16) }
     ensures { result ≡ classes_fault table.now here count first }
 {
     if classes_are_clear(table, here, first, count) {
-        return Fault::Clear;
+        return Ok(());
     }
-    let mut at = first;
-    let mut left = count;
-    while 0 < left {
-        let fault = class_fault(table, here, at);
-        if let Fault::Bad { refusal: _, at: _ } = fault {
-            return fault;
-        }
-        at += 1;
-        left -= 1;
+    for past in 0..count {
+        class_fault(table, here, first + past)?;
     }
-    Fault::Clear
+    Ok(())
 }
 
 // The class table, for the glyphs below `glyphs`.
-fn class_table_fault(table: &[u8], glyphs: usize, here: usize) -> Fault
+fn class_table_fault(table: &[u8], glyphs: usize, here: usize) -> Result<(), Fault>
     requires { here < 2 ^ 32 }
     ensures { result ≡ class_table_fault table.now glyphs here }
 {
-    let at = class_table_at(table, here);
-    let first_in = fields::in_table(table, at, 2);
-    let count_in = fields::in_table(table, at + 2, 2);
-    let below = fields::less(glyphs, fields::u16_at(table, at));
-    let count = fields::lower(fields::u16_at(table, at + 2), below);
-    let classes = classes_fault(table, here, at + 4, count);
-    fields::then(first_in, fields::then(count_in, classes))
+    let classes = class_table(table, here);
+    fields::in_table(table, classes.at, 2)?;
+    fields::in_table(table, classes.at + 2, 2)?;
+    let count = classes.count.min(glyphs.saturating_sub(classes.first));
+    classes_fault(table, here, classes.at + 4, count)
 }
 
 // An entry: its new row, then its flags.
-fn entry_fault(table: &[u8], here: usize, number: usize) -> Fault
+fn entry_fault(table: &[u8], here: usize, number: usize) -> Result<(), Fault>
     requires { (here < 2 ^ 32) × ((number < 2 ^ 8) × (0 < class_count table.now here)) }
     ensures { result ≡ entry_fault table.now here number }
 {
     let at = entry_place(table, here, number);
+    fields::in_table(table, at, 2)?;
     let to = fields::u16_at(table, at);
     let array = array_offset(table, here);
-    let classes = class_count(table, here);
+    fields::ruled(array <= to, Refusal::BadMachine, at)?;
+    let whole = to.saturating_sub(array) % class_count(table, here) == 0;
+    fields::ruled(whole, Refusal::BadMachine, at)?;
     let next = entry_at(table, here, number);
-    let row_in = fields::in_table(table, at, 2);
-    let past = fields::ruled(array <= to, Refusal::BadMachine, at);
-    let whole = fields::ruled(
-        fields::less(to, array) % classes == 0,
-        Refusal::BadMachine,
-        at,
-    );
-    let few = fields::ruled(next.row <= 255, Refusal::BadMachine, at);
-    let flags_in = fields::in_table(table, at + 2, 2);
-    let tail = fields::then(whole, fields::then(few, flags_in));
-    fields::then(row_in, fields::then(past, tail))
+    fields::ruled(next.row <= 255, Refusal::BadMachine, at)?;
+    fields::in_table(table, at + 2, 2)
 }
 
 // A cell: its byte, then its entry.
-fn cell_fault(table: &[u8], here: usize, row: usize, class: usize) -> Fault
+fn cell_fault(table: &[u8], here: usize, row: usize, class: usize) -> Result<(), Fault>
     requires { (here < 2 ^ 32) × ((row < 2 ^ 16) × ((class < 2 ^ 16) × (0 < class_count table.now here))) }
     ensures { result ≡ cell_fault table.now here row class }
 {
     let at = cell_place(table, here, row, class);
-    let inside = fields::in_table(table, at, 1);
-    fields::then(inside, entry_fault(table, here, fields::u8_at(table, at)))
+    fields::in_table(table, at, 1)?;
+    entry_fault(table, here, fields::u8_at(table, at))
 }
 
 // The first fault of a row, or the row count `s` as far as the row raises it.
-fn row_cells(table: &[u8], here: usize, row: usize, s: usize) -> Scan
+#[tactic(auto, using(crate::proofs::Steps::cell_steps))]
+fn row_cells(table: &[u8], here: usize, row: usize, s: usize) -> Result<usize, Fault>
     requires { (here < 2 ^ 32) × (row < 2 ^ 16) }
     ensures { result ≡ unless (row_fault table.now here row) (raised_by table.now here row s) }
 {
-    let mut class: usize = 0;
-    let mut left = class_count(table, here);
+    let classes = class_count(table, here);
     let mut rows = s;
-    while 0 < left {
-        let fault = cell_fault(table, here, row, class);
-        if let Fault::Bad { refusal: _, at: _ } = fault {
-            return Scan::Broken(fault);
-        }
+    for class in 0..classes {
+        cell_fault(table, here, row, class)?;
         let next = cell(table, here, row, class);
-        rows = fields::larger(rows, next.row as usize + 1);
-        class += 1;
-        left -= 1;
+        rows = rows.max(usize::from(next.row) + 1);
     }
-    Scan::Count(rows)
+    Ok(rows)
 }
 
-// The row that the cell whose byte stands at `at` leads to, where the cell is seen to be without fault; else 256 or more.
-fn clear_row(table: &[u8], classes: usize, array: usize, entries: usize, at: usize) -> usize
-    requires { (0 < classes) × ((array < 2 ^ 16) × (entries < 2 ^ 34)) }
-    ensures { (here row class : ℕ) → classes ≡ class_count table.now here → array ≡ array_offset table.now here → entries ≡ entry_table table.now here → at ≡ cell_place table.now here row class → result < 256 → (cell_fault table.now here row class ≡ Clear) × (result ≡ (cell_at table.now here row class).row) }
+// What the machine's cells are read by.
+fn grid_of(table: &[u8], here: usize) -> Grid
+    requires { here < 2 ^ 32 }
+    ensures { GridAt table.now here result }
 {
-    if table.len() <= at {
-        return 256;
+    Grid {
+        classes: class_count(table, here),
+        array: array_offset(table, here),
+        entries: entry_table(table, here),
     }
-    let p = entries + 4 * fields::u8_at(table, at);
-    if table.len() < p + 4 {
-        return 256;
-    }
-    let to = fields::u16_at(table, p);
-    if to < array {
-        return 256;
-    }
-    let past = to - array;
-    if past % classes != 0 {
-        return 256;
-    }
-    past / classes
 }
 
-// The row count `s` as far as the cell whose byte stands at `at` raises it, where the cell is seen to be without fault; else 0. What
+// The row that the entry with a stored number leads to, where the entry is seen to be without fault.
+fn clear_row(table: &[u8], grid: Grid, number: usize) -> Option<usize>
+    requires { Small grid × (0 < grid.classes) × (number < 2 ^ 8) }
+    ensures { IfSome result (λ next. (next < 2 ^ 8) × ((here : ℕ) → GridAt table.now here grid → (entry_fault table.now here number ≡ Clear) × (next ≡ (entry_at table.now here number).row))) }
+{
+    let at = grid.entries + 4 * number;
+    if table.len() < at + 4 {
+        return None;
+    }
+    let to = fields::u16_at(table, at);
+    if to < grid.array {
+        return None;
+    }
+    let past = to - grid.array;
+    let row = past / grid.classes;
+    if past % grid.classes != 0 || 255 < row {
+        return None;
+    }
+    Some(row)
+}
+
+// The row count `s` as far as the cell whose byte stands at `at` raises it, where the cell is seen to be without fault. What
 // entries were seen to be so is kept in `met`: they are not judged again, and the row count is above the rows that they lead to.
-fn clear_cell(
-    table: &[u8],
-    classes: usize,
-    array: usize,
-    entries: usize,
-    at: usize,
-    s: usize,
-    met: &mut [u8],
-) -> usize
-    requires { (0 < classes) × ((array < 2 ^ 16) × (entries < 2 ^ 34)) }
-    ensures { (here row class : ℕ) → classes ≡ class_count table.now here → array ≡ array_offset table.now here → entries ≡ entry_table table.now here → at ≡ cell_place table.now here row class → Met table.now here s met.old → (0 < result → (cell_fault table.now here row class ≡ Clear) × (result ≡ max s ((cell_at table.now here row class).row + 1))) × Met table.now here (max s ((cell_at table.now here row class).row + 1)) met.new }
+fn clear_cell(table: &[u8], grid: Grid, at: usize, s: usize, met: &mut [bool; 256]) -> Option<usize>
+    requires { Small grid × (0 < grid.classes) }
+    ensures { (here row class : ℕ) → GridAt table.now here grid → at ≡ cell_place table.now here row class → Met table.now here s met.old → IfSome result (λ count. (cell_fault table.now here row class ≡ Clear) × (count ≡ max s ((cell_at table.now here row class).row + 1))) × Met table.now here (max s ((cell_at table.now here row class).row + 1)) met.new }
 {
     if table.len() <= at {
-        return 0;
+        return None;
     }
     let number = fields::u8_at(table, at);
-    if 0 < fields::u8_at(met, number) {
-        return s;
+    if met[number] {
+        return Some(s);
     }
-    let next = clear_row(table, classes, array, entries, at);
-    if 255 < next {
-        return 0;
-    }
-    fields::put_u8(met, number, 1);
-    fields::larger(s, next + 1)
+    let next = clear_row(table, grid, number)?;
+    met[number] = true;
+    Some(s.max(next + 1))
 }
 
-// The row count `s` as far as a row raises it, where the row is seen to be without fault; else 0.
-fn clear_count(table: &[u8], here: usize, row: usize, s: usize, met: &mut [u8]) -> usize
-    requires here_bound { (here < 2 ^ 32) × (row < 2 ^ 16) }
-    requires met { Met table.now here s met.old }
-    ensures { (0 < result → Count result ≡ unless (row_fault table.now here row) (raised_by table.now here row s)) × Met table.now here (raised_by table.now here row s) met.new }
+// The row count `s` as far as a row raises it, where the row is seen to be without fault.
+fn clear_count(
+    table: &[u8],
+    here: usize,
+    row: usize,
+    s: usize,
+    met: &mut [bool; 256],
+) -> Option<usize>
+    requires near { (here < 2 ^ 32) × (row < 2 ^ 16) }
+    requires met_clear { Met table.now here s met.old }
+    ensures { IfSome result (λ count. Ok count ≡ unless (row_fault table.now here row) (raised_by table.now here row s)) × Met table.now here (raised_by table.now here row s) met.new }
 {
-    let classes = class_count(table, here);
-    let array = array_offset(table, here);
-    let entries = entry_table(table, here);
+    let grid = grid_of(table, here);
     let first = cell_place(table, here, row, 0);
-    let mut class: usize = 0;
-    let mut left = classes;
     let mut rows = s;
-    while 0 < left {
-        let count = clear_cell(table, classes, array, entries, first + class, rows, met);
-        if count == 0 {
-            return 0;
-        }
-        rows = count;
-        class += 1;
-        left -= 1;
+    for class in 0..grid.classes {
+        rows = clear_cell(table, grid, first + class, rows, met)?;
     }
-    rows
+    Some(rows)
 }
 
 // The first fault of a row, or the row count: most rows have none, and a chain of fields is slower.
-fn row_scan(table: &[u8], here: usize, row: usize, s: usize, met: &mut [u8]) -> Scan
-    requires here_bound { (here < 2 ^ 32) × (row < 2 ^ 16) }
-    requires met { Met table.now here s met.old }
+fn row_scan(
+    table: &[u8],
+    here: usize,
+    row: usize,
+    s: usize,
+    met: &mut [bool; 256],
+) -> Result<usize, Fault>
+    requires near { (here < 2 ^ 32) × (row < 2 ^ 16) }
+    requires met_clear { Met table.now here s met.old }
     ensures { (result ≡ unless (row_fault table.now here row) (raised_by table.now here row s)) × Met table.now here (raised_by table.now here row s) met.new }
 {
-    let count = clear_count(table, here, row, s, met);
-    if 0 < count {
-        return Scan::Count(count);
+    if let Some(count) = clear_count(table, here, row, s, met) {
+        return Ok(count);
     }
     row_cells(table, here, row, s)
 }
 
-fn fault_of(scan: Scan) -> Fault
-    ensures { result ≡ fault_of scan }
-{
-    match scan {
-        Scan::Broken(fault) => fault,
-        Scan::Count(_) => Fault::Clear,
-    }
-}
-
-fn count_of(scan: Scan) -> usize
-    ensures { result ≡ count_of scan }
-{
-    match scan {
-        Scan::Broken(_) => 0,
-        Scan::Count(s) => s,
-    }
-}
-
 // The first fault of the rows, or the row count, with room for what entries were met.
-fn rows_from(table: &[u8], here: usize, met: &mut [u8]) -> Scan
-    requires here_bound { here < 2 ^ 32 }
-    requires met { Met table.now here 2 met.old }
+#[tactic(auto, using(crate::proofs::Steps::row_steps))]
+fn rows_from(table: &[u8], here: usize, met: &mut [bool; 256]) -> Result<usize, Fault>
+    requires near { here < 2 ^ 32 }
+    requires met_clear { Met table.now here 2 met.old }
     ensures { result ≡ rows_of table.now here }
 {
     let mut row: usize = 0;
     let mut s: usize = 2;
+    // The row count grows on the way, so this is no count up to a number that is known before.
     while row < s {
-        let scan = row_scan(table, here, row, s, met);
-        if let Scan::Broken(_) = scan {
-            return scan;
-        }
-        s = count_of(scan);
+        s = row_scan(table, here, row, s, met)?;
         row += 1;
     }
-    Scan::Count(s)
+    Ok(s)
 }
 
 // The first fault of the rows, or the row count.
-fn rows_of(table: &[u8], here: usize) -> Scan
+fn rows_of(table: &[u8], here: usize) -> Result<usize, Fault>
     requires { here < 2 ^ 32 }
     ensures { result ≡ rows_of table.now here }
 {
-    let mut met = [0u8; 256];
+    let mut met = [false; 256];
     rows_from(table, here, &mut met)
 }
 
 // The first fault of the machine, for a font of `glyphs` glyphs.
-pub fn machine_fault(table: &[u8], glyphs: usize, here: usize) -> Fault
+pub fn machine_fault(table: &[u8], glyphs: usize, here: usize) -> Result<(), Fault>
     requires { here < 2 ^ 32 }
     ensures { result ≡ machine_fault table.now glyphs here }
 {
-    let head = head_fault(table, here);
-    if let Fault::Bad { refusal: _, at: _ } = head {
-        return head;
-    }
-    let classes = class_table_fault(table, glyphs, here);
-    if let Fault::Bad { refusal: _, at: _ } = classes {
-        return classes;
-    }
-    fault_of(rows_of(table, here))
+    head_fault(table, here)?;
+    class_table_fault(table, glyphs, here)?;
+    rows_of(table, here)?;
+    Ok(())
 }
 
 // The row count S; 0 where the rows are at fault.
@@ -446,5 +391,5 @@ pub fn row_count(table: &[u8], here: usize) -> usize
     requires { here < 2 ^ 32 }
     ensures { result ≡ row_count table.now here }
 {
-    count_of(rows_of(table, here))
+    rows_of(table, here).unwrap_or(0)
 }

@@ -5,7 +5,7 @@ use mathlib.Core.Bool.{true, false}
 use mathlib.Core.List.{List, [], ◌∷◌}
 use lib.IntN.{pos}
 use Rattle.fields.specs.Field.{u16_at, u32_at}
-use Rattle.fields.specs.Faults.{◌then◌, rule, inside}
+use Rattle.fields.specs.Faults.{earlier, rule, inside}
 use Rattle.fields.specs.Walk.{walk}
 use Rattle.encoding.specs.Upto.{from}
 use Rattle.types.specs.declared.Direction.TheVariants.{Horizontal, Vertical}
@@ -34,7 +34,7 @@ one_entry =
     ∷ 0 ∷ 1 ∷ 2 ∷ 0 ∷ 0 ∷ 0 ∷ 0 ∷ 0 ∷ 0 ∷ 0 ∷ 0 ∷ 0 ∷ 17 ∷ 0x40 ∷ 0 ∷ []
 
 accepted : Accepted one_entry 1
-unfolding one_entry Accepted table_fault header_fault direction_fault present offsets_fault machine_part action_part u16_at u32_at inside rule ◌then◌ walk values_fault lookup_fault format_fault counted_fault unit_size target_fault value_of value_from unit_count has_units units_value machine_fault head_fault class_table_fault class_fault entry_fault cell_fault row_fault raised raised_by fault_from cell_at entry_at
+unfolding one_entry Accepted table_fault header_fault direction_fault present offsets_fault machine_part action_part u16_at u32_at inside rule earlier walk values_fault lookup_fault format_fault counted_fault unit_size target_fault value_of value_from unit_count has_units units_value machine_fault head_fault class_table_fault class_fault entry_fault cell_fault row_fault raised raised_by fault_from cell_at entry_at
 accepted = refl
 
 -- along the vertical
@@ -51,7 +51,7 @@ empty-line = (
 
 -- along the horizontal
 pub stuck-line : (t : List ℕ) × (n : ℕ) × (l : Line) × (b : Lent) × Proper t n l b × Shaped stuck t n l
-unfolding one_entry u16_at meaning_of direction_of side_at machine_of machine_at inside rule ◌then◌ walk entry_fault cell_fault row_fault raised raised_by fault_from count_from unless row_count cell_at cell_by entry_at class_at from
+unfolding one_entry u16_at meaning_of direction_of side_at machine_of machine_at inside rule earlier walk entry_fault cell_fault row_fault raised raised_by fault_from count_from unless row_count cell_at cell_by entry_at class_at from
 stuck-line = (
   one_entry,
   1,

@@ -10,8 +10,8 @@ use lib.IntN.{ℤ, pos}
 use lib.ListN.{length}
 use borrow.Author.Tests.{le-leb, eq-eqb}
 use Rattle.fields.specs.declared.Refusal.TheVariants.{EndlessWalk, StageTotal, ShortRoom}
-use Rattle.fields.specs.declared.Fault.{Fault}
-use Rattle.fields.specs.declared.Fault.TheVariants.{Clear, Bad}
+use Rattle.fields.specs.Faults.{FirstFault}
+use Rattle.fields.specs.Faults.{Clear, Bad}
 use Rattle.fields.specs.Field.{u16_at, u32_at}
 use Rattle.fields.specs.Faults.{◌then◌, rule}
 use Rattle.fields.proofs.Laws.{then-go, then-stop, rule-clear, rule-fails}
@@ -39,7 +39,7 @@ use Rattle.samples.proofs.Lines.{empty-line, stuck-line}
 -- ---- a line that refusals 1 to 13 do not bar
 
 -- 14 to 16
-abbrev last : Side → Line → Lent → Fault
+abbrev last : Side → Line → Lent → FirstFault
 last s l b =
     (rule (has_stopped (walk_of s.machine l)) EndlessWalk 0 then rule (line_fits (parts_for s l)) StageTotal 0)
     then room_test s l (length b.verdicts)
@@ -48,7 +48,7 @@ module _ (t : List ℕ) (n : ℕ) (l : Line) (b : Lent) (p : Proper t n l b) whe
   left-to-bar : leb (length l.glyphs) 1024 ≡ true → line_fault t n l b ≡ last (side_for t n l) l b
   unfolding line_fault worked_fault Accepted
   left-to-bar short =
-      ap (λ (f : Fault). f then room_test (side_for t n l) l (length b.verdicts))
+      ap (λ (f : FirstFault). f then room_test (side_for t n l) l (length b.verdicts))
       (then-go _ p.accepted
       ∙ then-go _ (rule-clear _ 0 p.lengths)
       ∙ then-go _ (rule-clear _ 0 short)
@@ -127,7 +127,7 @@ module _ (t : List ℕ) (n : ℕ) (l : Line) (b : Lent) (p : Proper t n l b) (e 
   empty_holds : justified t n l b ≡ record { answer = justifies (pos 4) 0 0; lent = b }
   unfolding justified
   empty_holds =
-      ap (λ (f : Fault). settled f (side_for t n l) l b) empty-clear
+      ap (λ (f : FirstFault). settled f (side_for t n l) l b) empty-clear
       ∙ ap₂ (settled Clear (side_for t n l)) line-is lent_is
       ∙ bare-settled l.direction l.starts l.ends (side_for t n l) e.no-machine b.verdicts
       ∙ ap (λ (c : Lent). record { answer = justifies (pos 4) 0 0; lent = c }) (sym lent_is)
@@ -154,7 +154,7 @@ module _ (t : List ℕ) (n : ℕ) (l : Line) (b : Lent) (p : Proper t n l b) (e 
       let short : leb (length l.glyphs) 1024 ≡ true = ap (λ (gs : List ℕ). leb (length gs) 1024) e.one-glyph in
       let barred : rule (has_stopped (walk_of (side_for t n l).machine l)) EndlessWalk 0 ≡ Bad EndlessWalk 0 = rule-fails EndlessWalk 0 not-walked in
       let fault : line_fault t n l b ≡ Bad EndlessWalk 0 = left-to-bar t n l b p short ∙ then-stop _ (then-stop _ barred ∙ barred) ∙ then-stop _ barred ∙ barred in
-      ap (λ (f : Fault). settled f (side_for t n l) l b) fault
+      ap (λ (f : FirstFault). settled f (side_for t n l) l b) fault
 
 -- ---- a ligature
 

@@ -12,9 +12,8 @@ use borrow.Author.Tests.{ne_eqb}
 use Rattle.share.specs.Share.{total, plus, of_stage, shares, most_total}
 use Rattle.share.specs.Carry.{widest}
 use Rattle.share.specs.Inner.{Runs, CanCarry, Stepped}
-use Rattle.share.specs.Sides.{stage_in, extra_in, stages_in, extras_in, factors_at, extras_at, weights_at, Sides}
+use Rattle.share.specs.Sides.{stage_in, extra_in, stages_in, extras_in, factors_at, extras_at, weights_at}
 use Rattle.share.specs.declared.Running.{Running}
-use Rattle.share.specs.declared.ShareStep.{ShareStep}
 use Rattle.share.proofs.Lists.{upto, upto_next, upto_le, plus-nothing, total-plus, get_or-le-total, length-of_stage, of_stage-hit, of_stage-miss, get_or-shares, shares-none, length-shares, total-shares}
 use Rattle.share.proofs.Runs.{ready}
 
@@ -23,12 +22,12 @@ use Rattle.share.proofs.Runs.{ready}
 pub length-extras_at : (s : ℕ) (sides : List ℕ) → length (extras_at s sides) ≡ length sides
 length-extras_at s sides = length-of_stage s (length sides) (stages_in sides) (extras_in sides) (length-map sides stage_in) (length-map sides extra_in)
 
-pub length-factors_at : (s : ℕ) {sides factors : List ℕ} → Sides sides factors → length (factors_at s sides factors) ≡ length sides
-length-factors_at s {sides} {factors} p = length-of_stage s (length sides) (stages_in sides) factors (length-map sides stage_in) p.equal
+pub length-factors_at : (s : ℕ) (sides factors : List ℕ) → length factors ≡ length sides → length (factors_at s sides factors) ≡ length sides
+length-factors_at s sides factors p = length-of_stage s (length sides) (stages_in sides) factors (length-map sides stage_in) p
 
-pub length-weights_at : (extras : Bool) (s : ℕ) {sides factors : List ℕ} → Sides sides factors → length (weights_at extras s sides factors) ≡ length sides
-length-weights_at true s {sides} p = length-extras_at s sides
-length-weights_at false s p = length-factors_at s p
+pub length-weights_at : (extras : Bool) (s : ℕ) (sides factors : List ℕ) → length factors ≡ length sides → length (weights_at extras s sides factors) ≡ length sides
+length-weights_at true s sides factors p = length-extras_at s sides
+length-weights_at false s sides factors p = length-factors_at s sides factors p
 
 -- side i is of the stage, or of another one; `m` is its stage priority as the code has it
 module _ (s : ℕ) (sides : List ℕ) (i : ℕ) {m : ℕ} (e : m ≡ stage_in (get_or sides i 0)) where
@@ -60,11 +59,6 @@ module _ (s : ℕ) (sides : List ℕ) (i : ℕ) {m : ℕ} (e : m ≡ stage_in (g
   pub weight-miss : (extras : Bool) (factors : List ℕ) → (m ≡ s → ⊥) → get_or (weights_at extras s sides factors) i 0 ≡ 0
   weight-miss true factors h = extra-miss h
   weight-miss false factors h = factor-miss factors h
-
--- what the code weighs a side by is no wider than sharing may multiply
-pub weight-low : (extras : Bool) {side factor w : ℕ} → w ≡ cond extras (extra_in side) factor → side < 256 → factor ≤ widest → w ≤ widest
-weight-low true e h k = omega arith
-weight-low false e h k = omega arith
 
 -- ---- a loop that adds to a slice, side by side
 
@@ -123,17 +117,17 @@ module _ {r : ℕ} {ws out₀ : List ℕ} {run : Running} {out : List ℕ} {i : 
     pub giving-ready : r ≤ 1073741823 → total ws ≤ most_total → 0 < total ws → w ≤ widest → CanCarry run w
     giving-ready h k p n = ready w g.runs h k p (omega (arith, upto_le i ws)) n
 
-    module _ {step : ShareStep} (f : Stepped run w step) where
-      share-is : step.share ≡ get_or (shares r ws) i 0
+    module _ {x : ℕ} {next : Running} (f : Stepped run w x next) where
+      share-is : x ≡ get_or (shares r ws) i 0
       share-is = rw (sym e) at (f.share r (total ws) (upto i ws) g.runs) ∙ sym (get_or-shares r i ws)
 
-      pub giving-fits : 0 < total ws → total out₀ + r < 2 ^ 63 → get_or out i 0 + step.share < 2 ^ 63
+      pub giving-fits : 0 < total ws → total out₀ + r < 2 ^ 63 → get_or out i 0 + x < 2 ^ 63
       giving-fits p b = omega (arith, share-is, added-fits g.added (omega (arith, total-shares r ws p)))
 
-      pub giving-on : i < length out₀ → i < length ws → Giving r ws out₀ step.next (set out i (get_or out i 0 + step.share)) (i + 1)
+      pub giving-on : i < length out₀ → i < length ws → Giving r ws out₀ next (set out i (get_or out i 0 + x)) (i + 1)
       giving-on h k = record {
         runs = rw (upto_next i ws, e) (f.next r (total ws) (upto i ws) g.runs);
-        added = added-on g.added step.share h (omega (arith, length-shares r ws)) share-is;
+        added = added-on g.added x h (omega (arith, length-shares r ws)) share-is;
       }
 
   -- a side of another stage

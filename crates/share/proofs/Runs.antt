@@ -1,14 +1,15 @@
 -- Step 1's formula from side to side: what is carried, and the running state.
-use mathlib.Core.Path.{◌≡◌, refl, sym, ap, ◌∙◌}
+use mathlib.Core.Path.{◌≡◌, sym, ap, ◌∙◌}
 use Prim.Native.Nat.{ℕ, ◌+◌, ◌-◌, ◌*◌, ◌/◌, ◌%◌, ◌^◌, ◌≤◌, ◌<◌}
 use native.Mathlib.Omega.{arith}
-use native.Mathlib.Nat.{mul-le-mul, mul-add, add-mul, mul-zero, zero-div, zero-mod, div-add-mod', div-eq_of_lt, mod-eq_of_lt, add-mul-div_right, add-mul-mod_self_right, mod-lt}
+use native.Mathlib.Nat.{mul-le-mul, mul-add, add-mul, div-add-mod', div-eq_of_lt, mod-eq_of_lt, add-mul-div_right, add-mul-mod_self_right, mod-lt}
 use lib.Dec.{lit<}
-use Rattle.share.specs.Share.{share_at, most_total}
+use Rattle.share.specs.Share.{most_total}
 use Rattle.share.specs.Carry.{widest, farthest, Carries, Carriable, CarriedOn}
 use Rattle.share.specs.Inner.{Runs, CanCarry, Stepped}
+use Rattle.share.specs.declared.Carried.{Carried}
 use Rattle.share.specs.declared.Running.{Running}
-use Rattle.share.proofs.Lists.{share-none, part-le}
+use Rattle.share.proofs.Lists.{part-le}
 
 -- ---- one side's step over plain numbers
 
@@ -66,34 +67,15 @@ narrow h k = mul-le-mul h k
 
 -- ---- the running state
 
-pub started : (r t : ℕ) → Runs r t 0 (record { amount = r; over = t; quotient = 0; remainder = 0 })
-started r t = record {
-  amount = refl;
-  over = refl;
-  carries = record {
-    quotient = let z : r * 0 / t ≡ 0 = simp (mul-zero, zero-div) in sym z;
-    remainder = let z : r * 0 % t ≡ 0 = simp (mul-zero, zero-mod) in sym z;
-  };
-}
-
 -- what the loop over the sides knows makes a state ready
 pub ready : {r t c : ℕ} {run : Running} (w : ℕ) → Runs r t c run → r ≤ 1073741823 → t ≤ most_total → 0 < t → c + w ≤ t → w ≤ widest → CanCarry run w
 ready {r} {t} {c} {run} w s h k p l n =
     rw (s.amount, s.over, s.carries.quotient, s.carries.remainder) (carriable c w (omega arith) n p (omega arith) (omega arith))
 
-pub stepped-none : {w : ℕ} (run : Running) → w ≡ 0 → Stepped run w (record { share = 0; next = run })
-stepped-none {w} run z = record {
-  share = λ r t c s. sym (ap (share_at r t c) z ∙ share-none r t c);
-  next = λ r t c s. let e : c ≡ c + w = omega arith in rw e at s;
-}
-
--- `q` and `m` are what is carried past the side
-pub stepped : (run : Running) (w q m : ℕ) → CarriedOn run.amount run.over w run.quotient run.remainder q m
-    → Stepped run w (record { share = q - run.quotient; next = record { amount = run.amount; over = run.over; quotient = q; remainder = m } })
-stepped run w q m h = record {
+-- `next` is what is carried past the side
+pub stepped : (run : Running) (w : ℕ) (next : Carried) → CarriedOn run.amount run.over w run.carried.quotient run.carried.remainder next.quotient next.remainder
+    → Stepped run w (next.quotient - run.carried.quotient) (record { amount = run.amount; over = run.over; carried = next })
+stepped run w next h = record {
   share = λ r t c s. (rw (s.amount, s.over) at (h.share c)) s.carries;
-  next = λ r t c s. record { amount = s.amount; over = s.over; carries = there r t c s };
+  next = λ r t c s. record { amount = s.amount; over = s.over; carries = (rw (s.amount, s.over) at (h.carries c)) s.carries };
 }
-  where
-    there : (r t c : ℕ) → Runs r t c run → Carries r t (c + w) q m
-    there r t c s = (rw (s.amount, s.over) at (h.carries c)) s.carries

@@ -108,9 +108,6 @@ module _ {ks fs us : List ℕ} {gap : ℕ} {out₀ : List ℕ} {s left : ℕ} {o
         sym (g.moves ∙ ap (λ (l : List ℕ). plus out (stages_moves ks fs us l left)) d ∙ plus-still out ks (omega (arith, g.same))),
       )
 
-pub staging-start : (ks fs us : List ℕ) (gap : ℕ) (out : List ℕ) → Staging ks fs us gap out 0 gap out
-staging-start ks fs us gap out = record { same = refl; less = omega arith; room = refl; rest = refl; moves = refl }
-
 -- step 3: the next stage is s; nothing is moved yet
 pub record Backing (ks fs : List ℕ) (left : ℕ) (out₀ : List ℕ) (s : ℕ) (out : List ℕ) : Type 0 where
   pub same : out ≡ out₀
@@ -146,9 +143,6 @@ module _ {ks fs : List ℕ} {left : ℕ} {out₀ : List ℕ} {s : ℕ} {out : Li
         sym (g.rest ∙ ap (λ (l : List ℕ). back_left ks fs l left) d),
         g.same ∙ sym (ap (plus out₀) (g.moves ∙ ap (λ (l : List ℕ). back_moves ks fs l left) d) ∙ plus-still out₀ ks k),
       )
-
-pub backing-start : (ks fs : List ℕ) (left : ℕ) (out : List ℕ) → Backing ks fs left out 0 out
-backing-start ks fs left out = record { same = refl; rest = refl; moves = refl }
 
 -- nothing is left
 pub back_none : {left : ℕ} (ks fs out : List ℕ) → length ks ≡ length out → length fs ≡ length out → left ≡ 0

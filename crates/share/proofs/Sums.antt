@@ -1,32 +1,18 @@
 -- The totals of the stages, and refusal 15's test of them.
 use mathlib.Core.Path.{◌≡◌, sym, ap, ◌∙◌}
 use mathlib.Core.List.{List}
-use mathlib.Core.Bool.{Bool, true, false, ◌&&◌}
+use mathlib.Core.Bool.{true}
 use Prim.Native.Nat.{ℕ, zero, suc, ◌+◌, ◌≤◌, ◌<◌}
 use native.Mathlib.Omega.{arith}
 use native.Mathlib.Numerals.{add-one}
 use lib.Dec.{leb}
 use lib.ListN.{drop}
-use borrow.Author.Tests.{le-leb, lt-leb, leb-true}
+use borrow.Author.Tests.{leb-true}
 use Rattle.share.specs.Share.{total, most_total, stages, of_stage, stages_fit}
-use Rattle.share.specs.Sides.{stages_in, stage_count, total_at, totals_fit, TotalsOf, Fit, fits_in}
+use Rattle.share.specs.Sides.{stages_in, stage_count, totals_fit, TotalsOf, Fit, fits_in}
 use Rattle.share.specs.declared.Totals.{Totals}
 use Rattle.share.proofs.Theory.{both}
-use Rattle.share.proofs.Stages.{at_stage, at-end}
-
-module _ (ts : Totals) (s : ℕ) {b : Bool} (e : b ≡ totals_fit ts (drop s stages)) where
-  -- the test goes on to the next stage, or fails
-  totals-at : s < stage_count → b ≡ (leb (total_at ts s) most_total && totals_fit ts (drop (s + 1) stages))
-  totals-at h = e ∙ ap (totals_fit ts) (at_stage s h)
-
-  pub totals-on : s < stage_count → total_at ts s ≤ most_total → b ≡ totals_fit ts (drop (s + 1) stages)
-  totals-on h l = totals-at h ∙ ap (λ (t : Bool). t && totals_fit ts (drop (s + 1) stages)) (le-leb (total_at ts s) most_total l)
-
-  pub totals-over : s < stage_count → most_total < total_at ts s → false ≡ b
-  totals-over h l = sym (totals-at h ∙ ap (λ (t : Bool). t && totals_fit ts (drop (s + 1) stages)) (lt-leb (total_at ts s) most_total l))
-
-  pub totals-end : s ≡ stage_count → true ≡ b
-  totals-end h = sym (e ∙ ap (totals_fit ts) (at-end s h))
+use Rattle.share.proofs.Stages.{at_stage}
 
 -- THE TEST IS THE LINE'S: of the totals of a line's sides it is refusal 15's
 pub totals-fit : (ts : Totals) (sides factors : List ℕ) → TotalsOf ts sides factors → totals_fit ts stages ≡ fits_in sides factors

@@ -1,6 +1,6 @@
 -- An action's fields and data stand in a sheet as they would in a table: what is read there as in a table is the action.
 use Prim.Native.Nat.{ℕ, zero, suc, ◌+◌, ◌-◌, ◌*◌, ◌≤◌, ◌<◌}
-use mathlib.Core.Path.{◌≡◌, refl, sym, ap, ap₂, ◌∙◌, subst}
+use mathlib.Core.Path.{◌≡◌, refl, sym, ap, ap₂, ◌∙◌}
 use mathlib.Core.List.{List, [], ◌∷◌, ◌++◌, append_assoc}
 use native.Mathlib.Omega.{arith}
 use lib.ListN.{length, get_or, get_elem?, take, drop, length-append, length-drop, get_or-append}
@@ -20,9 +20,8 @@ use Rattle.meaning.specs.Wide.{WideAction}
 use Rattle.meaning.proofs.SheetLaws.{few-actions}
 use Rattle.actions.specs.Actions.{bytes_at, content_at, action_at, clipped}
 use Rattle.answers.proofs.Laws.{held-is}
-use Rattle.answers.specs.declared.ActionAnswer.{ActionAnswer}
-use Rattle.answers.specs.declared.ActionSought.TheVariants.{Nothing}
-use Rattle.answers.specs.Says.{given, action_held, says_action, no_action, room_after}
+use Rattle.std.specs.Prelude.{Option, None}
+use Rattle.answers.specs.Says.{given, action_held}
 use Rattle.sheet_list.specs.Action.{list_code}
 use Rattle.sheet_seek.specs.Passes.{Reaches}
 use Rattle.sheet_seek.proofs.PassLaws.{opened}
@@ -144,17 +143,10 @@ module _ (s : List ℕ) (bytes : Bytes s) (at k : ℕ) where
         ∙ action-is n a (drop q s) (part_bytes s q bytes) (many action_code (drop (suc k) l) ++ rest) oa (action-first n l rest o e)) ∙ clip a oa.2 in
         ap (λ (x : Action). given (act x)) (held-is _ eh ∙ c) ∙ ap given (sym (ap (maybe act) (at_some l k zero-action b)))
 
--- ---- no action: zeros stand in the room
+-- ---- no action
 
-abbrev nothing-answer : ActionAnswer
-nothing-answer = record { sought = Nothing; action = no_action }
-
-pub nothing-room : (r : ActionAnswer) → r ≡ record { sought = Nothing; action = no_action } → r.action ≡ room_after (says_action r)
-nothing-room r e =
-    let whole : nothing-answer.action ≡ room_after (says_action nothing-answer) = refl in
-    subst (λ (x : ActionAnswer). x.action ≡ room_after (says_action x)) (sym e) whole
-
-pub nothing-in : (s : List ℕ) (bytes : Bytes s) (at k : ℕ) (r : ActionAnswer) → r ≡ record { sought = Nothing; action = no_action }
+pub nothing-in : (s : List ℕ) (at k : ℕ) (r : Option HeldAction) → r ≡ None
     → ((n : ℕ) (l : List Action) (rest : List ℕ) → OkActions n l → drop at s ≡ list_code l ++ rest → given nothing ≡ given (maybe act (get_elem? l k)))
     → ActionIn s at k r
-nothing-in s bytes at k r e h = record { answer = λ n l rest o f. ap says_action e ∙ h n l rest o f; room = nothing-room r e }
+nothing-in s at k r e h =
+    rw e (record { answer = h; room = refl })

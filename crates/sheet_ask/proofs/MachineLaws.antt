@@ -3,6 +3,8 @@ use Prim.Native.Nat.{ℕ, zero, suc, ◌+◌, ◌*◌, ◌%◌, ◌≤◌, ◌<�
 use mathlib.Core.Path.{◌≡◌, refl, sym, ap, ap₂, ◌∙◌, subst}
 use mathlib.Core.Bool.{Bool, true, false, cond, ◌&&◌}
 use mathlib.Core.Option.{Option, none, some}
+use Rattle.std.specs.declared.option.Option as sought
+use Rattle.std.specs.Option.{unwrap_or}
 use mathlib.Core.List.{List, [], ◌∷◌, ◌++◌, append_assoc}
 use native.Mathlib.Decide.{ℕ_discrete}
 use native.Mathlib.Omega.{arith}
@@ -10,8 +12,8 @@ use native.Mathlib.Nat.{mul-le-mul_right, suc-mul}
 use lib.Dec.{ltb}
 use lib.ListN.{length, get_or, get_elem?, drop, length-append, length-drop}
 use borrow.Author.Tests.{lt-ltb, le-ltb}
-use Rattle.fields.specs.Field.{be16, be32, u16_at, u32_at, Bytes}
-use Rattle.fields.proofs.Laws.{u16_at-fits, u32_at-fits}
+use Rattle.fields.specs.Field.{be32, u32_at, Bytes}
+use Rattle.fields.proofs.Laws.{u32_at-fits}
 use Rattle.encoding.specs.Codes.{All, counted}
 use Rattle.encoding.specs.Runs.{Run, runs}
 use Rattle.encoding.specs.Sections.{run_code, numbered}
@@ -20,7 +22,8 @@ use Rattle.encoding.proofs.ListLaws.{all-at, all_map, elem-none}
 use Rattle.encoding.proofs.RunsLaws.{runs-ok, all_runs, ok-few}
 use Rattle.encoding.proofs.SectionLaws.{WideRun, run-free, ok-wide}
 use Rattle.sheet_sections.specs.Section.{HasItems}
-use Rattle.sheet_sections.proofs.SectionLaws.{field16}
+use Rattle.sheet_sections.specs.RunSection.{run_at}
+use Rattle.sheet_sections.proofs.RunLaws.{run-wide, run-at}
 use Rattle.types.specs.declared.Direction.{Direction}
 use Rattle.types.specs.declared.Entry.{Entry}
 use Rattle.meaning.specs.Meaning.{Machine, Meaning}
@@ -29,18 +32,22 @@ use Rattle.meaning.specs.Limits.{OkMachine, OkMaybe, Valid}
 use Rattle.meaning.specs.Sheet.{sizes_code, entry_code, write, machine_bytes}
 use Rattle.meaning.specs.Ask.{glyph_count, along, sizes, class, cell, nothing, number, both, entry, maybe, cell_of, side_of, ask_side, ask}
 use Rattle.meaning.specs.Wide.{WideSizes}
-use Rattle.answers.specs.declared.CellAnswer.{CellAnswer}
+use Rattle.std.specs.Prelude.{Ok}
 use Rattle.answers.specs.Says.{given, says_cell}
 use Rattle.sheet_machine.specs.Machine.{Sizes, ReadableCells}
 use Rattle.sheet_machine.proofs.StandLaws.{cells-readable, cell_at}
 use Rattle.sheet_cells.specs.Cells.{entry_at, OkCells}
 use Rattle.sheet_check.proofs.WholeLaws.{opened-sheet}
 use Rattle.sheet_seek.specs.Passes.{Passes, ByGlyphs, after_sizes, after_classes, side_on, clusters_on}
-use Rattle.sheet_seek.specs.LookUp.{run_more, look_up, ValueIn}
+use Rattle.sheet_seek.specs.LookUp.{value_at, ValueIn}
 use Rattle.sheet_seek.proofs.PassLaws.{opened, items-there}
 use Rattle.sheet_seek.proofs.SideLaws.{valid-side, machine-at}
 use Rattle.sheet_seek.proofs.LookUpLaws.{element, items-are}
 use Rattle.sheet_ask.specs.Places.{HasMachine, CellIn}
+
+-- a value that was looked up
+abbrev pub MaybeValue : Type 0
+MaybeValue = sought.Option ℕ
 
 -- what stands below the end
 pub at_some : {A : Type 0} (xs : List A) (g : ℕ) (z : A) → g < length xs → get_elem? xs g ≡ some (get_or xs g z)
@@ -62,18 +69,6 @@ past-class s bytes m v w d g h = ap given (go (side_of d m).machine (valid-side 
     go : (y : Option Machine) → OkMaybe m.glyphs y → nothing ≡ maybe (λ (x : Machine). maybe number (get_elem? x.columns g)) y
     go none o = refl
     go (some x) o = sym (ap (maybe number) (elem-none x.columns g (omega (arith, h, o.column-count, (opened-sheet s bytes m v w).count))))
-
--- a run as it is read with nothing added
-module _ (s : List ℕ) (bytes : Bytes s) where
-  more-wide : (p : ℕ) → WideRun (run_more 0 s p)
-  more-wide p = (u16_at-fits s p bytes, u16_at-fits s (p + 2) bytes, omega (arith, u16_at-fits s (p + 4) bytes))
-
-  more-at : (p : ℕ) → p + 6 ≤ length s → drop p s ≡ run_code (run_more 0 s p) ++ drop (p + 6) s
-  more-at p h =
-      let e : u16_at s (p + 4) ≡ u16_at s (p + 4) + 0 = omega arith in
-      field16 s bytes p (p + 2) refl (omega arith) ∙ ap (λ (l : List ℕ). be16 (u16_at s p) ++ l)
-      (field16 s bytes (p + 2) (p + 4) (omega arith) (omega arith) ∙ ap (λ (l : List ℕ). be16 (u16_at s (p + 2)) ++ l)
-      (field16 s bytes (p + 4) (p + 6) (omega arith) (omega arith) ∙ ap (λ (x : ℕ). be16 x ++ drop (p + 6) s) e))
 
 -- a machine in section 1
 record MachineAt (s : List ℕ) (at : ℕ) (x : Machine) : Type 0 where
@@ -152,7 +147,7 @@ module _ (s : List ℕ) (bytes : Bytes s) where
           (stands ∙ ap (λ (y : Option Machine). machine_bytes y ++ clusters_on d m) e)
           ∙ append_assoc (counted run_code (runs ℕ_discrete 1 0 x.columns)) (after_classes (some x)) (clusters_on d m)
 
-      value-is : (x : Machine) → (side_of d m).machine ≡ some x → OkMachine m.glyphs x → (g y : ℕ) → ValueIn 0 1 s p g y → y ≡ get_or x.columns g 1
+      value-is : (x : Machine) → (side_of d m).machine ≡ some x → OkMachine m.glyphs x → (g : ℕ) (y : MaybeValue) → ValueIn s p g y → unwrap_or y 1 ≡ get_or x.columns g 1
       value-is x e o g y f =
           let n = m.glyphs in
           let rs = runs ℕ_discrete 1 0 x.columns in
@@ -161,11 +156,12 @@ module _ (s : List ℕ) (bytes : Bytes s) where
           let wide : All WideRun rs = all_map _ WideRun (λ (r : Run ℕ) k. (k.0, k.1, omega (arith, k.3, o.few-classes))) rs
           (ok-wide 1 n (λ (c : ℕ). c < x.classes) (omega (arith, v.few-glyphs)) rs 0 1 good (all_runs ℕ_discrete 1 (λ (c : ℕ). c < x.classes) x.columns 0 o.columns)) in
           let t = after_classes (some x) ++ clusters_on d m in
-          f (items-there run_code WideRun s bytes p 6 (λ r. refl) rs t few (runs-at x e))
-          ∙ ap (look_up 1 g) (items-are run_code WideRun run-free (run_more 0) 6 (λ r. refl) s bytes (more-wide s bytes) (more-at s bytes) p rs t few wide (runs-at x e))
+          ap (λ (v : MaybeValue). unwrap_or v 1)
+          (f (items-there run_code WideRun s bytes p 6 (λ r. refl) rs t few (runs-at x e))
+          ∙ ap (value_at g) (items-are run_code WideRun run-free run_at 6 (λ r. refl) s bytes (run-wide s bytes) (run-at s bytes) p rs t few wide (runs-at x e)))
           ∙ element x.columns 1 g
 
-      pub the_class : (g r y : ℕ) → g < u32_at s 0 → HasMachine s at → ValueIn 0 1 s p g y → r ≡ y % 256 → given (number r) ≡ given (ask m (along d (class g)))
+      pub the_class : (g r : ℕ) (y : MaybeValue) → g < u32_at s 0 → HasMachine s at → ValueIn s p g y → r ≡ unwrap_or y 1 % 256 → given (number r) ≡ given (ask m (along d (class g)))
       unfolding ask ask_side
       the_class g r y l k f er =
           cases
@@ -208,7 +204,7 @@ module _ (s : List ℕ) (bytes : Bytes s) where
         never false y = refl
 
     pub the-cell : (q r c w k : ℕ) → Passes machine_bytes after_classes (ByGlyphs OkMaybe) s at q → HasMachine s at → r < u32_at s (at + 4) → c < u32_at s (at + 8)
-        → w ≡ u32_at s (at + 8) → k ≡ r * w + c → (y : CellAnswer) → CellIn s q k y → says_cell y ≡ given (ask m (along d (cell r c)))
+        → w ≡ u32_at s (at + 8) → k ≡ r * w + c → (y : sought.Option Entry) → CellIn s q k y → says_cell (Ok y) ≡ given (ask m (along d (cell r c)))
     unfolding ask ask_side
     the-cell q r c w k f has lr lc ew ek y fy =
         cases
@@ -249,10 +245,8 @@ module _ (s : List ℕ) (bytes : Bytes s) (at k rows classes : ℕ) (cells : Lis
   pub entry-fits : (i : ℕ) → i ≡ at + 4 + 4 * u32_at s at + 4 + k → at + 4 + 4 * get_or s i 0 + 4 ≤ length s
   entry-fits i ei = omega (arith, readable.entries-in k h, ap (λ (j : ℕ). get_or s j 0) ei)
 
-  pub cell-is : (i n row flags : ℕ) → i ≡ at + 4 + 4 * u32_at s at + 4 + k → n ≡ get_or s i 0 → row ≡ u16_at s (at + 4 + 4 * n)
-      → flags ≡ u16_at s (at + 4 + 4 * n + 2) → given (entry (record { row = row; flags = flags })) ≡ given (entry (get_or cells k (record { row = 0; flags = 0 })))
-  cell-is i n row flags ei en er ef =
-      let q : Entry = record { row = row; flags = flags } in
-      let f : q ≡ entry_at s (at + 4 + 4 * n) = λ j. record { row = er j; flags = ef j } in
-      ap (λ (x : Entry). given (entry x)) (f ∙ ap (λ (j : ℕ). entry_at s (at + 4 + 4 * j)) (en ∙ ap (λ (j : ℕ). get_or s j 0) ei)
+  pub cell-is : (i n : ℕ) (x : Entry) → i ≡ at + 4 + 4 * u32_at s at + 4 + k → n ≡ get_or s i 0 → x ≡ entry_at s (at + 4 + 4 * n)
+      → given (entry x) ≡ given (entry (get_or cells k (record { row = 0; flags = 0 })))
+  cell-is i n x ei en ex =
+      ap (λ (y : Entry). given (entry y)) (ex ∙ ap (λ (j : ℕ). entry_at s (at + 4 + 4 * j)) (en ∙ ap (λ (j : ℕ). get_or s j 0) ei)
       ∙ sym (cell_at rows classes z s bytes at cells rest o e k h))

@@ -17,7 +17,10 @@ use Rattle.types.specs.declared.Pair.{Pair}
 use Rattle.meaning.specs.Limits.{OkFlags, OkPair, OkCluster}
 use Rattle.meaning.specs.Sheet.{pair_code}
 use Rattle.cluster.specs.Faults.{pair_class}
-use Rattle.cluster.specs.Pairs.{pair_at, pairs_at, cluster_at}
+use Rattle.std.specs.Prelude.{Option, Some, None, Ok}
+use Rattle.meaning.specs.Ask.{pair, maybe}
+use Rattle.answers.specs.Says.{given, says_record}
+use Rattle.cluster.specs.Pairs.{pair_at, pairs_at, cluster_at, sought_pair}
 use Rattle.meaning.specs.Wide.{WidePair}
 use Rattle.sheet_cluster.specs.Clusters.{cluster_code}
 use Rattle.sheet_seek.proofs.PassLaws.{opened}
@@ -95,3 +98,8 @@ cluster-there s bytes at ps rest o e =
 -- a cluster does not begin past the end
 pub cluster-inside : (s : List ℕ) (at : ℕ) (ps : List Pair) (rest : List ℕ) → drop at s ≡ cluster_code ps ++ rest → length s < at → ⊥
 cluster-inside s at ps rest e h = omega (arith, ap length e, length-drop at s, length-append (be32 (length ps)) (many pair_code ps ++ rest))
+
+-- what is said of a record that was sought
+pub says-sought : (r : Option Pair) → says_record (Ok r) ≡ given (maybe pair (sought_pair r))
+says-sought (Some p) = refl
+says-sought None = refl

@@ -1,10 +1,12 @@
 -- What the readers of sections 3 and 4 conclude.
-use Prim.Native.Nat.{ℕ, suc, ◌+◌, ◌*◌, ◌≤◌, ◌<◌, ◌^◌}
+use Prim.Native.Nat.{ℕ, zero, suc, ◌+◌, ◌*◌, ◌≤◌, ◌<◌, ◌^◌}
 use mathlib.Core.Path.{◌≡◌, refl, sym, ap, ◌∙◌, subst}
 use mathlib.Core.List.{List, ◌∷◌, ◌++◌}
 use native.Mathlib.Omega.{arith}
-use lib.ListN.{length, get_or, drop}
+use lib.ListN.{length, get_or, take, drop}
+use native.Mathlib.Numerals.{add-one}
 use lib.Seq.{drop-cons}
+use Rattle.std.proofs.Common.{Option, Some, None}
 use Rattle.fields.specs.Field.{be16, u16_at, u32_at, Bytes}
 use Rattle.fields.proofs.Laws.{u16_at-fits}
 use Rattle.encoding.specs.Codes.{All, counted, PrefixFree, Found, Absent, items_at}
@@ -16,8 +18,6 @@ use Rattle.encoding.proofs.ReadLaws.{items-length, first_absent, second-absent, 
 use Rattle.encoding.proofs.SectionLaws.{byte-free}
 use Rattle.encoding.proofs.NumberedLaws.{numbered-found, numbered-absent}
 use Rattle.sheet_sections.specs.Section.{Parses, HasItems}
-use Rattle.sheet_sections.specs.declared.Read.{Read}
-use Rattle.sheet_sections.specs.declared.Read.TheVariants.{Upto, Absent as Nothing}
 use Rattle.sheet_sections.proofs.SectionLaws.{field16, count-known, items-outside, items-good, items-bad}
 use Rattle.types.specs.declared.Entry.{Entry}
 use Rattle.meaning.specs.Discrete.{Entry-discrete}
@@ -41,6 +41,13 @@ module _ (s : List ℕ) (bytes : Bytes s) where
 pub byte-at : (s : List ℕ) (p : ℕ) → p + 1 ≤ length s → drop p s ≡ byte (byte_at s p) ++ drop (p + 1) s
 byte-at s p h = let e : suc p ≡ p + 1 = omega arith in drop-cons s p 0 (omega arith) ∙ ap (λ (q : ℕ). get_or s p 0 ∷ drop q s) e
 
+-- bytes read one by one
+bytes-cut : (s : List ℕ) (k p : ℕ) → p + k ≤ length s → items_at byte_at 1 s p k ≡ take k (drop p s)
+bytes-cut s zero p h = refl
+bytes-cut s (suc k) p h =
+    ap (λ (l : List ℕ). get_or s p 0 ∷ l) (bytes-cut s k (p + 1) (omega arith))
+    ∙ ap (take (suc k)) (ap (λ (q : ℕ). get_or s p 0 ∷ drop q s) (add-one p) ∙ sym (drop-cons s p 0 (omega arith)))
+
 -- ---- section 3
 
 module _ (rows : ℕ) (hr : rows ≤ 256) where
@@ -55,17 +62,17 @@ module _ (rows : ℕ) (hr : rows ≤ 256) where
     entries-outside =
         items-outside entry_code WideEntry entry_free entry_at 4 (λ a. refl) s bytes (entry-wide s bytes) (entry-at s bytes) (OkEntries rows) few-entries at
 
-    module _ (room : HasItems 4 s at) where
-      pub entries-good : OkEntries rows (items_at entry_at 4 s (at + 4) (u32_at s at)) → Found (counted entry_code) (OkEntries rows) s at (at + 4 + 4 * u32_at s at)
+    module _ (k : ℕ) (there : HasItems 4 s at × (k ≡ u32_at s at)) where
+      pub entries-good : OkEntries rows (items_at entry_at 4 s (at + 4) k) → Found (counted entry_code) (OkEntries rows) s at (at + 4 + 4 * k)
       entries-good =
-          items-good entry_code WideEntry entry_free entry_at 4 (λ a. refl) s bytes (entry-wide s bytes) (entry-at s bytes) (OkEntries rows) few-entries at room
+          items-good entry_code WideEntry entry_free entry_at 4 (λ a. refl) s bytes (entry-wide s bytes) (entry-at s bytes) (OkEntries rows) few-entries at k there
 
-      pub entries-bad : (OkEntries rows (items_at entry_at 4 s (at + 4) (u32_at s at)) → ⊥) → Absent (counted entry_code) (OkEntries rows) s at
+      pub entries-bad : (OkEntries rows (items_at entry_at 4 s (at + 4) k) → ⊥) → Absent (counted entry_code) (OkEntries rows) s at
       entries-bad =
-          items-bad entry_code WideEntry entry_free entry_at 4 (λ a. refl) s bytes (entry-wide s bytes) (entry-at s bytes) (OkEntries rows) few-entries at room
+          items-bad entry_code WideEntry entry_free entry_at 4 (λ a. refl) s bytes (entry-wide s bytes) (entry-at s bytes) (OkEntries rows) few-entries at k there
 
-      pub entries-many : 256 < u32_at s at → Absent (counted entry_code) (OkEntries rows) s at
-      entries-many h = entries-bad (λ o. omega (arith, o.2, items-length entry_at 4 s (u32_at s at) (at + 4)))
+      pub entries-many : 256 < k → Absent (counted entry_code) (OkEntries rows) s at
+      entries-many h = entries-bad (λ o. omega (arith, o.2, items-length entry_at 4 s k (at + 4)))
 
     -- ---- section 4 after section 3
 
@@ -79,12 +86,12 @@ module _ (rows : ℕ) (hr : rows ≤ 256) where
         known : u32_at s at ≡ length f.0
         known = count-known s bytes entry_code (OkEntries rows) at q f (few-entries f.0 f.1).0
 
-        pub cells-parse : (r : Read) → Parses (counted byte) (OkNumbers total (u32_at s at)) s q r → Parses (numbered Entry-discrete entry_code) (OkCells rows total) s at r
-        cells-parse (Upto t) h =
+        pub cells-parse : (r : Option ℕ) → Parses (counted byte) (OkNumbers total (u32_at s at)) s q r → Parses (numbered Entry-discrete entry_code) (OkCells rows total) s at r
+        cells-parse (Some t) h =
             numbered-found Entry-discrete entry_code (OkEntry rows) (record { row = 0; flags = 0 }) total 256 s at t
             (both_found (counted entry_code) (OkEntries rows) entries-free (λ ds is. counted byte is) (λ ds is. OkNumbers total (length ds) is) s at q f t
             (subst (λ (m : ℕ). Found (counted byte) (OkNumbers total m) s q t) known h))
-        cells-parse Nothing h =
+        cells-parse None h =
             numbered-absent Entry-discrete entry_code (OkEntry rows) (record { row = 0; flags = 0 }) total 256 s at
             (second-absent (counted entry_code) (OkEntries rows) entries-free (λ ds is. counted byte is) (λ ds is. OkNumbers total (length ds) is) s at q f
             (subst (λ (m : ℕ). Absent (counted byte) (OkNumbers total m) s q) known h))
@@ -98,20 +105,23 @@ module _ (total count : ℕ) (ht : total < 2 ^ 32) (s : List ℕ) (bytes : Bytes
   pub numbers-outside : (HasItems 1 s at → ⊥) → Absent (counted byte) (OkNumbers total count) s at
   numbers-outside = items-outside byte (λ x. Unit {0}) byte-free byte_at 1 (λ a. refl) s bytes (λ p. tt) (byte-at s) (OkNumbers total count) few-numbers at
 
-  module _ (room : HasItems 1 s at) where
-    numbers-bad : (OkNumbers total count (items_at byte_at 1 s (at + 4) (u32_at s at)) → ⊥) → Absent (counted byte) (OkNumbers total count) s at
-    numbers-bad = items-bad byte (λ x. Unit {0}) byte-free byte_at 1 (λ a. refl) s bytes (λ p. tt) (byte-at s) (OkNumbers total count) few-numbers at room
+  module _ (k : ℕ) (there : HasItems 1 s at × (k ≡ u32_at s at)) where
+    numbers-bad : (OkNumbers total count (items_at byte_at 1 s (at + 4) k) → ⊥) → Absent (counted byte) (OkNumbers total count) s at
+    numbers-bad = items-bad byte (λ x. Unit {0}) byte-free byte_at 1 (λ a. refl) s bytes (λ p. tt) (byte-at s) (OkNumbers total count) few-numbers at k there
 
-    pub numbers-other : (u32_at s at ≡ total → ⊥) → Absent (counted byte) (OkNumbers total count) s at
-    numbers-other h = numbers-bad (λ o. h (omega (arith, o.0, items-length byte_at 1 s (u32_at s at) (at + 4))))
+    pub numbers-other : (k ≡ total → ⊥) → Absent (counted byte) (OkNumbers total count) s at
+    numbers-other h = numbers-bad (λ o. h (omega (arith, o.0, items-length byte_at 1 s k (at + 4))))
 
-    module _ (e : u32_at s at ≡ total) where
-      pub numbers-wrong : (InOrder count 0 (items_at byte_at 1 s (at + 4) total) → ⊥) → Absent (counted byte) (OkNumbers total count) s at
-      numbers-wrong h = numbers-bad (λ o. h (subst (λ (k : ℕ). InOrder count 0 (items_at byte_at 1 s (at + 4) k)) e o.1))
+    module _ (e : k ≡ total) (l : ℕ) (el : l ≡ total) where
+      cut : items_at byte_at 1 s (at + 4) k ≡ take l (drop (at + 4) s)
+      cut = bytes-cut s k (at + 4) (omega arith) ∙ ap (λ (n : ℕ). take n (drop (at + 4) s)) (e ∙ sym el)
 
-      pub numbers-good : InOrder count 0 (items_at byte_at 1 s (at + 4) total) → Found (counted byte) (OkNumbers total count) s at (at + 4 + total)
+      pub numbers-wrong : (InOrder count 0 (take l (drop (at + 4) s)) → ⊥) → Absent (counted byte) (OkNumbers total count) s at
+      numbers-wrong h = numbers-bad (λ o. h (subst (InOrder count 0) cut o.1))
+
+      pub numbers-good : InOrder count 0 (take l (drop (at + 4) s)) → Found (counted byte) (OkNumbers total count) s at (at + 4 + total)
       numbers-good h =
-          let q : at + 4 + 1 * u32_at s at ≡ at + 4 + total = omega arith in
+          let q : at + 4 + 1 * k ≡ at + 4 + total = omega arith in
           subst (Found (counted byte) (OkNumbers total count) s at) q
-          (items-good byte (λ x. Unit {0}) byte-free byte_at 1 (λ a. refl) s bytes (λ p. tt) (byte-at s) (OkNumbers total count) few-numbers at room
-          (items-length byte_at 1 s (u32_at s at) (at + 4) ∙ e, subst (λ (k : ℕ). InOrder count 0 (items_at byte_at 1 s (at + 4) k)) (sym e) h))
+          (items-good byte (λ x. Unit {0}) byte-free byte_at 1 (λ a. refl) s bytes (λ p. tt) (byte-at s) (OkNumbers total count) few-numbers at k there
+          (items-length byte_at 1 s k (at + 4) ∙ e, subst (InOrder count 0) (sym cut) h))

@@ -1,8 +1,12 @@
 -- A sheet in bytes: N, both directions, and nothing after them.
 use Prim.Native.Nat.{ℕ, ◌≤◌, ◌<◌, ◌^◌}
 use mathlib.Core.Path.{◌≡◌, sym, ap, ap₂, ◌∙◌, subst}
+use lib.Dec.{eqb}
+use Rattle.encoding.specs.Tests.{Says}
+use Rattle.sheet_sections.proofs.SectionLaws.{says-equal}
 use mathlib.Core.List.{List, [], ◌++◌, append-nil}
 use native.Mathlib.Omega.{arith}
+use Rattle.std.specs.Prelude.{Option, Some, None}
 use lib.ListN.{length, drop, length-append, length-drop}
 use lib.Seq.{drop-length}
 use Rattle.fields.specs.Field.{be32, u32_at, Bytes}
@@ -12,8 +16,6 @@ use Rattle.encoding.proofs.CodeLaws.{be32-free, be32-at}
 use Rattle.encoding.proofs.ReadLaws.{first_absent, second-absent, both_found}
 use Rattle.encoding.proofs.SectionLaws.{both-free}
 use Rattle.sheet_sections.specs.Section.{Parses}
-use Rattle.sheet_sections.specs.declared.Read.{Read}
-use Rattle.sheet_sections.specs.declared.Read.TheVariants.{Upto, Absent as Nothing}
 use Rattle.meaning.specs.Meaning.{Meaning}
 use Rattle.meaning.specs.Limits.{OkSide, Valid}
 use Rattle.meaning.specs.Sheet.{write_side, write, IsSheet}
@@ -24,10 +26,10 @@ module _ (n : ℕ) (hn : n < 2 ^ 16) (s : List ℕ) (at : ℕ) where
   pub sides-none : Absent write_side (OkSide n) s at → Absent sides_bytes (OkSides n) s at
   sides-none = first_absent write_side (OkSide n) (side-free n hn) (λ d e. write_side e) (λ d e. OkSide n e) s at
 
-  pub sides-parse : (q : ℕ) → Found write_side (OkSide n) s at q → (r : Read) → Parses write_side (OkSide n) s q r
+  pub sides-parse : (q : ℕ) → Found write_side (OkSide n) s at q → (r : Option ℕ) → Parses write_side (OkSide n) s q r
       → Parses sides_bytes (OkSides n) s at r
-  sides-parse q f (Upto t) h = both_found write_side (OkSide n) (side-free n hn) (λ d e. write_side e) (λ d e. OkSide n e) s at q f t h
-  sides-parse q f Nothing h = second-absent write_side (OkSide n) (side-free n hn) (λ d e. write_side e) (λ d e. OkSide n e) s at q f h
+  sides-parse q f (Some t) h = both_found write_side (OkSide n) (side-free n hn) (λ d e. write_side e) (λ d e. OkSide n e) s at q f t h
+  sides-parse q f None h = second-absent write_side (OkSide n) (side-free n hn) (λ d e. write_side e) (λ d e. OkSide n e) s at q f h
 
 -- a sheet's N, and what follows it
 pub record Opened (s : List ℕ) (m : Meaning) : Type 0 where
@@ -68,16 +70,16 @@ module _ (s : List ℕ) (bytes : Bytes s) where
         let o = opened-sheet s bytes m v w in
         h (m.horizontal, m.vertical) [] (good m v o) (whole m o)
 
-    pub sheet-longer : (t : ℕ) → n < 2 ^ 16 → Found sides_bytes (OkSides n) s 4 t → (t ≡ length s → ⊥) → IsSheet s → ⊥
+    sheet-ends : (t : ℕ) → n < 2 ^ 16 → Found sides_bytes (OkSides n) s 4 t → IsSheet s → t ≡ length s
     unfolding IsSheet
-    sheet-longer t hn f h (m, v, w) =
+    sheet-ends t hn f (m, v, w) =
         let o = opened-sheet s bytes m v w in
         let k = good m v o in
         let g = both-free write_side (OkSide n) (λ d e. write_side e) (λ d e. OkSide n e) (side-free n hn) (λ d. side-free n hn)
         f.0.0 m.horizontal f.0.1 m.vertical (drop t s) [] f.1.0 k.0 f.1.1 k.1 (sym f.3 ∙ whole m o) in
-        h (omega (arith, ap length g.2, length-drop t s, f.2))
+        omega (arith, ap length g.2, length-drop t s, f.2)
 
-    pub sheet-good : (t : ℕ) → 1 ≤ n → n ≤ 65535 → 4 ≤ length s → Found sides_bytes (OkSides n) s 4 t → t ≡ length s → IsSheet s
+    sheet-good : (t : ℕ) → 1 ≤ n → n ≤ 65535 → 4 ≤ length s → Found sides_bytes (OkSides n) s 4 t → t ≡ length s → IsSheet s
     unfolding IsSheet write
     sheet-good t h k l f e =
         let x = f.0 in (
@@ -86,3 +88,7 @@ module _ (s : List ℕ) (bytes : Bytes s) where
           sym (be32-at s bytes 0 l ∙ ap₂ (λ (j : ℕ) (r : List ℕ). be32 j ++ r) (sym en)
               (f.3 ∙ ap (λ (r : List ℕ). sides_bytes x ++ r) (ap (λ (j : ℕ). drop j s) e ∙ drop-length s) ∙ append-nil (sides_bytes x))),
         )
+
+    -- both directions stand there, and whether nothing follows
+    pub sheet-says : (t : ℕ) → 1 ≤ n → n ≤ 65535 → 4 ≤ length s → Found sides_bytes (OkSides n) s 4 t → Says (eqb t (length s)) (IsSheet s)
+    sheet-says t h k l f = says-equal t (length s) (IsSheet s) (sheet-good t h k l f) (sheet-ends t (omega arith) f)

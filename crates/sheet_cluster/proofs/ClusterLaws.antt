@@ -1,7 +1,7 @@
 -- A cluster in bytes: the turns of its reader's loop, and what the reader concludes.
 use Prim.Native.Nat.{ℕ, suc, ◌+◌, ◌*◌, ◌≤◌, ◌<◌, ◌^◌}
 use mathlib.Core.Path.{◌≡◌, refl, sym, ap, ◌∙◌, subst}
-use mathlib.Core.List.{List, ◌++◌}
+use mathlib.Core.List.{List, ◌∷◌, ◌++◌}
 use native.Mathlib.Omega.{arith}
 use lib.ListN.{length, drop}
 use Rattle.fields.specs.Field.{be16, be32, u16_at, u32_at, Bytes}
@@ -14,30 +14,34 @@ use Rattle.meaning.specs.Sheet.{pair_code}
 use Rattle.meaning.specs.Wide.{WidePair}
 use Rattle.meaning.proofs.SheetLaws.{pair-free, few-pairs}
 use Rattle.sheet_sections.specs.Section.{HasItems}
-use Rattle.sheet_sections.proofs.SectionLaws.{field16, field32, items-outside, items-good, items-bad}
+use Rattle.sheet_sections.proofs.SectionLaws.{items-cut, field16, field32, items-outside, items-good, items-bad}
 use Rattle.sheet_cluster.specs.Clusters.{pair_at, GoodPair, GoodPairs, cluster_code, SomeCluster}
 
 -- ---- a turn of the reader's loop
 
-module _ (s : List ℕ) (least place left left' : ℕ) (el : left ≡ suc left') where
-  opened : GoodPairs least (items_at pair_at 24 s place left) → GoodPairs least (items_at pair_at 24 s place (suc left'))
-  opened h = subst (λ (n : ℕ). GoodPairs least (items_at pair_at 24 s place n)) el h
+module _ (s : List ℕ) (least place place' left left' : ℕ) (ep : place' ≡ place + 24) (el : left ≡ suc left') where
+  cut : items_at pair_at 24 s place left ≡ pair_at s place ∷ items_at pair_at 24 s place' left'
+  cut = items-cut pair_at 24 s place place' left left' ep el
+
+  opened : GoodPairs least (items_at pair_at 24 s place left) → GoodPairs least (pair_at s place ∷ items_at pair_at 24 s place' left')
+  opened h = subst (GoodPairs least) cut h
 
   pub pair-good : GoodPairs least (items_at pair_at 24 s place left) → GoodPair least (pair_at s place)
   pair-good h = ((opened h).1.0, (opened h).0.0)
 
   module _ (least' : ℕ) (e : least' ≡ u32_at s place + 1) where
-    pub pairs-on : GoodPairs least (items_at pair_at 24 s place left) → GoodPairs least' (items_at pair_at 24 s (place + 24) left')
+    pub pairs-on : GoodPairs least (items_at pair_at 24 s place left) → GoodPairs least' (items_at pair_at 24 s place' left')
     pairs-on h =
         let f : suc (u32_at s place) ≡ least' = omega arith in
-        ((opened h).0.1, subst (λ (n : ℕ). Rising n (items_at pair_at 24 s (place + 24) left')) f (opened h).1.1)
+        ((opened h).0.1, subst (λ (n : ℕ). Rising n (items_at pair_at 24 s place' left')) f (opened h).1.1)
 
-    pub pairs-back : GoodPair least (pair_at s place) → GoodPairs least' (items_at pair_at 24 s (place + 24) left')
-        → GoodPairs least (items_at pair_at 24 s place left)
+    pub pairs-back : GoodPair least (pair_at s place) → GoodPairs least' (items_at pair_at 24 s place' left') → GoodPairs least (items_at pair_at 24 s place left)
     pairs-back g h =
         let f : least' ≡ suc (u32_at s place) = omega arith in
-        subst (λ (n : ℕ). GoodPairs least (items_at pair_at 24 s place n)) (sym el)
-        ((g.1, h.0), (g.0, subst (λ (n : ℕ). Rising n (items_at pair_at 24 s (place + 24) left')) f h.1))
+        subst (GoodPairs least) (sym cut) ((g.1, h.0), (g.0, subst (λ (n : ℕ). Rising n (items_at pair_at 24 s place' left')) f h.1))
+
+pub no-pairs-left : (s : List ℕ) (least place left : ℕ) → left ≡ 0 → GoodPairs least (items_at pair_at 24 s place left)
+no-pairs-left s least place left e = subst (λ (k : ℕ). GoodPairs least (items_at pair_at 24 s place k)) (sym e) (tt, tt)
 
 few : (ps : List Pair) → SomeCluster ps → (length ps < 2 ^ 32) × All WidePair ps
 few ps h = few-pairs ps h.1
@@ -70,18 +74,17 @@ module _ (s : List ℕ) (bytes : Bytes s) (at : ℕ) where
   pub cluster-outside : (HasItems 24 s at → ⊥) → Absent cluster_code SomeCluster s at
   cluster-outside = items-outside pair_code WidePair pair-free pair_at 24 (λ a. refl) s bytes pair-wide pair-at SomeCluster few at
 
-  module _ (room : HasItems 24 s at) where
-    pub cluster-count : (1 ≤ u32_at s at → u32_at s at ≤ 128 → ⊥) → Absent cluster_code SomeCluster s at
+  module _ (k : ℕ) (there : HasItems 24 s at × (k ≡ u32_at s at)) where
+    pub cluster-count : (1 ≤ k → k ≤ 128 → ⊥) → Absent cluster_code SomeCluster s at
     cluster-count n =
-        refuse-count pair_code WidePair pair-free pair_at 24 (λ a. refl) s bytes pair-wide pair-at SomeCluster few at (omega arith)
-        (λ ys g e. n (omega (arith, g.0)) (omega (arith, g.1.0)))
+        refuse-count pair_code WidePair pair-free pair_at 24 (λ a. refl) s bytes pair-wide pair-at SomeCluster few at (omega (arith, there.0))
+        (λ ys g e. n (omega (arith, g.0, there.1)) (omega (arith, g.1.0, there.1)))
 
-    pub cluster-bad : (GoodPairs 0 (items_at pair_at 24 s (at + 4) (u32_at s at)) → ⊥) → Absent cluster_code SomeCluster s at
-    cluster-bad n = items-bad pair_code WidePair pair-free pair_at 24 (λ a. refl) s bytes pair-wide pair-at SomeCluster few at room (λ g. n (g.1.1, g.1.2))
+    pub cluster-bad : (GoodPairs 0 (items_at pair_at 24 s (at + 4) k) → ⊥) → Absent cluster_code SomeCluster s at
+    cluster-bad n = items-bad pair_code WidePair pair-free pair_at 24 (λ a. refl) s bytes pair-wide pair-at SomeCluster few at k there (λ g. n (g.1.1, g.1.2))
 
-    pub cluster-good : 1 ≤ u32_at s at → u32_at s at ≤ 128 → GoodPairs 0 (items_at pair_at 24 s (at + 4) (u32_at s at))
-        → Found cluster_code SomeCluster s at (at + 4 + 24 * u32_at s at)
+    pub cluster-good : 1 ≤ k → k ≤ 128 → GoodPairs 0 (items_at pair_at 24 s (at + 4) k) → Found cluster_code SomeCluster s at (at + 4 + 24 * k)
     cluster-good a b g =
-        let n = items-length pair_at 24 s (u32_at s at) (at + 4) in
-        items-good pair_code WidePair pair-free pair_at 24 (λ a. refl) s bytes pair-wide pair-at SomeCluster few at room
+        let n = items-length pair_at 24 s k (at + 4) in
+        items-good pair_code WidePair pair-free pair_at 24 (λ a. refl) s bytes pair-wide pair-at SomeCluster few at k there
         (omega (arith, n), (omega (arith, n), g.0, g.1))

@@ -1,10 +1,5 @@
-pub mod OrderLaws
-pub mod WordLaws
-pub mod SortLaws
-pub mod MergeLaws
 pub mod OffsetLaws
-pub mod RisingLaws
-pub mod HalvesLaws
-pub mod ScanLaws
 pub mod SlotLaws
+pub mod ApartLaws
+pub mod ScanLaws
 pub mod ThinLaws

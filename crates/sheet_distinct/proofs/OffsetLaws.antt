@@ -1,18 +1,28 @@
 -- Marks, and stretches between them as the code reads them: no further than to the end of the bytes.
-use Prim.Native.Nat.{ℕ, ◌+◌, ◌≤◌, ◌<◌, min}
-use mathlib.Core.Path.{◌≡◌, sym, ap, ap₂, ◌∙◌, subst}
-use mathlib.Core.Bool.{Bool}
-use mathlib.Core.List.{List, []}
+use Prim.Native.Nat.{ℕ, zero, suc, ◌+◌, ◌-◌, ◌≤◌, ◌<◌, min}
+use mathlib.Core.Path.{◌≡◌, sym, ap, ap₂, ◌∙◌}
+use mathlib.Core.List.{List, [], ◌∷◌}
 use native.Mathlib.Decide.{dec_lt}
 use native.Mathlib.Omega.{arith}
-use lib.ListN.{length, get_or, take, drop, length-take, get_or-eq_default, drop_of_length-le}
+use lib.ListN.{length, get_or, take, drop, length-take, drop_of_length-le}
 use lib.Seq.{slice, take_all}
-use Rattle.encoding.specs.Tests.{Says}
-use Rattle.encoding.specs.Dictionary.{Le}
-use Rattle.sheet_distinct.specs.Order.{stretch, NoLater}
+use Rattle.sheet_distinct.specs.Order.{stretch}
+use Rattle.sheet_distinct.specs.Slots.{edge}
 
-pub offset-none : (s offsets : List ℕ) (i : ℕ) → length offsets ≤ i → min (get_or offsets i 0) (length s) ≡ 0
-offset-none s offsets i h = let e : get_or offsets i 0 ≡ 0 = get_or-eq_default offsets 0 h in omega (arith, e)
+pub drop-take : (q b : ℕ) (s : List ℕ) → drop b (take q s) ≡ take (q - b) (drop b s)
+drop-take q zero s = ap (λ (k : ℕ). take k s) (less q)
+  where
+    less : (q : ℕ) → q ≡ q - 0
+    less q = omega arith
+drop-take zero (suc b) s = ap (λ (k : ℕ). take k (drop (suc b) s)) (none b)
+  where
+    none : (b : ℕ) → 0 ≡ 0 - suc b
+    none b = omega arith
+drop-take (suc q) (suc b) [] = sym (lib.Seq.take-nil (suc q - suc b))
+drop-take (suc q) (suc b) (x ∷ s) = drop-take q b s ∙ ap (λ (k : ℕ). take k (drop b s)) (down q b)
+  where
+    down : (q b : ℕ) → q - b ≡ suc q - suc b
+    down q b = omega arith
 
 -- what lies past the end is no part of a slice
 take-clipped : (b : ℕ) (s : List ℕ) → take (min b (length s)) s ≡ take b s
@@ -34,14 +44,17 @@ slice-clipped a b s = ap (drop (min a (length s))) (take-clipped b s) ∙ go (de
     go (yes h) = let e : min a (length s) ≡ a = omega arith in ap (λ (k : ℕ). slice k b s) e
     go (no h) = past (min a (length s)) (omega (arith, h)) ∙ sym (past a (omega (arith, h)))
 
--- an answer about two slices is one about two stretches
-pub before_of_lem : (s offsets : List ℕ) (x y i j a ae b be : ℕ) (r : Bool) → i ≡ x → j ≡ y
-    → a ≡ min (get_or offsets i 0) (length s) → ae ≡ min (get_or offsets (i + 1) 0) (length s)
-    → b ≡ min (get_or offsets j 0) (length s) → be ≡ min (get_or offsets (j + 1) 0) (length s)
-    → Says r (Le (slice a ae s) (slice b be s)) → Says r (NoLater s offsets x y)
-unfolding NoLater stretch
-before_of_lem s offsets x y i j a ae b be r ei ej ea eae eb ebe h =
-    subst (λ (T : Type 0). Says r T)
-    (ap₂ (λ (u v : List ℕ). Le u v)
-    (ap₂ (λ (u v : ℕ). slice u v s) ea eae ∙ slice-clipped (get_or offsets i 0) (get_or offsets (i + 1) 0) s ∙ ap (λ (k : ℕ). stretch s offsets k) ei)
-    (ap₂ (λ (u v : ℕ). slice u v s) eb ebe ∙ slice-clipped (get_or offsets j 0) (get_or offsets (j + 1) 0) s ∙ ap (λ (k : ℕ). stretch s offsets k) ej)) h
+-- a stretch as it is read, by its two offsets
+module _ (s offsets : List ℕ) (k i j a b : ℕ) (ei : i ≡ k) (ej : j ≡ i + 1) (ea : a ≡ edge s offsets i) (eb : b ≡ edge s offsets j) where
+  stretch-is : slice a b s ≡ stretch s offsets k
+  unfolding stretch
+  stretch-is =
+      let f : j ≡ k + 1 = omega arith in
+      ap₂ (λ (u v : ℕ). slice u v s) ea eb ∙ slice-clipped (get_or offsets i 0) (get_or offsets j 0) s
+      ∙ ap₂ (λ (u v : ℕ). slice (get_or offsets u 0) (get_or offsets v 0) s) ei f
+
+  pub stretch-none : b < a → [] ≡ stretch s offsets k
+  stretch-none h = sym (drop_of_length-le (take b s) {i = a} (simp length-take (omega arith))) ∙ stretch-is
+
+  pub stretch-cut : take (b - a) (drop a s) ≡ stretch s offsets k
+  stretch-cut = sym (drop-take b a s) ∙ stretch-is

@@ -19,6 +19,7 @@ use Rattle.sheet_sections.proofs.PoolLaws.{all-places}
 use Rattle.sheet_sections.specs.Pool.{Items}
 use Rattle.sheet_distinct.specs.Order.{stretch, Apart, up_from}
 use Rattle.sheet_distinct.specs.Scan.{Scanned, NoItems}
+use Rattle.sheet_distinct.proofs.OffsetLaws.{drop-take}
 
 -- ---- no two alike, by their places
 
@@ -69,21 +70,6 @@ stretch-kept : (s offsets : List ℕ) (j k v : ℕ) → k + 1 < j → stretch s 
 unfolding stretch
 stretch-kept s offsets j k v h =
     ap₂ (λ (x y : ℕ). slice x y s) (get_or-set_other offsets j k v 0 (λ e. omega (arith, e))) (get_or-set_other offsets j (k + 1) v 0 (λ e. omega (arith, e)))
-
-drop-take : (q b : ℕ) (s : List ℕ) → drop b (take q s) ≡ take (q - b) (drop b s)
-drop-take q zero s = ap (λ (k : ℕ). take k s) (less q)
-  where
-    less : (q : ℕ) → q ≡ q - 0
-    less q = omega arith
-drop-take zero (suc b) s = ap (λ (k : ℕ). take k (drop (suc b) s)) (none b)
-  where
-    none : (b : ℕ) → 0 ≡ 0 - suc b
-    none b = omega arith
-drop-take (suc q) (suc b) [] = sym (lib.Seq.take-nil (suc q - suc b))
-drop-take (suc q) (suc b) (x ∷ s) = drop-take q b s ∙ ap (λ (k : ℕ). take k (drop b s)) (down q b)
-  where
-    down : (q b : ℕ) → q - b ≡ suc q - suc b
-    down q b = omega arith
 
 many-append : {A : Type 0} (code : A → List ℕ) (xs ys : List A) → many code (xs ++ ys) ≡ many code xs ++ many code ys
 many-append code [] ys = refl

@@ -69,6 +69,10 @@ module _ (f : ℕ → List ℕ) where
       pub to : Below k → Apart f c
       pub back : Apart f c → Below k
 
+    pub kept-same : (k : ℕ) (firsts firsts' numbers numbers' : List ℕ) (left left' : ℕ) → firsts' ≡ firsts → numbers' ≡ numbers → left' ≡ left
+        → Kept k firsts (take left numbers) → Kept k firsts' (take left' numbers')
+    kept-same k firsts firsts' numbers numbers' left left' e f g h = rw (e, f, g) h
+
     pub kept-none : (firsts : List ℕ) → Unused firsts → Kept 0 firsts []
     kept-none firsts u =
         record {
@@ -180,21 +184,9 @@ module _ (f : ℕ → List ℕ) where
     thinned n r firsts numbers h t =
         record { few = h; to = λ a. t.to (apart_below n a); back = λ a. below_apart n (t.back a) }
 
-unused : (n : ℕ) → Unused (replicate n 0)
-unused zero i = refl
-unused (suc n) zero = refl
-unused (suc n) (suc i) = unused n i
-
 -- one is apart, and none
 pub apart-one : (f : ℕ → List ℕ) (n : ℕ) → n < 2 → Apart f (up_from 0 n)
 apart-one f n h = below_apart f n (λ x y p q e. omega arith)
-
--- zeros are rooms
-pub rooms : (n k l : ℕ) → n ≤ k → n ≤ l → 0 < l → l ≤ 2 ^ 17 → DistinctRooms n (replicate k 0) (replicate l 0)
-rooms n k l a b c d =
-    let e = length-replicate {A = ℕ} k 0 in
-    let f = length-replicate {A = ℕ} l 0 in
-    (omega (arith, e), omega (arith, f), omega (arith, f), omega (arith, f), unused l)
 
 pub says-thinned : (f : ℕ → List ℕ) (n r : ℕ) (numbers : List ℕ) (b : Bool) → Thinned f n r numbers → Says b (Apart f (take r numbers)) → Says b (Apart f (up_from 0 n))
 says-thinned f n r numbers true t h = t.back h

@@ -1,9 +1,7 @@
--- Items that stand one after the other in bytes, with a offset where each begins and one where the last ends (document 01, "The sheet": the items of a
+-- Items that stand one after the other in bytes, with an offset where each begins and one where the last ends (document 01, "The sheet": the items of a
 -- section after its count).
-use Rattle.std.specs.Prelude.{ℕ, ◌≤◌, ◌<◌, ◌≡◌, List, ◌++◌, length, get_or, drop}
+use Rattle.std.specs.Prelude.{ℕ, ◌≤◌, ◌<◌, ◌≡◌, List, ◌++◌, length, get_or, drop, Option, Some, None}
 use Rattle.encoding.specs.Codes.{All, many}
-use Rattle.sheet_sections.specs.declared.Read.{Read}
-use Rattle.sheet_sections.specs.declared.Read.TheVariants.{Upto, Absent as Nothing}
 use Rattle.sheet_distinct.specs.Order.{stretch}
 
 -- i valid items stand from p on and end before b, and the offsets are where they begin and end
@@ -21,6 +19,6 @@ unfoldable pub NoItems : {A : Type 0} → (A → List ℕ) → (A → Type 0) �
 NoItems code ok s p m = (ys : List _) (rest : List ℕ) → All ok ys → length ys ≡ m → drop p s ≡ many code ys ++ rest → ⊥
 
 -- what a scan for m items finds
-abbrev pub Scans : {A : Type 0} → (A → List ℕ) → (A → Type 0) → List ℕ → ℕ → ℕ → Read → List ℕ → Type 0
-Scans code ok s p m (Upto q) offsets = Scanned code ok s p m q offsets
-Scans code ok s p m Nothing offsets = NoItems code ok s p m
+abbrev pub Scans : {A : Type 0} → (A → List ℕ) → (A → Type 0) → List ℕ → ℕ → ℕ → Option ℕ → List ℕ → Type 0
+Scans code ok s p m (Some q) offsets = Scanned code ok s p m q offsets
+Scans code ok s p m None offsets = NoItems code ok s p m

@@ -1,5 +1,5 @@
 -- A slot for each stretch, told by its bytes: stretches alike have the same, so only those that share one need be compared.
-use Rattle.std.specs.Prelude.{ℕ, zero, suc, ◌+◌, ◌-◌, ◌*◌, ◌/◌, ◌%◌, ◌^◌, ◌≤◌, ◌<◌, min, ◌≡◌, List, length, get_or, take}
+use Rattle.std.specs.Prelude.{ℕ, zero, suc, ◌+◌, ◌*◌, ◌/◌, ◌%◌, ◌^◌, ◌≤◌, ◌<◌, min, ◌≡◌, List, length, get_or, take, drop}
 use Rattle.fields.specs.Field.{u32_at}
 use Rattle.sheet_distinct.specs.Order.{Apart, up_from}
 
@@ -12,13 +12,9 @@ mixed s (suc n) at h = mixed s n (at + 4) ((h + u32_at s at) % 4294967296 * 2654
 abbrev pub edge : List ℕ → List ℕ → ℕ → ℕ
 edge s offsets i = min (get_or offsets i 0) (length s)
 
--- the words with which the bytes from one place to another end, mixed
-abbrev pub mixed_to : List ℕ → ℕ → ℕ → ℕ
-mixed_to s a b = mixed s ((b - a) / 4) (a + (b - a) % 4) 0
-
--- the slot of stretch k
-unfoldable pub slot_of : List ℕ → List ℕ → ℕ → ℕ → ℕ
-slot_of s offsets slots k = mixed_to s (edge s offsets k) (edge s offsets (k + 1)) * slots / 4294967296
+-- the slot of a stretch: its words mixed, those with which it ends
+unfoldable pub slot_of : ℕ → List ℕ → ℕ
+slot_of slots xs = mixed (drop (length xs % 4) xs) (length (drop (length xs % 4) xs) / 4) 0 0 * slots / 4294967296
 
 -- no slot is taken
 abbrev pub Unused : List ℕ → Type 0

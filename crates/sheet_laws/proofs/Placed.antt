@@ -1,4 +1,5 @@
 -- The refusals of the calls that write a sheet, judge it and ask it have offset 0 unless their number is 4 to 8 (document 02, 4/14).
+use Rattle.std.specs.Prelude.{Ok, Err}
 use Prim.Native.Nat.{ℕ}
 use mathlib.Core.Path.{◌≡◌, refl}
 use mathlib.Core.Bool.{Bool, true, false, cond}
@@ -7,8 +8,8 @@ use mathlib.Core.List.{List, ◌++◌}
 use native.Mathlib.Omega.{arith}
 use lib.Dec.{leb}
 use lib.ListN.{length, drop}
-use Rattle.fields.specs.declared.Fault.{Fault}
-use Rattle.fields.specs.declared.Fault.TheVariants.{Clear, Bad}
+use Rattle.fields.specs.Faults.{FirstFault}
+use Rattle.fields.specs.Faults.{Clear, Bad}
 use Rattle.fields.specs.Refusals.{number_of}
 use Rattle.meaning.specs.Sheet.{IsSheet}
 use Rattle.meaning.specs.Ask.{Question}
@@ -25,9 +26,9 @@ module _ (t : List ℕ) (n number at : ℕ) where
   unfolding sheet_length
   placed-length e = go (table_fault t n) (placed-table t n) e
     where
-      go : (f : Fault) → Placed f → length_by f (sheet_of t n) ≡ refused number at → Offset number at
-      go Clear p e = let z : ◌≡◌ {A = ℕ} 0 1 = cc in absurd (omega arith)
-      go (Bad r q) p e = let k : number_of r ≡ number = cc in let j : q ≡ at = cc in rw (k, j) at (placed-bad p refl)
+      go : (f : FirstFault) → Placed f → length_by f (sheet_of t n) ≡ refused number at → Offset number at
+      go (Ok u) p e = let z : ◌≡◌ {A = ℕ} 0 1 = cc in absurd (omega arith)
+      go (Err f) p e = let k : number_of f.refusal ≡ number = cc in let j : f.at ≡ at = cc in rw (k, j) at (placed-bad p refl)
 
   -- 16 has offset 0
   short : (sheet room : List ℕ) → (stored sheet room).said ≡ refused number at → at ≡ 0
@@ -42,9 +43,9 @@ module _ (t : List ℕ) (n number at : ℕ) where
   unfolding written written_by
   placed-written room e = go (table_fault t n) (placed-table t n) e
     where
-      go : (f : Fault) → Placed f → (written_by f (sheet_of t n) room).said ≡ refused number at → Offset number at
-      go Clear p e = inr (short (sheet_of t n) room e)
-      go (Bad r q) p e = let k : number_of r ≡ number = cc in let j : q ≡ at = cc in rw (k, j) at (placed-bad p refl)
+      go : (f : FirstFault) → Placed f → (written_by f (sheet_of t n) room).said ≡ refused number at → Offset number at
+      go (Ok u) p e = inr (short (sheet_of t n) room e)
+      go (Err f) p e = let k : number_of f.refusal ≡ number = cc in let j : f.at ≡ at = cc in rw (k, j) at (placed-bad p refl)
 
 module _ (s : List ℕ) (number at : ℕ) where
   pub placed-sheet : SheetChecked s (barred number at) → Offset number at

@@ -4,7 +4,7 @@ use mathlib.Core.Path.{◌≡◌, refl, sym, ap, ◌∙◌, subst}
 use mathlib.Core.List.{List}
 use lib.ListN.{length}
 use native.Mathlib.Omega.{arith}
-use Rattle.fields.specs.declared.Fault.{Fault}
+use Rattle.fields.specs.Faults.{FirstFault}
 use Rattle.fields.specs.Field.{Bytes}
 use Rattle.meaning.specs.Meaning.{Meaning}
 use Rattle.meaning.specs.Limits.{Valid}
@@ -49,7 +49,7 @@ sheet t s n b a r = subst IsSheet (meant t s n a r) (is-sheet (meaning_of t n) (
 -- a table that is accepted refuses no question
 unbarred : (t : List ℕ) (n : ℕ) (q : Question) → Accepted t n → given (ask (meaning_of t n) q) ≡ unless_bad (table_fault t n) (ask (meaning_of t n) q)
 unfolding Accepted
-unbarred t n q a = ap (λ (f : Fault). unless_bad f (ask (meaning_of t n) q)) (sym a)
+unbarred t n q a = ap (λ (f : FirstFault). unless_bad f (ask (meaning_of t n) q)) (sym a)
 
 one-given : (a b : Answer) → given a ≡ given b → a ≡ b
 one-given a b e = cc

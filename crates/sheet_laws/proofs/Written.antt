@@ -1,5 +1,7 @@
 -- What the writer's promise gives for an accepted table: the sheet that it wrote is the bytes of the table's meaning, and the length that is answered is
 -- the sheet's.
+use Rattle.std.specs.Prelude.{Result, Ok, Err}
+use Rattle.fields.specs.declared.Fault.{Fault}
 use Prim.Native.Nat.{ℕ, ◌≤◌}
 use mathlib.Core.Bool.{Bool, true, false, cond}
 use mathlib.Core.Path.{◌≡◌, refl, sym, ap, ◌∙◌}
@@ -9,10 +11,6 @@ use lib.Dec.{leb}
 use lib.ListN.{length, drop}
 use lib.Seq.{take-append_seam}
 use Rattle.table.specs.Table.{Accepted}
-use Rattle.sheet_write.specs.declared.LengthAnswer.{LengthAnswer}
-use Rattle.sheet_write.specs.declared.LengthAnswer.TheVariants as length-answer
-use Rattle.sheet_write.specs.declared.WriteAnswer.{WriteAnswer}
-use Rattle.sheet_write.specs.declared.WriteAnswer.TheVariants as write-answer
 use Rattle.sheet_write.specs.Written.{sheet_of, Said, refused, bytes, says_length, says_written, SheetOutcome, stored}
 use Rattle.sheet_write.proofs.Laws.{length-clear, written-clear, stored-fits}
 use Rattle.sheet_laws.specs.Writing.{LengthAnswered, Wrote, FirstBytes, SheetBy}
@@ -31,13 +29,13 @@ no_size : (a : ℕ) {b at : ℕ} → bytes a ≡ refused b at → ⊥
 unfolding barred
 no_size a e = let q : ◌≡◌ {A = ℕ} 0 1 = ap barred e in omega arith
 
-said-length : (l : LengthAnswer) (k : ℕ) → says_length l ≡ bytes k → l ≡ length-answer.Length k
-said-length (length-answer.Length n) k e = ap length-answer.Length (one_size n k e)
-said-length (length-answer.Refused r at) k e = absurd (no_size k (sym e))
+said-length : (l : Result ℕ Fault) (k : ℕ) → says_length l ≡ bytes k → l ≡ Ok k
+said-length (Ok n) k e = ap Ok (one_size n k e)
+said-length (Err f) k e = absurd (no_size k (sym e))
 
-said-written : (w : WriteAnswer) (k : ℕ) → says_written w ≡ bytes k → w ≡ write-answer.Written k
-said-written (write-answer.Written n) k e = ap write-answer.Written (one_size n k e)
-said-written (write-answer.Refused r at) k e = absurd (no_size k (sym e))
+said-written : (w : Result ℕ Fault) (k : ℕ) → says_written w ≡ bytes k → w ≡ Ok k
+said-written (Ok n) k e = ap Ok (one_size n k e)
+said-written (Err f) k e = absurd (no_size k (sym e))
 
 -- ---- bytes stored in a room
 
@@ -67,12 +65,12 @@ module _ (t : List ℕ) (n : ℕ) (a : Accepted t n) where
       let held = stored_bytes (sheet_of t n) r.before r.after r.size (r.run ∙ sym (written-clear t n r.before a)) in
       first-bytes r.size r.after s (sheet_of t n) _ r.sheet held.0 held.1
 
-  pub measured : (l : LengthAnswer) → LengthAnswered t n l → l ≡ length-answer.Length (length (sheet_of t n))
+  pub measured : (l : Result ℕ Fault) → LengthAnswered t n l → l ≡ Ok (length (sheet_of t n))
   unfolding Accepted
   measured l e = said-length l (length (sheet_of t n)) (e ∙ sym (length-clear t n (length (sheet_of t n)) a refl))
 
-  pub never-refused : (before after : List ℕ) (w : WriteAnswer) → Wrote t n before w after → length (sheet_of t n) ≤ length before
-      → w ≡ write-answer.Written (length (sheet_of t n))
+  pub never-refused : (before after : List ℕ) (w : Result ℕ Fault) → Wrote t n before w after → length (sheet_of t n) ≤ length before
+      → w ≡ Ok (length (sheet_of t n))
   unfolding Accepted
   never-refused before after w e h =
       said-written w (length (sheet_of t n))

@@ -1,5 +1,7 @@
 -- Demand 3: what the sheets of tables and the answers for sheets have to do with what tables mean. It speaks of any outcomes of the calls: of `write_sheet`
 -- and `sheet_length` (`Writing`), of `check_sheet` (`SheetChecked`) and of the calls for a sheet's parts (`Outcomes`), and uses nothing but their promises.
+use Rattle.std.specs.Prelude.{Result, Ok}
+use Rattle.fields.specs.declared.Fault.{Fault}
 use Rattle.std.specs.Prelude.{ℕ, ◌≤◌, ◌≡◌, List, length}
 use Rattle.fields.specs.Field.{Bytes}
 use Rattle.meaning.specs.Meaning.{Meaning}
@@ -11,10 +13,6 @@ use Rattle.answers.specs.Says.{Judgement, accepted, given, unless_bad}
 use Rattle.table.specs.Table.{table_fault, Accepted}
 use Rattle.table.specs.Means.{meaning_of}
 use Rattle.sheet_check.specs.Check.{SheetChecked}
-use Rattle.sheet_write.specs.declared.LengthAnswer.{LengthAnswer}
-use Rattle.sheet_write.specs.declared.LengthAnswer.TheVariants.{Length}
-use Rattle.sheet_write.specs.declared.WriteAnswer.{WriteAnswer}
-use Rattle.sheet_write.specs.declared.WriteAnswer.TheVariants.{Written}
 use Rattle.sheet_laws.specs.Outcomes.{Outcomes, Parts, Calls, reply_to, Alike}
 use Rattle.sheet_laws.specs.Writing.{LengthAnswered, Wrote, SheetBy}
 
@@ -28,9 +26,9 @@ pub record Demand3 : Type 0 where
   -- and one alone, whatever the lent room held before
   pub one-sheet : (t s s' : List ℕ) (n : ℕ) → Accepted t n → SheetBy t n s → SheetBy t n s' → s ≡ s'
   -- its length can be asked for; lent that much room or more, the writer is never refused
-  pub sheet-length : (t : List ℕ) (n : ℕ) → Accepted t n → (l : LengthAnswer) → LengthAnswered t n l
-      → (k : ℕ) × (l ≡ Length k) × ((s : List ℕ) → SheetBy t n s → length s ≡ k)
-      × ((before after : List ℕ) (w : WriteAnswer) → Wrote t n before w after → k ≤ length before → w ≡ Written k)
+  pub sheet-length : (t : List ℕ) (n : ℕ) → Accepted t n → (l : Result ℕ Fault) → LengthAnswered t n l
+      → (k : ℕ) × (l ≡ Ok k) × ((s : List ℕ) → SheetBy t n s → length s ≡ k)
+      × ((before after : List ℕ) (w : Result ℕ Fault) → Wrote t n before w after → k ≤ length before → w ≡ Ok k)
   -- the sheets of two accepted tables read with the same glyph count are equal exactly when the tables mean the same: equal sheets, equal answers to
   -- every question; equal answers to the questions that a call can be asked, equal sheets
   pub same_tables : (t u s s' : List ℕ) (n : ℕ) → Bytes t → Bytes u → Accepted t n → Accepted u n → SheetBy t n s → SheetBy u n s'

@@ -1,26 +1,25 @@
 -- The outcomes of all the calls for a sheet's parts, and what is known of them: no more than the calls promise.
-use Rattle.std.specs.Prelude.{ℕ, ◌<◌, ◌^◌, ◌≡◌, List}
+use Rattle.std.specs.Prelude.{ℕ, ◌<◌, ◌^◌, ◌≡◌, List, Option, Result}
+use Rattle.fields.specs.declared.Fault.{Fault}
+use Rattle.types.specs.declared.Entry.{Entry}
+use Rattle.types.specs.declared.Pair.{Pair}
+use Rattle.types.specs.declared.HeldAction.{HeldAction}
 use Rattle.types.specs.declared.Direction.{Direction}
 use Rattle.meaning.specs.Ask.{sizes, class, cell, width, action, Question, glyph_count, along}
 use Rattle.meaning.specs.Same.{Asked}
-use Rattle.answers.specs.declared.CountAnswer.{CountAnswer}
-use Rattle.answers.specs.declared.SizesAnswer.{SizesAnswer}
-use Rattle.answers.specs.declared.ClassAnswer.{ClassAnswer}
-use Rattle.answers.specs.declared.CellAnswer.{CellAnswer}
-use Rattle.answers.specs.declared.RecordAnswer.{RecordAnswer}
-use Rattle.answers.specs.declared.ActionAnswer.{ActionAnswer}
+use Rattle.answers.specs.declared.Sizes.{Sizes}
 use Rattle.answers.specs.Says.{Reply, says_count, says_sizes, says_class, says_cell, says_record, says_action}
 use Rattle.sheet_ask.specs.Parts.{CountOf, SizesOf, ClassOf, CellOf, RecordOf, ActionOf}
 use Rattle.sheet_ask.specs.Calls.{SheetReply, ActionReply}
 
 -- an outcome of each call, for whatever it is asked
 pub record Outcomes : Type 0 where
-  pub counted : CountAnswer
-  pub sized : Direction → SizesAnswer
-  pub classed : Direction → ℕ → ClassAnswer
-  pub celled : Direction → ℕ → ℕ → CellAnswer
-  pub recorded : Direction → ℕ → ℕ → RecordAnswer
-  pub acted : Direction → ℕ → ℕ → ActionAnswer
+  pub counted : Result ℕ Fault
+  pub sized : Direction → Result (Option Sizes) Fault
+  pub classed : Direction → ℕ → Result (Option ℕ) Fault
+  pub celled : Direction → ℕ → ℕ → Result (Option Entry) Fault
+  pub recorded : Direction → ℕ → ℕ → Result (Option Pair) Fault
+  pub acted : Direction → ℕ → ℕ → Result (Option HeldAction) Fault
 
 -- they are outcomes for these bytes, of the calls that do not judge them: glyphs, rows, classes of the machine and numbers of actions are 16-bit, a
 -- record's class is 8-bit

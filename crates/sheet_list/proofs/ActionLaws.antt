@@ -1,7 +1,6 @@
 -- What the reader of an action concludes.
 use Prim.Native.Nat.{ℕ, suc, ◌+◌, ◌≤◌, ◌<◌}
 use mathlib.Core.Path.{◌≡◌, refl, sym, ap, ap₂, ◌∙◌, subst}
-use mathlib.Core.Bool.{Bool, true, false}
 use mathlib.Core.List.{List, [], ◌∷◌, ◌++◌}
 use native.Mathlib.Omega.{arith}
 use lib.ListN.{length, get_or, take, drop, length-drop, length-append, take-append-drop}
@@ -11,11 +10,10 @@ use Rattle.fields.proofs.Laws.{u16_at-fits, u32_at-fits}
 use Rattle.encoding.specs.Codes.{All, many, Found, Absent}
 use Rattle.encoding.specs.Sections.{byte}
 use Rattle.encoding.proofs.CodeLaws.{be16-free, be32-free}
-use Rattle.encoding.specs.Tests.{Says}
 use Rattle.encoding.proofs.SectionLaws.{many-byte}
 use Rattle.sheet_sections.proofs.SectionLaws.{field16, field32}
 use Rattle.meaning.specs.Meaning.{Action}
-use Rattle.meaning.specs.Limits.{OkContent, OkAction}
+use Rattle.meaning.specs.Limits.{OkAction}
 use Rattle.meaning.specs.Sheet.{action_code}
 use Rattle.sheet_list.specs.Action.{bytes_at, action_at, GoodAction}
 use Rattle.sheet_list.proofs.ContentLaws.{bytes-length}
@@ -23,15 +21,6 @@ use Rattle.sheet_list.proofs.ContentLaws.{bytes-length}
 all-bytes : (s : List ℕ) → ((i : ℕ) → i < length s → get_or s i 0 < 256) → All (λ (b : ℕ). b < 256) s
 all-bytes [] h = tt
 all-bytes (x ∷ s) h = (h 0 (omega arith), all-bytes s (λ i l. h (suc i) (omega arith)))
-
--- the answer for the data is the answer for the action, once the rest is judged
-pub action-says : (n : ℕ) (s : List ℕ) (at size ty : ℕ) → at + 8 + size ≤ length s → size ≤ 76 → u16_at s at < 128 → ty ≡ u16_at s (at + 2)
-    → (r : Bool) → Says r ((ty ≤ 5) × OkContent n ty (bytes_at s (at + 8) size)) → Says r (GoodAction n s at size)
-action-says n s at size ty room small class e true h =
-    let g = subst (λ (k : ℕ). (k ≤ 5) × OkContent n k (bytes_at s (at + 8) size)) e h in
-    record { room = room; small = small; class = class; ty = g.0; content = g.1 }
-action-says n s at size ty room small class e false h =
-    λ g. h (subst (λ (k : ℕ). (k ≤ 5) × OkContent n k (bytes_at s (at + 8) size)) (sym e) (g.ty, g.content))
 
 module _ (n : ℕ) (s : List ℕ) (bytes : Bytes s) (at : ℕ) where
   -- an action that stands there is the one that is read there
@@ -65,14 +54,15 @@ module _ (n : ℕ) (s : List ℕ) (bytes : Bytes s) (at : ℕ) where
   pub action-short : (at + 8 ≤ length s → ⊥) → Absent action_code (OkAction n) s at
   action-short h a rest o e = h (omega (arith, (opened a rest o e).room))
 
-  pub action-bad : (GoodAction n s at (u32_at s (at + 4)) → ⊥) → Absent action_code (OkAction n) s at
-  action-bad h a rest o e =
+  pub action-bad : (size : ℕ) → size ≡ u32_at s (at + 4) → (GoodAction n s at size → ⊥) → Absent action_code (OkAction n) s at
+  action-bad size es k a rest o e =
+      let h = subst (λ (z : ℕ). GoodAction n s at z → ⊥) es k in
       let x = opened a rest o e in
       let g : OkAction n (action_at s at (u32_at s (at + 4))) = subst (OkAction n) x.is o in
       h (record { room = x.room; small = omega (arith, x.size, o.2); class = g.0; ty = g.1; content = g.4 })
 
-  pub action-good : GoodAction n s at (u32_at s (at + 4)) → Found action_code (OkAction n) s at (at + 8 + u32_at s (at + 4))
-  action-good g =
+  good : GoodAction n s at (u32_at s (at + 4)) → Found action_code (OkAction n) s at (at + 8 + u32_at s (at + 4))
+  good g =
       let z = u32_at s (at + 4) in
       let C = bytes_at s (at + 8) z in
       let l : length C ≡ z = bytes-length s (at + 8) z g.room in (
@@ -88,3 +78,8 @@ module _ (n : ℕ) (s : List ℕ) (bytes : Bytes s) (at : ℕ) where
     where
       low : (i : ℕ) → i < u32_at s (at + 4) → get_or (bytes_at s (at + 8) (u32_at s (at + 4))) i 0 < 256
       low i j = subst (λ (x : ℕ). x < 256) (sym (get_or-take (u32_at s (at + 4)) (drop (at + 8) s) i 0 j ∙ get_or-drop (at + 8) s i 0)) (bytes (at + 8 + i))
+
+  pub action-good : (size : ℕ) → size ≡ u32_at s (at + 4) → GoodAction n s at size → Found action_code (OkAction n) s at (at + 8 + size)
+  action-good size es k =
+      let g = subst (GoodAction n s at) es k in
+      subst (λ (z : ℕ). Found action_code (OkAction n) s at (at + 8 + z)) (sym es) (good g)

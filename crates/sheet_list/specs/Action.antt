@@ -1,6 +1,6 @@
 -- Actions as they stand in bytes (document 01, "The sheet", section 7): class and type, then the data after its length; and the lists that a sheet has,
 -- which are never empty.
-use Rattle.std.specs.Prelude.{ℕ, ◌+◌, ◌*◌, ◌≤◌, ◌<◌, ◌≡◌, List, length, take, drop}
+use Rattle.std.specs.Prelude.{ℕ, ◌+◌, ◌≤◌, ◌<◌, ◌≡◌, List, length, take, drop}
 use Rattle.fields.specs.Field.{u16_at}
 use Rattle.encoding.specs.Codes.{All, counted}
 use Rattle.meaning.specs.Meaning.{Action}
@@ -10,10 +10,6 @@ use Rattle.meaning.specs.Sheet.{action_code}
 -- so many bytes from a place on
 abbrev pub bytes_at : List ℕ → ℕ → ℕ → List ℕ
 bytes_at bytes at size = take size (drop at bytes)
-
--- so many glyphs from a place on are below n
-abbrev pub AllBelow : List ℕ → ℕ → ℕ → ℕ → Type 0
-AllBelow bytes at count n = (k : ℕ) → k < count → u16_at bytes (at + 2 * k) < n
 
 -- the action that stands at a place, with so many bytes of data
 abbrev pub action_at : List ℕ → ℕ → ℕ → Action

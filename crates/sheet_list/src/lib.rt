@@ -2,152 +2,61 @@
 // Data lengths are exact, and glyphs lie below N.
 #![tactic(auto)]
 
-ghost use Rattle.std.specs.Prelude.{◌≡◌, ◌+◌, ◌*◌, ◌≤◌, length};
+ghost use Rattle.std.specs.Prelude.{◌+◌, ◌≤◌, length};
 ghost use Rattle.encoding.specs.Codes.{many};
 ghost use Rattle.encoding.specs.Tests.{Says};
 ghost use Rattle.sheet_sections.specs.Section.{Parses};
 ghost use Rattle.meaning.specs.Limits.{OkContent, OkAction};
 ghost use Rattle.meaning.specs.Sheet.{action_code};
-ghost use Rattle.sheet_list.specs.Action.{bytes_at, AllBelow, GoodAction, Exactly, list_code, SomeList};
-
-use sheet_sections::Read;
-
-// Whether `size` bytes stand at a position.
-fn has_bytes(bytes: &[u8], at: usize, size: usize) -> bool
-    ensures { Says result (at + size ≤ length bytes.now) }
-{
-    if bytes.len() < at {
-        return false;
-    }
-    if bytes.len() - at < size {
-        return false;
-    }
-    true
-}
-
-// Whether `count` glyphs from a position on are below `glyphs`.
-fn all_below(bytes: &[u8], at: usize, count: usize, glyphs: usize) -> bool
-    requires { at + 2 * count ≤ length bytes.now }
-    ensures { Says result (AllBelow bytes.now at count glyphs) }
-{
-    let mut k: usize = 0;
-    while k < count {
-        if glyphs <= fields::u16_at(bytes, at + 2 * k) {
-            return false;
-        }
-        k += 1;
-    }
-    true
-}
+ghost use Rattle.sheet_list.specs.Action.{GoodAction, Exactly, list_code, SomeList};
 
 // Type 0: lower, upper and order, a count of 1 to 32, and as many glyphs.
-fn good_components(bytes: &[u8], at: usize, size: usize, glyphs: usize) -> bool
-    requires { at + size ≤ length bytes.now }
-    ensures { Says result (OkContent glyphs 0 (bytes_at bytes.now at size)) }
+fn good_components(content: &[u8], glyphs: usize) -> bool
+    ensures { Says result (OkContent glyphs 0 content.now) }
 {
-    if size < 14 {
+    let count = fields::u16_at(content, 10);
+    if count == 0 || 32 < count {
         return false;
     }
-    let count = fields::u16_at(bytes, at + 10);
-    if count == 0 {
-        return false;
-    }
-    if 32 < count {
-        return false;
-    }
-    if size != 12 + 2 * count {
-        return false;
-    }
-    all_below(bytes, at + 12, count, glyphs)
+    content.len() == 12 + 2 * count
+        && (0..count).all(|k| fields::u16_at(content, 12 + 2 * k) < glyphs)
 }
 
 // Type 1: a glyph.
-fn good_glyph(bytes: &[u8], at: usize, size: usize, glyphs: usize) -> bool
-    requires { at + size ≤ length bytes.now }
-    ensures { Says result (OkContent glyphs 1 (bytes_at bytes.now at size)) }
+fn good_glyph(content: &[u8], glyphs: usize) -> bool
+    ensures { Says result (OkContent glyphs 1 content.now) }
 {
-    if size != 2 {
-        return false;
-    }
-    if glyphs <= fields::u16_at(bytes, at) {
-        return false;
-    }
-    true
+    content.len() == 2 && fields::u16_at(content, 0) < glyphs
 }
 
 // Type 2: a threshold, the added glyph or 0xFFFF for none, and the substitute.
-fn good_substitute(bytes: &[u8], at: usize, size: usize, glyphs: usize) -> bool
-    requires { at + size ≤ length bytes.now }
-    ensures { Says result (OkContent glyphs 2 (bytes_at bytes.now at size)) }
+fn good_substitute(content: &[u8], glyphs: usize) -> bool
+    ensures { Says result (OkContent glyphs 2 content.now) }
 {
-    if size != 8 {
-        return false;
-    }
-    if glyphs <= fields::u16_at(bytes, at + 6) {
-        return false;
-    }
-    let added = fields::u16_at(bytes, at + 4);
-    if added == 0xFFFF {
-        return true;
-    }
-    if glyphs <= added {
-        return false;
-    }
-    true
-}
-
-// Whether the data is `whole` bytes long: none for type 3, for type 4 an axis and three Fixed.
-fn has_length(bytes: &[u8], at: usize, size: usize, whole: usize) -> bool
-    requires { at + size ≤ length bytes.now }
-    ensures { Says result (length (bytes_at bytes.now at size) ≡ whole) }
-{
-    if size != whole {
-        return false;
-    }
-    true
+    let added = fields::u16_at(content, 4);
+    content.len() == 8 && (added < glyphs || added == 0xFFFF) && fields::u16_at(content, 6) < glyphs
 }
 
 // Type 5: flags, which are zero, and a glyph.
-fn good_repeat(bytes: &[u8], at: usize, size: usize, glyphs: usize) -> bool
-    requires { at + size ≤ length bytes.now }
-    ensures { Says result (OkContent glyphs 5 (bytes_at bytes.now at size)) }
+fn good_repeat(content: &[u8], glyphs: usize) -> bool
+    ensures { Says result (OkContent glyphs 5 content.now) }
 {
-    if size != 4 {
-        return false;
-    }
-    if 0 < fields::u16_at(bytes, at) {
-        return false;
-    }
-    if glyphs <= fields::u16_at(bytes, at + 2) {
-        return false;
-    }
-    true
+    content.len() == 4 && fields::u16_at(content, 0) == 0 && fields::u16_at(content, 2) < glyphs
 }
 
-// Whether `size` bytes at a position are the data of an action of a type.
-fn good_content(bytes: &[u8], at: usize, size: usize, ty: usize, glyphs: usize) -> bool
-    requires { at + size ≤ length bytes.now }
-    ensures { Says result ((ty ≤ 5) × OkContent glyphs ty (bytes_at bytes.now at size)) }
+// Whether bytes are the data of an action of a type. Type 3 has none, type 4 an axis and three Fixed.
+fn good_content(content: &[u8], ty: usize, glyphs: usize) -> bool
+    ensures { Says result ((ty ≤ 5) × OkContent glyphs ty content.now) }
 {
-    if ty == 0 {
-        return good_components(bytes, at, size, glyphs);
+    match ty {
+        0 => good_components(content, glyphs),
+        1 => good_glyph(content, glyphs),
+        2 => good_substitute(content, glyphs),
+        3 => content.is_empty(),
+        4 => content.len() == 16,
+        5 => good_repeat(content, glyphs),
+        _ => false,
     }
-    if ty == 1 {
-        return good_glyph(bytes, at, size, glyphs);
-    }
-    if ty == 2 {
-        return good_substitute(bytes, at, size, glyphs);
-    }
-    if ty == 3 {
-        return has_length(bytes, at, size, 0);
-    }
-    if ty == 4 {
-        return has_length(bytes, at, size, 16);
-    }
-    if ty == 5 {
-        return good_repeat(bytes, at, size, glyphs);
-    }
-    false
 }
 
 // Whether an action with `size` bytes of data stands at a position. The size is judged before its bytes are looked for.
@@ -161,62 +70,49 @@ fn good_action(bytes: &[u8], at: usize, size: usize, glyphs: usize) -> bool
     if 128 <= fields::u16_at(bytes, at) {
         return false;
     }
-    if !has_bytes(bytes, at + 8, size) {
+    if !sheet_sections::has_room(bytes, at + 8, size) {
         return false;
     }
-    let ty = fields::u16_at(bytes, at + 2);
-    good_content(bytes, at + 8, size, ty, glyphs)
+    let content = &bytes[at + 8..at + 8 + size];
+    good_content(content, fields::u16_at(bytes, at + 2), glyphs)
 }
 
 // An action.
-fn read_action(bytes: &[u8], at: usize, glyphs: usize) -> Read
+fn read_action(bytes: &[u8], at: usize, glyphs: usize) -> Option<usize>
     ensures { Parses action_code (OkAction glyphs) bytes.now at result }
 {
-    if !has_bytes(bytes, at, 8) {
-        return Read::Absent;
+    if !sheet_sections::has_room(bytes, at, 8) {
+        return None;
     }
     let size = fields::u32_at(bytes, at + 4);
     if !good_action(bytes, at, size, glyphs) {
-        return Read::Absent;
+        return None;
     }
-    Read::Upto(at + 8 + size)
+    Some(at + 8 + size)
 }
 
 // `count` actions, one after the other.
-fn read_actions(bytes: &[u8], at: usize, count: usize, glyphs: usize) -> Read
+fn read_actions(bytes: &[u8], at: usize, count: usize, glyphs: usize) -> Option<usize>
     requires { at ≤ length bytes.now }
     ensures { Parses (many action_code) (Exactly count (OkAction glyphs)) bytes.now at result }
 {
     let mut place = at;
-    let mut left = count;
-    while 0 < left {
-        let action = read_action(bytes, place, glyphs);
-        match action {
-            Read::Upto(end) => {
-                place = end;
-                left -= 1;
-            }
-            Read::Absent => {
-                return Read::Absent;
-            }
-        }
+    for _ in 0..count {
+        place = read_action(bytes, place, glyphs)?;
     }
-    Read::Upto(place)
+    Some(place)
 }
 
-// A list of 1 to 64 actions after its count.
-pub fn read_list(bytes: &[u8], at: usize, glyphs: usize) -> Read
+// A list of 1 to 64 actions after its count; where it ends, if it is there.
+pub fn read_list(bytes: &[u8], at: usize, glyphs: usize) -> Option<usize>
     ensures { Parses list_code (SomeList glyphs) bytes.now at result }
 {
-    if !has_bytes(bytes, at, 4) {
-        return Read::Absent;
-    }
-    let count = fields::u32_at(bytes, at);
-    if count < 1 {
-        return Read::Absent;
+    let count = sheet_sections::count_at(bytes, at, 0)?;
+    if count == 0 {
+        return None;
     }
     if 64 < count {
-        return Read::Absent;
+        return None;
     }
     read_actions(bytes, at + 4, count, glyphs)
 }

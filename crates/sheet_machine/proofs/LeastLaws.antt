@@ -1,5 +1,5 @@
 -- The least closed number of rows, cell by cell.
-use Prim.Native.Nat.{ℕ, ◌+◌, ◌*◌, ◌≤◌, ◌<◌}
+use Prim.Native.Nat.{ℕ, ◌+◌, ◌*◌, ◌≤◌, ◌<◌, max}
 use mathlib.Core.Path.{◌≡◌, ap, subst}
 use native.Mathlib.Omega.{arith}
 use native.Mathlib.Decide.{dec_lt}
@@ -23,11 +23,11 @@ module _ (f : ℕ → ℕ) (classes rows : ℕ) where
     below_more v h g j (yes l) m = omega (arith, r.below j l)
     below_more v h g j (no l) m = let e : k ≡ j = omega arith in subst (λ (x : ℕ). f x < v) e g
 
-    pub reach-stay : k < t * classes → f k < t → Reached f classes rows t (k + 1)
+    reach-stay : k < t * classes → f k < t → Reached f classes rows t (k + 1)
     reach-stay h g =
         record { two = r.two; most = r.most; inside = omega arith; below = λ j l. below_more t (omega arith) g j (dec_lt j k) l; tight = r.tight }
 
-    pub reach-more : (v : ℕ) → v ≡ f k + 1 → k < t * classes → t ≤ f k → f k < rows → Reached f classes rows v (k + 1)
+    reach-more : (v : ℕ) → v ≡ f k + 1 → k < t * classes → t ≤ f k → f k < rows → Reached f classes rows v (k + 1)
     reach-more v e h g l =
         let m : t * classes ≤ v * classes = mul-le-mul_right classes (omega arith) in
         record {
@@ -40,6 +40,13 @@ module _ (f : ℕ → ℕ) (classes rows : ℕ) where
       where
         up : (u : ℕ) → t ≤ u → (k < u * classes → f k < u) → v ≤ u
         up u i c = let m : t * classes ≤ u * classes = mul-le-mul_right classes i in omega (arith, c (omega (arith, m)))
+
+    pub reach-on : (v : ℕ) → v ≡ max t (f k + 1) → k < t * classes → f k < rows → Reached f classes rows v (k + 1)
+    reach-on v e h l = go (dec_lt (f k) t)
+      where
+        go : Dec (f k < t) → Reached f classes rows v (k + 1)
+        go (yes p) = let q : t ≡ v = omega arith in subst (λ (x : ℕ). Reached f classes rows x (k + 1)) q (reach-stay h p)
+        go (no p) = reach-more v (omega (arith, p)) h (omega (arith, p)) l
 
     pub reach-closed : k ≡ t * classes → t < rows → LeastBy f classes rows → ⊥
     reach-closed e l least = least t r.two l (λ j i. r.below j (omega (arith, e)))

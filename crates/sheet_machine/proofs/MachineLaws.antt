@@ -1,10 +1,10 @@
 -- What the reader of sections 1 to 4 concludes.
 use Prim.Native.Nat.{ℕ, ◌+◌, ◌≤◌, ◌<◌, ◌^◌}
 use mathlib.Core.Path.{◌≡◌, refl, sym, ap, ◌∙◌, subst}
-use mathlib.Core.Bool.{Bool, true, false}
 use mathlib.Core.Option.{none, some}
 use mathlib.Core.List.{List, ◌++◌}
 use native.Mathlib.Omega.{arith}
+use Rattle.std.specs.Prelude.{Option, Some, None}
 use lib.ListN.{length, drop, length-append, length-drop}
 use Rattle.fields.specs.Field.{be32, u32_at, Bytes}
 use Rattle.fields.proofs.Laws.{u32_at-fits}
@@ -13,17 +13,14 @@ use Rattle.encoding.specs.Sections.{run_section, numbered}
 use Rattle.encoding.proofs.CodeLaws.{be32-at, be32-free}
 use Rattle.encoding.proofs.ReadLaws.{first_absent, second-absent, both_found}
 use Rattle.encoding.proofs.SectionLaws.{run-section-free}
-use Rattle.encoding.specs.Tests.{Says}
 use Rattle.sheet_sections.specs.Section.{Parses}
 use Rattle.sheet_sections.specs.RunSection.{Below}
-use Rattle.sheet_sections.specs.declared.Read.{Read}
-use Rattle.sheet_sections.specs.declared.Read.TheVariants.{Upto, Absent as Nothing}
 use Rattle.sheet_sections.proofs.SectionLaws.{field32}
 use Rattle.meaning.specs.Discrete.{Entry-discrete}
 use Rattle.meaning.specs.Meaning.{Machine}
 use Rattle.meaning.specs.Limits.{OkMachine, OkMaybe}
 use Rattle.meaning.specs.Sheet.{entry_code, machine_bytes}
-use Rattle.sheet_machine.specs.Machine.{Sizes, OkLeast, within_bytes, OkWithin, NoMachine, OneMachine}
+use Rattle.sheet_machine.specs.Machine.{OkLeast, within_bytes, OkWithin, NoMachine, OneMachine}
 
 -- ---- sections 2 to 4, one after another
 
@@ -35,22 +32,14 @@ module _ (glyphs rows classes : ℕ) (hg : glyphs < 2 ^ 16) (hc : classes ≤ 25
   within_none =
       first_absent (run_section 1) (Below glyphs classes) columns-free (λ ks cs. numbered Entry-discrete entry_code cs) (λ ks cs. OkLeast rows classes cs) s at
 
-  pub within-parse : (q : ℕ) → Found (run_section 1) (Below glyphs classes) s at q → (r : Read)
+  pub within-parse : (q : ℕ) → Found (run_section 1) (Below glyphs classes) s at q → (r : Option ℕ)
       → Parses (numbered Entry-discrete entry_code) (OkLeast rows classes) s q r → Parses within_bytes (OkWithin glyphs rows classes) s at r
-  within-parse q f (Upto t) h =
+  within-parse q f (Some t) h =
       both_found (run_section 1) (Below glyphs classes) columns-free (λ ks cs. numbered Entry-discrete entry_code cs) (λ ks cs. OkLeast rows classes cs) s at q f t h
-  within-parse q f Nothing h =
+  within-parse q f None h =
       second-absent (run_section 1) (Below glyphs classes) columns-free (λ ks cs. numbered Entry-discrete entry_code cs) (λ ks cs. OkLeast rows classes cs) s at q f h
 
 -- ---- section 1
-
--- whether there is one, by its sizes as they were read
-pub one-says : (s : List ℕ) (at : ℕ) → at + 12 ≤ length s → u32_at s at ≡ 1 → (rows classes : ℕ) → rows ≡ u32_at s (at + 4) → classes ≡ u32_at s (at + 8)
-    → (r : Bool) → Says r (Sizes rows classes) → Says r (OneMachine s at)
-one-says s at room one rows classes er ec true z =
-    record { room = room; one = one; sizes = subst (λ (k : ℕ). Sizes k (u32_at s (at + 8))) er (subst (λ (k : ℕ). Sizes rows k) ec z) }
-one-says s at room one rows classes er ec false z =
-    λ o. z (subst (λ (k : ℕ). Sizes k classes) (sym er) (subst (λ (k : ℕ). Sizes (u32_at s (at + 4)) k) (sym ec) o.sizes))
 
 -- the sections of a machine that stands at a place
 record Opened (glyphs : ℕ) (s : List ℕ) (at : ℕ) (m : Machine) (rest : List ℕ) : Type 0 where
@@ -122,8 +111,8 @@ module _ (s : List ℕ) (bytes : Bytes s) where
     machine-absent h k (some m) rest o e = k (one-sizes m rest o (opened_one m rest o e))
 
     module _ (one : OneMachine s at) (rows classes : ℕ) (er : rows ≡ u32_at s (at + 4)) (ec : classes ≡ u32_at s (at + 8)) where
-      pub machine-parse : (r : Read) → Parses within_bytes (OkWithin glyphs rows classes) s (at + 12) r → Parses machine_bytes (OkMaybe glyphs) s at r
-      machine-parse (Upto q) f =
+      pub machine-parse : (r : Option ℕ) → Parses within_bytes (OkWithin glyphs rows classes) s (at + 12) r → Parses machine_bytes (OkMaybe glyphs) s at r
+      machine-parse (Some q) f =
           let o = f.1 in (
             some (record { rows = rows; classes = classes; columns = f.0.0; cells = f.0.1 }),
             record {
@@ -144,7 +133,7 @@ module _ (s : List ℕ) (bytes : Bytes s) where
                 ∙ ap (λ (l : List ℕ). be32 rows ++ l) (stands (at + 8) (at + 12) classes (omega arith) one.room (sym ec)
                 ∙ ap (λ (l : List ℕ). be32 classes ++ l) f.3)),
           )
-      machine-parse Nothing h = none-there
+      machine-parse None h = none-there
         where
           none-there : Absent machine_bytes (OkMaybe glyphs) s at
           none-there none rest o e = omega (arith, (opened-none rest e).no-machine, one.one)

@@ -3,43 +3,31 @@
 // Where a read fails it prints nothing, since the bytes before the failure are another input, and says so on standard error.
 #![tactic(auto)]
 
-ghost use Rattle.std.specs.Prelude.{length};
-ghost use Rattle.sheet_print.specs.Within.{Within};
+ghost use Rattle.std.specs.Prelude.{◌≤◌, length, IfOk};
 
+use std::io;
 use std::io::{Read, Write};
 
-// How many bytes standard input had, or that a read failed.
-#[derive(Clone, Copy)]
-enum Input {
-    Bytes(usize),
-    Failed,
-}
-
-// Reads until the input ends or the lent bytes are full.
-fn read_input(rt: &HostRuntime, input: &mut [u8]) -> Input
-    ensures { Within result (length input.new) }
+// Reads until the input ends or the lent bytes are full, and answers how many it had.
+fn read_input(rt: &HostRuntime, input: &mut [u8]) -> io::Result<usize>
+    ensures { IfOk result (λ count. count ≤ length input.new) }
 {
     let mut at = 0;
+    // Until nothing is left: how much a read brings is not known before.
     while at < input.len() {
-        match rt.stdin().read(&mut input[at..]) {
-            Ok(0) => {
-                return Input::Bytes(at);
-            }
-            Ok(more) => {
-                at += more;
-            }
-            Err(_) => {
-                return Input::Failed;
-            }
+        let more = rt.stdin().read(&mut input[at..])?;
+        if more == 0 {
+            break;
         }
+        at += more;
     }
-    Input::Bytes(at)
+    Ok(at)
 }
 
 fn main(rt: HostRuntime) {
     // one byte more than the longest input, so that a longer one is told from it
     let mut input = [0u8; 65537];
-    let Input::Bytes(length) = read_input(&rt, &mut input) else {
+    let Ok(length) = read_input(&rt, &mut input) else {
         let _ = rt
             .stderr()
             .write_all(b"sheet_print: standard input cannot be read\n");

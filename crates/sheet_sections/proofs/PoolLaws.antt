@@ -1,5 +1,6 @@
 -- Distinct items, and then runs of their numbers: a `pool`, for any kind of item.
 use Prim.Native.Nat.{ℕ, zero, suc, ◌+◌, ◌≤◌, ◌<◌, ◌^◌}
+use Rattle.std.proofs.Common.{Option, Some, None}
 use mathlib.Core.Path.{◌≡◌, ap, ◌∙◌, subst}
 use mathlib.Core.Logic.{ite, if_neg}
 use mathlib.Core.List.{List, [], ◌∷◌}
@@ -18,8 +19,6 @@ use Rattle.encoding.proofs.RunsLaws.{ok-few}
 use Rattle.encoding.proofs.ReadLaws.{first_absent, second-absent, both_found}
 use Rattle.encoding.proofs.PoolReadLaws.{values, pool-found, pool-absent, OkList, OkTwoRuns}
 use Rattle.sheet_sections.specs.Section.{Parses}
-use Rattle.sheet_sections.specs.declared.Read.{Read}
-use Rattle.sheet_sections.specs.declared.Read.TheVariants.{Upto, Absent as Nothing}
 use Rattle.sheet_sections.proofs.SectionLaws.{count-known}
 use Rattle.sheet_sections.specs.Pool.{Items, NumberRuns, used_after}
 
@@ -102,13 +101,13 @@ module _ {A : Type 0} (eq : Discrete A) (code : A → List ℕ) (P : A → Type 
       few-items = omega (arith, item_count, f.1.0)
 
       -- what reading the second section tells of both
-      pub both-parse : (m : ℕ) → m ≡ u32_at s at → (r : Read) → Parses (counted run_less_code) (NumberRuns n m) s q r
+      pub both-parse : (m : ℕ) → m ≡ u32_at s at → (r : Option ℕ) → Parses (counted run_less_code) (NumberRuns n m) s q r
           → Parses (pool eq code none) (OkList eq code P none pn n) s at r
-      both-parse m em (Upto t) h =
+      both-parse m em (Some t) h =
           let g = both_found (counted code) (Items eq ok n) items-free (λ ds rs. counted run_less_code rs) (λ ds rs. NumberRuns n (length ds) rs) s at q f t
           (subst (λ (k : ℕ). Found (counted run_less_code) (NumberRuns n k) s q t) (em ∙ item_count) h) in
           pool-found eq code P none pn n s at t (g.0, to-two g.0 g.1, g.2, g.3)
-      both-parse m em Nothing h =
+      both-parse m em None h =
           pool-absent eq code P none pn n s at
           (λ p rest o e. second-absent (counted code) (Items eq ok n) items-free (λ ds rs. counted run_less_code rs) (λ ds rs. NumberRuns n (length ds) rs) s at q f
           (subst (λ (k : ℕ). Absent (counted run_less_code) (NumberRuns n k) s q) (em ∙ item_count) h) p rest (from-two p o) e)

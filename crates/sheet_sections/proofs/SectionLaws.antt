@@ -1,11 +1,14 @@
 -- A counted section of items of one size: what its reader concludes once it knows whether the items are there and whether they are valid.
-use Prim.Native.Nat.{ℕ, ◌+◌, ◌*◌, ◌≤◌, ◌<◌, ◌^◌}
-use mathlib.Core.Bool.{Bool, true, false}
-use mathlib.Core.Path.{◌≡◌, sym, ap, ◌∙◌, subst}
-use mathlib.Core.List.{List, ◌++◌}
+use Prim.Native.Nat.{ℕ, suc, ◌+◌, ◌*◌, ◌≤◌, ◌<◌, ◌^◌}
+use mathlib.Core.Bool.{Bool}
+use mathlib.Core.Path.{◌≡◌, sym, ap, ap₂, ◌∙◌, subst}
+use mathlib.Core.Logic.{⊎_elim}
+use mathlib.Core.List.{List, ◌∷◌, ◌++◌}
+use lib.Dec.{eqb}
 use native.Mathlib.Decide.{dec_le}
 use native.Mathlib.Omega.{arith}
 use lib.ListN.{length, drop, length-drop}
+use Rattle.std.proofs.lemmas.Bool.Decides.{eqb_tells}
 use Rattle.fields.specs.Field.{be16, be32, u16_at, u32_at, Bytes}
 use Rattle.fields.proofs.Laws.{u32_at-fits}
 use Rattle.encoding.specs.Codes.{All, many, counted, PrefixFree, Found, Absent, items_at}
@@ -14,21 +17,18 @@ use Rattle.encoding.proofs.ReadLaws.{refuse-short, refuse-long, refuse-items, ac
 use Rattle.encoding.specs.Tests.{Says}
 use Rattle.sheet_sections.specs.Section.{HasItems}
 
--- what a test says
-pub says-yes : {b : Bool} (P : Type 0) → b ≡ true → Says b P → P
-says-yes {b} P e h = subst (λ (t : Bool). Says t P) e h
+-- the test of two numbers, where they are equal exactly when P holds
+pub says-equal : (x y : ℕ) (P : Type 0) → (x ≡ y → P) → (P → x ≡ y) → Says (eqb x y) P
+says-equal x y P f g =
+    ⊎_elim (λ h. subst (λ (b : Bool). Says b P) (sym h.0) (f h.1)) (λ h. subst (λ (b : Bool). Says b P) (sym h.0) (λ p. h.1 (g p))) (eqb_tells x y)
 
-pub says-no : {b : Bool} (P : Type 0) → b ≡ false → Says b P → P → ⊥
-says-no {b} P e h = subst (λ (t : Bool). Says t P) e h
+-- items one after the other: from the same place on, and the first of them
+module _ {A : Type 0} (item : List ℕ → ℕ → A) (w : ℕ) (s : List ℕ) where
+  pub items-same : (p p' k k' : ℕ) → p' ≡ p → k' ≡ k → items_at item w s p' k' ≡ items_at item w s p k
+  items-same p p' k k' e f = ap₂ (items_at item w s) e f
 
--- and what a branch on its opposite says
-pub failed : (b : Bool) (P : Type 0) → b ≡ false → Says b P → P → ⊥
-failed true P e h = let z : ◌≡◌ {A = ℕ} 0 1 = cc in absurd (omega arith)
-failed false P e h = h
-
-pub passed : (b : Bool) (P : Type 0) → b ≡ true → Says b P → P
-passed true P e h = h
-passed false P e h = let z : ◌≡◌ {A = ℕ} 0 1 = cc in absurd (omega arith)
+  pub items-cut : (p p' k k' : ℕ) → p' ≡ p + w → k ≡ suc k' → items_at item w s p k ≡ item s p ∷ items_at item w s p' k'
+  items-cut p p' k k' e f = ap (items_at item w s p) f ∙ ap (λ (q : ℕ). item s p ∷ items_at item w s q k') (sym e)
 
 -- a field in bytes, and what follows it
 module _ (s : List ℕ) (bytes : Bytes s) where
@@ -62,9 +62,13 @@ module _ {A : Type 0} (code : A → List ℕ) (wide : A → Type 0) (free : Pref
           refuse-long code wide free item w each s bytes item-wide item-at G few at l (omega (arith, h))
       go (no l) = refuse-short code wide free item w each s bytes item-wide item-at G few at (omega (arith, l))
 
-  module _ (room : HasItems w s at) where
-    pub items-good : G (items_at item w s (at + 4) (u32_at s at)) → Found (counted code) G s at (at + 4 + w * u32_at s at)
-    items-good = accept-items code wide free item w each s bytes item-wide item-at G few at (omega arith) room
+  module _ (k : ℕ) (there : HasItems w s at × (k ≡ u32_at s at)) where
+    pub items-good : G (items_at item w s (at + 4) k) → Found (counted code) G s at (at + 4 + w * k)
+    items-good =
+        subst (λ (n : ℕ). G (items_at item w s (at + 4) n) → Found (counted code) G s at (at + 4 + w * n)) (sym there.1)
+        (accept-items code wide free item w each s bytes item-wide item-at G few at (omega arith) there.0)
 
-    pub items-bad : (G (items_at item w s (at + 4) (u32_at s at)) → ⊥) → Absent (counted code) G s at
-    items-bad = refuse-items code wide free item w each s bytes item-wide item-at G few at (omega arith) room
+    pub items-bad : (G (items_at item w s (at + 4) k) → ⊥) → Absent (counted code) G s at
+    items-bad =
+        subst (λ (n : ℕ). (G (items_at item w s (at + 4) n) → ⊥) → Absent (counted code) G s at) (sym there.1)
+        (refuse-items code wide free item w each s bytes item-wide item-at G few at (omega arith) there.0)

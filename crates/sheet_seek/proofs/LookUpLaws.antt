@@ -1,5 +1,7 @@
 -- `look_up` finds the element of an index, and the turns of its loop.
 use Prim.Native.Nat.{ℕ, zero, suc, ◌+◌, ◌-◌, ◌≤◌, ◌<◌, ◌^◌}
+use Rattle.std.specs.Prelude.{Some, None}
+use Rattle.std.specs.Option.{unwrap_or, option_map}
 use mathlib.Core.Path.{◌≡◌, refl, sym, ap, ap₂, ◌∙◌}
 use mathlib.Core.Logic.{ite, if_pos, if_neg}
 use mathlib.Core.List.{List, [], ◌∷◌, ◌++◌}
@@ -13,7 +15,10 @@ use Rattle.encoding.specs.Runs.{Run, runs, unrun, OkRuns}
 use Rattle.encoding.proofs.CodeLaws.{many-free}
 use Rattle.encoding.proofs.RunsLaws.{runs-ok, unrun-runs}
 use Rattle.encoding.proofs.ReadLaws.{items-length, items-wide, items_at_lem}
-use Rattle.sheet_seek.specs.LookUp.{run_more, look_up}
+use Rattle.sheet_sections.specs.RunSection.{run_at}
+use Rattle.sheet_sections.proofs.SectionLaws.{items-cut}
+use Rattle.sheet_sections.specs.Pool.{number_run_at}
+use Rattle.sheet_seek.specs.LookUp.{value_at}
 use Rattle.sheet_seek.proofs.PassLaws.{opened, items-there}
 
 -- an element of a stretch, and one after it
@@ -26,7 +31,7 @@ past-stretch k j v d ys h =
     ap (λ (x : ℕ). get_or (replicate k v ++ ys) x d) e ∙ get_or-append-add (replicate k v) ys (j - k) d
 
 module _ (skip n g : ℕ) where
-  look-unrun : (rs : List (Run ℕ)) (i w : ℕ) → OkRuns skip n i w rs → i ≤ g → get_or (unrun skip i n rs) (g - i) skip ≡ look_up skip g rs
+  look-unrun : (rs : List (Run ℕ)) (i w : ℕ) → OkRuns skip n i w rs → i ≤ g → get_or (unrun skip i n rs) (g - i) skip ≡ unwrap_or (value_at g rs) skip
   look-unrun [] i w o h = all-skip (n - i) (g - i)
     where
       all-skip : (k j : ℕ) → get_or (replicate k skip) j skip ≡ skip
@@ -46,8 +51,8 @@ module _ (skip n g : ℕ) where
           let e : g - i - (r.first - i) ≡ g - r.first = omega (arith, o.0, p) in
           past-stretch (r.first - i) (g - i) skip skip u (omega (arith, o.0, p)) ∙ ap (λ (x : ℕ). get_or u x skip) e
 
-      go : (a : Dec (r.first ≤ g)) (b : Dec (g ≤ r.last)) → (suc r.last ≤ g → get_or t (g - suc r.last) skip ≡ look_up skip g rs)
-          → get_or (replicate (r.first - i) skip ++ u) (g - i) skip ≡ ite a (ite b r.value (look_up skip g rs)) skip
+      go : (a : Dec (r.first ≤ g)) (b : Dec (g ≤ r.last)) → (suc r.last ≤ g → get_or t (g - suc r.last) skip ≡ unwrap_or (value_at g rs) skip)
+          → get_or (replicate (r.first - i) skip ++ u) (g - i) skip ≡ unwrap_or (ite a (ite b (Some r.value) (value_at g rs)) None) skip
       go (yes p) (yes q) ih = inside p ∙ in-stretch (suc r.last - r.first) (g - r.first) r.value skip t (omega (arith, p, q))
       go (yes p) (no q) ih =
           let e : g - r.first - (suc r.last - r.first) ≡ g - suc r.last = omega (arith, o.1, p, q) in
@@ -56,7 +61,7 @@ module _ (skip n g : ℕ) where
       go (no p) b ih = in-stretch (r.first - i) (g - i) skip skip u (omega (arith, p, h))
 
 -- the element of an index, out of the runs of a list
-pub element : (xs : List ℕ) (skip g : ℕ) → look_up skip g (runs ℕ_discrete skip 0 xs) ≡ get_or xs g skip
+pub element : (xs : List ℕ) (skip g : ℕ) → unwrap_or (value_at g (runs ℕ_discrete skip 0 xs)) skip ≡ get_or xs g skip
 element xs skip g =
     let n : ℕ = length xs in
     let rs = runs ℕ_discrete skip 0 xs in
@@ -66,22 +71,35 @@ element xs skip g =
 
 -- ---- the loop's turns
 
-module _ (s : List ℕ) (more skip g place left left' : ℕ) (el : left ≡ suc left') where
-  whole : look_up skip g (items_at (run_more more) 6 s place left) ≡ look_up skip g (items_at (run_more more) 6 s place (suc left'))
-  whole = ap (λ (k : ℕ). look_up skip g (items_at (run_more more) 6 s place k)) el
+module _ (s : List ℕ) (g place place' left left' : ℕ) (ep : place' ≡ place + 6) (el : left ≡ suc left') where
+  whole : value_at g (items_at run_at 6 s place left) ≡ value_at g (run_at s place ∷ items_at run_at 6 s place' left')
+  whole = ap (value_at g) (items-cut run_at 6 s place place' left left' ep el)
 
-  pub look_stop : g < u16_at s place → skip ≡ look_up skip g (items_at (run_more more) 6 s place left)
-  look_stop p = sym (whole ∙ if_neg (dec_le (u16_at s place) g) (λ h. omega arith) _ _)
+  pub look_stop : g < u16_at s place → value_at g (items_at run_at 6 s place left) ≡ None
+  look_stop p = whole ∙ if_neg (dec_le (u16_at s place) g) (λ h. omega arith) _ _
 
-  pub look-here : u16_at s place ≤ g → g ≤ u16_at s (place + 2) → u16_at s (place + 4) + more ≡ look_up skip g (items_at (run_more more) 6 s place left)
-  look-here p q = sym (whole ∙ if_pos (dec_le (u16_at s place) g) p _ _ ∙ if_pos (dec_le g (u16_at s (place + 2))) q _ _)
+  pub look-here : u16_at s place ≤ g → g ≤ u16_at s (place + 2) → value_at g (items_at run_at 6 s place left) ≡ Some (u16_at s (place + 4))
+  look-here p q = whole ∙ if_pos (dec_le (u16_at s place) g) p _ _ ∙ if_pos (dec_le g (u16_at s (place + 2))) q _ _
 
-  pub look-next : u16_at s place ≤ g → u16_at s (place + 2) < g
-      → look_up skip g (items_at (run_more more) 6 s (place + 6) left') ≡ look_up skip g (items_at (run_more more) 6 s place left)
-  look-next p q = sym (whole ∙ if_pos (dec_le (u16_at s place) g) p _ _ ∙ if_neg (dec_le g (u16_at s (place + 2))) (λ h. omega arith) _ _)
+  pub look-next : u16_at s place ≤ g → u16_at s (place + 2) < g → value_at g (items_at run_at 6 s place left) ≡ value_at g (items_at run_at 6 s place' left')
+  look-next p q = whole ∙ if_pos (dec_le (u16_at s place) g) p _ _ ∙ if_neg (dec_le g (u16_at s (place + 2))) (λ h. omega arith) _ _
 
-pub look-end : (s : List ℕ) (more skip g place left : ℕ) → left ≡ 0 → skip ≡ look_up skip g (items_at (run_more more) 6 s place left)
-look-end s more skip g place left e = ap (λ (k : ℕ). look_up skip g (items_at (run_more more) 6 s place k)) (sym e)
+pub look-end : (s : List ℕ) (g place left : ℕ) → left ≡ 0 → value_at g (items_at run_at 6 s place left) ≡ None
+look-end s g place left e = ap (λ (k : ℕ). value_at g (items_at run_at 6 s place k)) e
+
+-- ---- numbers, which are written less one
+
+pub number-at : (s : List ℕ) (g k p : ℕ) → value_at g (items_at number_run_at 6 s p k) ≡ option_map (λ v. v + 1) (value_at g (items_at run_at 6 s p k))
+number-at s g zero p = refl
+number-at s g (suc k) p = go (dec_le (u16_at s p) g) (dec_le g (u16_at s (p + 2))) (number-at s g k (p + 6))
+  where
+    go : (a : Dec (u16_at s p ≤ g)) (b : Dec (g ≤ u16_at s (p + 2)))
+        → value_at g (items_at number_run_at 6 s (p + 6) k) ≡ option_map (λ v. v + 1) (value_at g (items_at run_at 6 s (p + 6) k))
+        → ite a (ite b (Some (u16_at s (p + 4) + 1)) (value_at g (items_at number_run_at 6 s (p + 6) k))) None
+        ≡ option_map (λ v. v + 1) (ite a (ite b (Some (u16_at s (p + 4))) (value_at g (items_at run_at 6 s (p + 6) k))) None)
+    go (yes h) (yes i) ih = refl
+    go (yes h) (no i) ih = ih
+    go (no h) b ih = refl
 
 -- ---- items that stand in a section are those that it is written for
 

@@ -1,7 +1,8 @@
 -- Items passed one by one, and sections passed by their counts.
-use Prim.Native.Nat.{ℕ, suc, ◌+◌, ◌*◌, ◌≤◌, ◌<◌, ◌^◌}
-use mathlib.Core.Path.{◌≡◌, refl, sym, ap, ◌∙◌}
+use Prim.Native.Nat.{ℕ, zero, suc, ◌+◌, ◌*◌, ◌≤◌, ◌<◌, ◌^◌}
+use mathlib.Core.Path.{◌≡◌, refl, sym, ap, ◌∙◌, subst}
 use mathlib.Core.List.{List, [], ◌∷◌, ◌++◌, append_assoc}
+use mathlib.Core.Logic.{⊎_elim}
 use native.Mathlib.Omega.{arith}
 use native.Mathlib.Nat.{mul_comm}
 use lib.ListN.{length, drop, length-append, length-drop}
@@ -14,24 +15,24 @@ use Rattle.encoding.proofs.CodeLaws.{be32-free, be32-at, many-length}
 use Rattle.sheet_sections.specs.Section.{HasItems}
 use Rattle.meaning.specs.Sheet.{action_code}
 use Rattle.meaning.specs.Wide.{WideAction}
-use Rattle.sheet_seek.specs.Passes.{Passes, ItemsEnd, AtLeast, Reaches}
+use Rattle.sheet_seek.specs.Passes.{Passes, ItemsEnd, AtLeast, Reaches, Walks}
 
 -- what is left once k items are passed, the items standing at a place without their count
 abbrev pub Left : {A : Type 0} → (A → List ℕ) → (A → Type 0) → List ℕ → ℕ → ℕ → ℕ → Type 0
 Left code ok s k = Passes (many code) (λ xs. many code (drop k xs)) (AtLeast ok k) s
 
 module _ {A : Type 0} (code : A → List ℕ) (ok : A → Type 0) (s : List ℕ) where
-  pub left-none : (k place : ℕ) → k ≡ 0 → Left code ok s k place place
+  left-none : (k place : ℕ) → k ≡ 0 → Left code ok s k place place
   left-none k place e xs rest o h = h ∙ ap (λ (j : ℕ). many code (drop j xs) ++ rest) (sym e)
 
-  pub left-next : (k k' place place' q : ℕ) → k ≡ suc k' → Passes code (λ x. []) ok s place place' → Left code ok s k' place' q → Left code ok s k place q
+  left-next : (k k' place place' q : ℕ) → k ≡ suc k' → Passes code (λ x. []) ok s place place' → Left code ok s k' place' q → Left code ok s k place q
   left-next k k' place place' q e p h [] rest o g = absurd (omega (arith, o.0))
   left-next k k' place place' q e p h (x ∷ xs) rest o g =
       h xs rest (omega (arith, o.0), omega (arith, o.1), o.2.1) (p x (many code xs ++ rest) o.2.0 (g ∙ append_assoc (code x) (many code xs) rest))
       ∙ ap (λ (j : ℕ). many code (drop j (x ∷ xs)) ++ rest) (sym e)
 
   -- no item stands past the end
-  pub left-past : ((x : A) → 1 ≤ length (code x)) → (k place q : ℕ) → 0 < k → length s ≤ place → Left code ok s k place q
+  left-past : ((x : A) → 1 ≤ length (code x)) → (k place q : ℕ) → 0 < k → length s ≤ place → Left code ok s k place q
   left-past some k place q h l [] rest o g = absurd (omega (arith, o.0))
   left-past some k place q h l (x ∷ xs) rest o g =
       absurd (omega (arith, some x, ap length g, length-drop place s, length-append (code x ++ many code xs) rest, length-append (code x) (many code xs)))
@@ -45,11 +46,16 @@ module _ {A : Type 0} (code : A → List ℕ) (ok : A → Type 0) (s : List ℕ)
         let g = be32-free (u32_at s at) (length xs) (drop (at + 4) s) (many code xs ++ rest) (u32_at-fits s at bytes) l (sym (be32-at s bytes at room) ∙ e) in
         (room, g.0, g.1)
 
-    pub reached : (k q : ℕ) → Left code ok s k (at + 4) q → Reaches code ok k s at q
-    reached k q h xs rest o e = h xs rest o (opened xs rest o.1 e).2
-
-    pub unreached : (k q : ℕ) → (HasItems 0 s at → ⊥) → Reaches code ok k s at q
-    unreached k q h xs rest o e = absurd (h (omega (arith, (opened xs rest o.1 e).0)))
+    -- each step passes one item
+    pub walked : (step : ℕ → ℕ → Type 0) → ((p q : ℕ) → step p q → Passes code (λ x. []) ok s p q) → ((x : A) → 1 ≤ length (code x))
+        → (k q : ℕ) → (at + 4 ≤ length s → Walks step (length s) k (at + 4) q) → Reaches code ok k s at q
+    walked step each some k q h xs rest o e =
+        let t = opened xs rest o.1 e in
+        go k (at + 4) (h t.0) xs rest o t.2
+      where
+        go : (k p : ℕ) → Walks step (length s) k p q → Left code ok s k p q
+        go zero p h = subst (λ (r : ℕ). Left code ok s 0 p r) (sym h) (left-none 0 p refl)
+        go (suc k) p h = ⊎_elim (λ z. left-past some (suc k) p q (omega arith) z.0) (λ z. left-next (suc k) k p (z.0) q refl (each p (z.0) z.1) (go k (z.0) z.2)) h
 
     -- the count's own number is where the section ends
     pub reach-end : (k q : ℕ) → k ≡ u32_at s at → Reaches code ok k s at q
@@ -75,7 +81,7 @@ module _ {A : Type 0} (code : A → List ℕ) (ok : A → Type 0) (s : List ℕ)
 
 -- an action: four bytes, then a section of bytes
 module _ (s : List ℕ) (bytes : Bytes s) (at : ℕ) where
-  pub action-none : (q : ℕ) → (HasItems 0 s at → ⊥) → Passes action_code (λ x. []) WideAction s at q
+  pub action-none : (q : ℕ) → (at + 4 ≤ length s → ⊥) → Passes action_code (λ x. []) WideAction s at q
   action-none q h a rest o e =
       absurd (h (omega (arith, ap length e, length-drop at s, length-append (be16 a.class ++ be16 a.ty) (counted byte a.content ++ rest))))
 

@@ -1,6 +1,6 @@
 -- Passing over parts of a sheet (document 01, "The sheet"): sections stand one after the other, each after its count. A place is spoken of by what
 -- stands there, whatever follows.
-use Rattle.std.specs.Prelude.{ℕ, ◌+◌, ◌*◌, ◌≤◌, ◌<◌, ◌^◌, ◌≡◌, List, [], ◌++◌, length, drop}
+use Rattle.std.specs.Prelude.{ℕ, zero, suc, ◌⊎◌, ◌+◌, ◌*◌, ◌≤◌, ◌<◌, ◌^◌, ◌≡◌, List, [], ◌++◌, length, drop}
 use Rattle.std.proofs.Math.Option.{Option}
 use Rattle.fields.specs.Field.{u32_at}
 use Rattle.encoding.specs.Codes.{All, many, counted}
@@ -30,6 +30,11 @@ AtLeast ok k xs = (k ≤ length xs) × (length xs < 2 ^ 32) × All ok xs
 -- of the items after their count at a place, those from the number k on stand at q
 abbrev pub Reaches : {A : Type 0} → (A → List ℕ) → (A → Type 0) → ℕ → List ℕ → ℕ → ℕ → Type 0
 Reaches code ok k = Passes (counted code) (λ xs. many code (drop k xs)) (AtLeast ok k)
+
+-- k steps from p on, each to where the one before led, as long as that lies before the end: q is where they lead
+abbrev pub Walks : (ℕ → ℕ → Type 0) → ℕ → ℕ → ℕ → ℕ → Type 0
+Walks step end zero p q = q ≡ p
+Walks step end (suc k) p q = ((end ≤ p) × (q ≡ p)) ⊎ ((r : ℕ) × step p r × Walks step end k r q)
 
 -- what is valid by a count of glyphs, for some count
 abbrev pub ByGlyphs : {A : Type 0} → (ℕ → A → Type 0) → A → Type 0

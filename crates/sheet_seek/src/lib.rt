@@ -1,5 +1,6 @@
 // Where the parts of a sheet stand (document 01, "The sheet"): sections are passed over by their counts, clusters and
-// action lists one by one. Any bytes may be handed in; only of a sheet is it known what stands at the place.
+// action lists one by one. Any bytes may be handed in; only of a sheet is it known what stands at the place. Where nothing can be passed
+// the end of the bytes is told: an Option would be none for no sheet, and each caller would hand on what never comes.
 #![tactic(auto)]
 
 ghost use Rattle.std.specs.Prelude.{◌≡◌, [], ◌+◌, ◌*◌, ◌≤◌, ◌^◌, length};
@@ -7,9 +8,10 @@ ghost use Rattle.encoding.specs.Codes.{items_at};
 ghost use Rattle.meaning.specs.Limits.{OkMaybe, Valid};
 ghost use Rattle.meaning.specs.Sheet.{action_code, write, machine_bytes};
 ghost use Rattle.meaning.specs.Wide.{WideAction};
+ghost use Rattle.sheet_sections.specs.RunSection.{run_at};
 ghost use Rattle.sheet_items.specs.Items.{item_code, FewItem, pool_bytes, OkPool};
-ghost use Rattle.sheet_seek.specs.Passes.{Passes, ItemsEnd, Reaches, ByGlyphs, after_sizes, after_classes, side_on, items_on};
-ghost use Rattle.sheet_seek.specs.LookUp.{run_more, look_up, ValueIn};
+ghost use Rattle.sheet_seek.specs.Passes.{Passes, ItemsEnd, Reaches, Walks, ByGlyphs, after_sizes, after_classes, side_on, items_on};
+ghost use Rattle.sheet_seek.specs.LookUp.{value_at, ValueIn};
 
 use sheet_items::Sort;
 use types::Direction;
@@ -19,17 +21,36 @@ fn after_items(bytes: &[u8], at: usize, width: usize) -> usize
     requires { width ≤ 2 ^ 16 }
     ensures { ItemsEnd width bytes.now at result }
 {
-    if !sheet_sections::has_items(bytes, at, width) {
+    let Some(count) = sheet_sections::count_at(bytes, at, width) else {
+        return bytes.len();
+    };
+    at + 4 + width * count
+}
+
+// Where the item with a number begins, of those after their count at a position; `after` says where the item at a place ends.
+// No item is looked for past the end of the bytes.
+fn reach<F: Fn(usize) -> usize>(bytes: &[u8], at: usize, number: usize, after: F) -> usize
+    requires { F.IsAlwaysCallable after }
+    ensures { at + 4 ≤ length bytes.now → Walks (λ p q. F.post after p q) (length bytes.now) number (at + 4) result }
+{
+    if !sheet_sections::has_room(bytes, at, 4) {
         return bytes.len();
     }
-    at + 4 + width * fields::u32_at(bytes, at)
+    let mut place = at + 4;
+    for _ in 0..number {
+        if bytes.len() <= place {
+            return place;
+        }
+        place = after(place);
+    }
+    place
 }
 
 // Where an action ends: after its class and its type stands its data, bytes after their count.
 fn after_action(bytes: &[u8], at: usize) -> usize
     ensures { Passes action_code (λ x. []) WideAction bytes.now at result }
 {
-    if !sheet_sections::has_items(bytes, at, 0) {
+    if !sheet_sections::has_room(bytes, at, 4) {
         return bytes.len();
     }
     after_items(bytes, at + 4, 1)
@@ -39,19 +60,7 @@ fn after_action(bytes: &[u8], at: usize) -> usize
 pub fn action_place(bytes: &[u8], at: usize, number: usize) -> usize
     ensures { Reaches action_code WideAction number bytes.now at result }
 {
-    if !sheet_sections::has_items(bytes, at, 0) {
-        return bytes.len();
-    }
-    let mut place = at + 4;
-    let mut left = number;
-    while 0 < left {
-        if bytes.len() <= place {
-            return place;
-        }
-        place = after_action(bytes, place);
-        left -= 1;
-    }
-    place
+    reach(bytes, at, number, |place| after_action(bytes, place))
 }
 
 // Where a cluster, or a list of actions, ends.
@@ -69,19 +78,7 @@ fn after_item(bytes: &[u8], at: usize, sort: Sort) -> usize
 pub fn item_place(bytes: &[u8], at: usize, sort: Sort, number: usize) -> usize
     ensures { Reaches (item_code sort) (FewItem sort) number bytes.now at result }
 {
-    if !sheet_sections::has_items(bytes, at, 0) {
-        return bytes.len();
-    }
-    let mut place = at + 4;
-    let mut left = number;
-    while 0 < left {
-        if bytes.len() <= place {
-            return place;
-        }
-        place = after_item(bytes, place, sort);
-        left -= 1;
-    }
-    place
+    reach(bytes, at, number, |place| after_item(bytes, place, sort))
 }
 
 // Where sections 5 and 6 end, or 7 and 8: the items, and their runs.
@@ -139,35 +136,27 @@ pub fn items_at(bytes: &[u8], direction: Direction, sort: Sort) -> usize
     }
 }
 
-// Of `count` runs from a position on, the value of the one that a glyph is in, with `more` added; `skip` for a glyph in
-// none of them.
-fn look_up(bytes: &[u8], at: usize, count: usize, glyph: usize, more: usize, skip: usize) -> usize
-    requires { (at + 6 * count ≤ length bytes.now) × (more ≤ 1) }
-    ensures { result ≡ look_up skip glyph (items_at (run_more more) 6 bytes.now at count) }
+// Of `count` runs from a position on, the value of the one that a glyph is in.
+fn look_up(bytes: &[u8], at: usize, count: usize, glyph: usize) -> Option<usize>
+    requires { at + 6 * count ≤ length bytes.now }
+    ensures { result ≡ value_at glyph (items_at run_at 6 bytes.now at count) }
 {
-    let mut place = at;
-    let mut left = count;
-    while 0 < left {
+    for i in 0..count {
+        let place = at + 6 * i;
         if glyph < fields::u16_at(bytes, place) {
-            return skip;
+            return None;
         }
         if glyph <= fields::u16_at(bytes, place + 2) {
-            return fields::u16_at(bytes, place + 4) + more;
+            return Some(fields::u16_at(bytes, place + 4));
         }
-        place += 6;
-        left -= 1;
     }
-    skip
+    None
 }
 
-// The value of a glyph in the section of runs at a position, with `more` added: 1 for runs of numbers, which are
-// written less one. `skip` is the value of the glyphs that are in no run.
-pub fn value_of(bytes: &[u8], at: usize, glyph: usize, more: usize, skip: usize) -> usize
-    requires { more ≤ 1 }
-    ensures { ValueIn more skip bytes.now at glyph result }
+// The value of the run that a glyph is in, in the section of runs at a position.
+pub fn value_of(bytes: &[u8], at: usize, glyph: usize) -> Option<usize>
+    ensures { ValueIn bytes.now at glyph result }
 {
-    if !sheet_sections::has_items(bytes, at, 6) {
-        return skip;
-    }
-    look_up(bytes, at + 4, fields::u32_at(bytes, at), glyph, more, skip)
+    let count = sheet_sections::count_at(bytes, at, 6)?;
+    look_up(bytes, at + 4, count, glyph)
 }

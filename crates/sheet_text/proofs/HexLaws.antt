@@ -1,5 +1,5 @@
 -- What the code stores is what is to be printed: stores one after the other, a line's next byte, a sheet's next line.
-use Prim.Native.Nat.{ℕ, suc, ◌+◌, ◌-◌, ◌/◌, ◌%◌, ◌≤◌, ◌<◌, min}
+use Prim.Native.Nat.{ℕ, suc, ◌+◌, ◌-◌, ◌*◌, ◌/◌, ◌%◌, ◌≤◌, ◌<◌, min}
 use mathlib.Core.Path.{◌≡◌, refl, sym, ap, ap₂, ◌∙◌}
 use mathlib.Core.List.{List, [], ◌∷◌, ◌++◌}
 use native.Mathlib.Omega.{arith}
@@ -8,13 +8,10 @@ use native.Mathlib.Numerals.{add-one}
 use lib.ListN.{length, get_or, set, take, drop, length-append, length-drop, drop_of_length-le}
 use lib.Seq.{sets, sets-eq, drop-cons, drop-drop, take_all}
 use borrow.Author.Tests.{lt-ltb, le-ltb}
-use Rattle.fields.specs.declared.Refusal.{Refusal}
-use Rattle.fields.specs.declared.Refusal.TheVariants.{TableLength, GlyphCount, Version, Outside, BadLookup, BadCluster, BadMachine, BadActions, UnequalLengths, LongLine, PointSize, Advances, UnknownGlyph, EndlessWalk, StageTotal, ShortRoom, NotSheet, UnknownEdition, FontEnds, MissingTable, WrongSum}
-use Rattle.fields.specs.Refusals.{number_of}
 use Rattle.fields.specs.Stores.{put_two}
 use Rattle.sheet_text.specs.Printed.{newline, digit_of, hex_of, hex_line, per_line, printed_sheet, refused, decimal_of, printed_refusal}
 use Rattle.sheet_text.specs.Stored.{Stored, Printed}
-use Rattle.sheet_text.specs.Laws.{printed-none, printed-next, decimal-length}
+use Rattle.sheet_text.specs.Laws.{line-length, printed-none, printed-next, decimal-length}
 
 -- two stores side by side
 pub stored-two : (l : List ℕ) (at : ℕ) {a b a' b' : ℕ} → a ≡ a' → b ≡ b' → set (set l at a) (at + 1) b ≡ sets l at (a' ∷ b' ∷ [])
@@ -38,34 +35,36 @@ pub line-last : (bytes : List ℕ) (i : ℕ) → length bytes ≤ i → hex_line
 unfolding hex_line
 line-last bytes i h = ap hex_line (drop_of_length-le bytes h)
 
+-- how long a line is
+pub ruleset line_steps = (line-length)
+
 -- ---- a sheet
 
 pub sheet-last : (sheet : List ℕ) (from : ℕ) → length sheet ≤ from → printed_sheet (drop from sheet) ≡ []
 sheet-last sheet from h = printed-none (drop from sheet) (omega (arith, length-drop from sheet))
 
--- to take or to drop more than there is
-cut : (l : List ℕ) (n : ℕ) → (take (min n (length l)) l ≡ take n l) × (drop (min n (length l)) l ≡ drop n l)
+-- to take more than there is
+cut : (l : List ℕ) (n : ℕ) → take (min n (length l)) l ≡ take n l
 cut l n = go (dec_le n (length l))
   where
-    go : Dec (n ≤ length l) → (take (min n (length l)) l ≡ take n l) × (drop (min n (length l)) l ≡ drop n l)
-    go (yes p) =
-        let e : min n (length l) ≡ n = omega arith in
-        (ap (λ (k : ℕ). take k l) e, ap (λ (k : ℕ). drop k l) e)
+    go : Dec (n ≤ length l) → take (min n (length l)) l ≡ take n l
+    go (yes p) = let e : min n (length l) ≡ n = omega arith in ap (λ (k : ℕ). take k l) e
     go (no p) =
         let h : length l ≤ n = omega (arith, p) in
         let h' : length l ≤ min n (length l) = omega arith in
-        (take_all _ l h' ∙ sym (take_all n l h), drop_of_length-le l h' ∙ sym (drop_of_length-le l h))
+        take_all _ l h' ∙ sym (take_all n l h)
 
-pub sheet-next : (sheet : List ℕ) (from end : ℕ) → from < length sheet → end ≡ from + min per_line (length sheet - from)
-    → printed_sheet (drop from sheet) ≡ hex_line (take (end - from) (drop from sheet)) ++ printed_sheet (drop end sheet)
-sheet-next sheet from end h e =
+-- the line with a number, from 0 on
+pub sheet-next : (sheet : List ℕ) (k end : ℕ) → per_line * k < length sheet → end ≡ min (length sheet) (per_line * k + per_line)
+    → printed_sheet (drop (per_line * k) sheet) ≡ hex_line (take (end - per_line * k) (drop (per_line * k) sheet)) ++ printed_sheet (drop (per_line * (k + 1)) sheet)
+sheet-next sheet k end h e =
+    let from : ℕ = per_line * k in
     let l = drop from sheet in
     let len : length l ≡ length sheet - from = length-drop from sheet in
-    let k : min per_line (length l) ≡ end - from = omega arith in
-    let f : from + (end - from) ≡ end = omega arith in
-    let first : take per_line l ≡ take (end - from) l = sym (cut l per_line).0 ∙ ap (λ (n : ℕ). take n l) k in
-    let skip : drop (end - from) l ≡ drop end sheet = drop-drop (end - from) from sheet ∙ ap (λ (n : ℕ). drop n sheet) f in
-    let rest : drop per_line l ≡ drop end sheet = sym (cut l per_line).1 ∙ ap (λ (n : ℕ). drop n l) k ∙ skip in
+    let n : min per_line (length l) ≡ end - from = omega arith in
+    let next : from + per_line ≡ per_line * (k + 1) = omega arith in
+    let first : take per_line l ≡ take (end - from) l = sym (cut l per_line) ∙ ap (λ (m : ℕ). take m l) n in
+    let rest : drop per_line l ≡ drop (per_line * (k + 1)) sheet = drop-drop per_line from sheet ∙ ap (λ (m : ℕ). drop m sheet) next in
     printed-next l (omega arith) ∙ ap₂ (λ (a b : List ℕ). hex_line a ++ printed_sheet b) first rest
 
 -- ---- a refusal
@@ -92,26 +91,5 @@ stored-refusal n end l₀ l₁ l₂ h word number =
     (put_two (decimal_of n) last l₁ l₂ (set l₂ end newline) 8 end number.end number.bytes refl) in
     record { count = omega (arith, number.end); bytes = all ∙ stored-first (refused ++ (decimal_of n ++ last)) l₀ (omega arith) }
 
--- the numbers of the refusals are small
-pub number-most : (r : Refusal) → number_of r ≤ 23
-number-most TableLength = omega arith
-number-most GlyphCount = omega arith
-number-most Version = omega arith
-number-most Outside = omega arith
-number-most BadLookup = omega arith
-number-most BadCluster = omega arith
-number-most BadMachine = omega arith
-number-most BadActions = omega arith
-number-most UnequalLengths = omega arith
-number-most LongLine = omega arith
-number-most PointSize = omega arith
-number-most Advances = omega arith
-number-most UnknownGlyph = omega arith
-number-most EndlessWalk = omega arith
-number-most StageTotal = omega arith
-number-most ShortRoom = omega arith
-number-most NotSheet = omega arith
-number-most UnknownEdition = omega arith
-number-most FontEnds = omega arith
-number-most MissingTable = omega arith
-number-most WrongSum = omega arith
+-- how long a number is
+pub ruleset decimal_steps = (decimal-length)

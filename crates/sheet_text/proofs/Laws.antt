@@ -1,4 +1,7 @@
 -- The text by what the sheet's writer said and left in its room, and by the length of the input.
+use Rattle.std.specs.Prelude.{Result}
+use Rattle.fields.specs.declared.Fault.{Fault}
+use Rattle.std.specs.Prelude.{Ok, Err}
 use Prim.Native.Nat.{ℕ, ◌-◌, ◌≤◌, ◌<◌}
 use mathlib.Core.Path.{◌≡◌, refl, sym, ap, ap₂, subst, ◌∙◌}
 use mathlib.Core.Bool.{Bool, true, false, cond}
@@ -8,16 +11,14 @@ use lib.Dec.{leb}
 use lib.ListN.{length, take, drop, length-take, length-drop}
 use lib.Seq.{take_all, take-append_seam}
 use borrow.Author.Tests.{leb-true, lt-ltb, le-ltb}
-use Rattle.fields.specs.declared.Fault.{Fault}
-use Rattle.fields.specs.declared.Fault.TheVariants.{Clear, Bad}
+use Rattle.fields.specs.Faults.{FirstFault}
+use Rattle.fields.specs.Faults.{Clear, Bad}
 use Rattle.fields.specs.declared.Refusal.{Refusal}
 use Rattle.fields.specs.Field.{u16_at}
 use Rattle.fields.specs.Refusals.{number_of}
 use Rattle.table.specs.Table.{table_fault}
 use Rattle.sheet_text.specs.Printed.{printed_sheet, printed_refusal}
 use Rattle.sheet_text.specs.Laws.{printed-most}
-use Rattle.sheet_write.specs.declared.WriteAnswer.{WriteAnswer}
-use Rattle.sheet_write.specs.declared.WriteAnswer.TheVariants.{Written, Refused}
 use Rattle.sheet_write.specs.Written.{Said, refused, bytes, says_written, SheetOutcome, sheet_of, stored, written_by, written}
 use Rattle.sheet_text.specs.Text.{sheet_room, text_room, text_by, table_text, longest_input, program_text}
 
@@ -43,19 +44,19 @@ module _ (sheet room : List ℕ) (h : length room ≡ sheet_room) where
   outcome_fits true e = let l = leb-true (length sheet) (length room) e in omega arith
   outcome_fits false e = tt
 
-  by-text : (f : Fault) → text_said (written_by f sheet room).said (written_by f sheet room).room ≡ text_by f sheet
+  by-text : (f : FirstFault) → text_said (written_by f sheet room).said (written_by f sheet room).room ≡ text_by f sheet
   unfolding written_by stored text_by
-  by-text Clear =
+  by-text (Ok u) =
       outcome-text (leb (length sheet) (length room)) ∙ ap (λ (k : ℕ). cond (leb (length sheet) k) (printed_sheet sheet) (printed_refusal 16)) h
-  by-text (Bad r at) = refl
+  by-text (Err f) = refl
 
-  by_fits : (f : Fault) → Fits (written_by f sheet room).said
+  by_fits : (f : FirstFault) → Fits (written_by f sheet room).said
   unfolding written_by stored
-  by_fits Clear = outcome_fits (leb (length sheet) (length room)) refl
-  by_fits (Bad r at) = tt
+  by_fits (Ok u) = outcome_fits (leb (length sheet) (length room)) refl
+  by_fits (Err f) = tt
 
 -- by the writer's answer
-module _ (t : List ℕ) (n : ℕ) (room : List ℕ) (h : length room ≡ sheet_room) (answer : WriteAnswer) (after : List ℕ)
+module _ (t : List ℕ) (n : ℕ) (room : List ℕ) (h : length room ≡ sheet_room) (answer : Result ℕ Fault) (after : List ℕ)
     (e : record { said = says_written answer; room = after } ≡ written t n room) where
   said-text : text_said (says_written answer) after ≡ table_text t n
   unfolding written table_text
@@ -65,14 +66,14 @@ module _ (t : List ℕ) (n : ℕ) (room : List ℕ) (h : length room ≡ sheet_r
   unfolding written
   said_fits = subst Fits (sym (ap (λ (o : SheetOutcome). o.said) e)) (by_fits (sheet_of t n) room h (table_fault t n))
 
-  pub wrote-text : (k : ℕ) → answer ≡ Written k → printed_sheet (take k after) ≡ table_text t n
-  wrote-text k q = ap (λ (a : WriteAnswer). text_said (says_written a) after) (sym q) ∙ said-text
+  pub wrote-text : (k : ℕ) → answer ≡ Ok k → printed_sheet (take k after) ≡ table_text t n
+  wrote-text k q = ap (λ (a : Result ℕ Fault). text_said (says_written a) after) (sym q) ∙ said-text
 
-  pub wrote-fits : (k : ℕ) → answer ≡ Written k → k ≤ sheet_room
-  wrote-fits k q = subst (λ (a : WriteAnswer). Fits (says_written a)) q said_fits
+  pub wrote-fits : (k : ℕ) → answer ≡ Ok k → k ≤ sheet_room
+  wrote-fits k q = subst (λ (a : Result ℕ Fault). Fits (says_written a)) q said_fits
 
-  pub refused-text : (r : Refusal) (at : ℕ) → answer ≡ Refused r at → printed_refusal (number_of r) ≡ table_text t n
-  refused-text r at q = ap (λ (a : WriteAnswer). text_said (says_written a) after) (sym q) ∙ said-text
+  pub refused-text : (f : Fault) → answer ≡ Err f → printed_refusal (number_of f.refusal) ≡ table_text t n
+  refused-text f q = ap (λ (a : Result ℕ Fault). text_said (says_written a) after) (sym q) ∙ said-text
 
 -- the room for the text of a part of the sheet's room
 pub text-room : (n : ℕ) (room : List ℕ) → n ≤ sheet_room → length (printed_sheet (take n room)) ≤ text_room

@@ -4,7 +4,7 @@ use mathlib.Core.List.{◌∷◌, ◌++◌}
 use native.Mathlib.Omega.{arith}
 use lib.ListN.{replicate}
 use Rattle.fields.specs.Field.{u16_at}
-use Rattle.fields.specs.declared.Fault.TheVariants.{Clear}
+use Rattle.fields.specs.Faults.{Clear}
 use Rattle.table.specs.Table.{table_fault, Accepted}
 use Rattle.table_laws.specs.Samples.{bare_table}
 use Rattle.table_laws.proofs.Samples.{bare-accepted, bare-sheet}

@@ -1,8 +1,9 @@
 -- The text that the printing program writes (document 01, "Sample lines and tables", the passage on the program): a table's sheet in hex lines,
 -- or one line with the number of a refusal. It depends on the input alone.
+use Rattle.std.specs.Prelude.{Ok, Err}
 use Rattle.std.specs.Prelude.{ℕ, ◌+◌, ◌*◌, cond, ◌||◌, List, leb, ltb, length, drop}
-use Rattle.fields.specs.declared.Fault.{Fault}
-use Rattle.fields.specs.declared.Fault.TheVariants.{Clear, Bad}
+use Rattle.fields.specs.Faults.{FirstFault}
+use Rattle.fields.specs.Faults.{Clear, Bad}
 use Rattle.fields.specs.Field.{u16_at}
 use Rattle.fields.specs.Refusals.{number_of}
 use Rattle.table.specs.Table.{table_fault}
@@ -19,9 +20,9 @@ sheet_room = 65536
 abbrev pub text_room : ℕ
 text_room = 2 * sheet_room + line_count sheet_room
 
-unfoldable pub text_by : Fault → List ℕ → List ℕ
-text_by Clear sheet = cond (leb (length sheet) sheet_room) (printed_sheet sheet) (printed_refusal 16)
-text_by (Bad r at) sheet = printed_refusal (number_of r)
+unfoldable pub text_by : FirstFault → List ℕ → List ℕ
+text_by (Ok u) sheet = cond (leb (length sheet) sheet_room) (printed_sheet sheet) (printed_refusal 16)
+text_by (Err f) sheet = printed_refusal (number_of f.refusal)
 
 unfoldable pub table_text : List ℕ → ℕ → List ℕ
 table_text t n = text_by (table_fault t n) (sheet_of t n)

@@ -2,15 +2,14 @@
 // The text is put at the start of lent bytes, and the rest of them stays as it was.
 #![tactic(auto)]
 
-ghost use Rattle.std.specs.Prelude.{◌≡◌, ◌≤◌, ◌+◌, ◌-◌, ◌<◌, min, length};
+ghost use Rattle.std.specs.Prelude.{◌≡◌, ◌≤◌, ◌+◌, ◌<◌, length};
 ghost use Rattle.sheet_text.specs.Stored.{Printed, Stored};
 ghost use Rattle.sheet_text.specs.Text.{sheet_room, text_room, table_text, program_text};
 ghost use Rattle.std.proofs.lemmas.List.Edits.{sets};
 ghost use Rattle.fields.specs.Refusals.{number_of};
-ghost use Rattle.sheet_text.specs.Printed.{per_line, digit_of, hex_of, hex_line, decimal_of, printed_sheet, printed_refusal};
+ghost use Rattle.sheet_text.specs.Printed.{digit_of, hex_of, hex_line, decimal_of, printed_sheet, printed_refusal};
 
 use fields::Refusal;
-use sheet_write::WriteAnswer;
 
 // The text for a table and a glyph count; `room` is room for the sheet.
 fn print_table(table: &[u8], count: u32, room: &mut [u8], out: &mut [u8]) -> usize
@@ -18,11 +17,8 @@ fn print_table(table: &[u8], count: u32, room: &mut [u8], out: &mut [u8]) -> usi
     ensures { Printed (table_text table.now count) out.old out.new result }
 {
     match sheet_write::write_sheet(table, count, room) {
-        WriteAnswer::Written(length) => {
-            let end = length as usize;
-            print_sheet(&room[..end], out)
-        }
-        WriteAnswer::Refused { refusal, at: _ } => print_refusal(refusal, out),
+        Ok(length) => print_sheet(&room[..length as usize], out),
+        Err(fault) => print_refusal(fault.refusal, out),
     }
 }
 
@@ -46,7 +42,9 @@ pub fn print_input(input: &[u8], out: &mut [u8]) -> usize
 // The bytes of a full line.
 const PER_LINE: usize = 4;
 
-// A digit below 16 in ASCII.
+// A digit below 16 in ASCII. Digits are made by hand: a library stores them into a slice of the exact length, which each call
+// would have to cut out of the room.
+#[tactic(auto, unfolding(crate::specs::Printed::digit_of))]
 fn digit(number: u8) -> u8
     requires { number < 16 }
     ensures { result ≡ digit_of number }
@@ -68,31 +66,17 @@ fn put_hex(out: &mut [u8], at: usize, byte: u8)
 }
 
 // Stores a line of these bytes, and answers where it ends.
+#[tactic(auto, using(crate::proofs::HexLaws::line_steps))]
 fn put_line(bytes: &[u8], out: &mut [u8], at: usize) -> usize
     requires { at + length (hex_line bytes.now) ≤ length out.old }
     ensures { Stored (hex_line bytes.now) at out.old out.new result }
 {
-    let mut i = 0;
-    let mut to = at;
-    while i < bytes.len() {
-        put_hex(out, to, bytes[i]);
-        to += 2;
-        i += 1;
+    for (i, byte) in bytes.iter().enumerate() {
+        put_hex(out, at + 2 * i, *byte);
     }
-    out[to] = b'\n';
-    to + 1
-}
-
-// Where the line that begins at a byte of the sheet ends.
-fn line_end(from: usize, size: usize) -> usize
-    requires { from ≤ size }
-    ensures { result ≡ from + min per_line (size - from) }
-{
-    if size - from < PER_LINE {
-        size
-    } else {
-        from + PER_LINE
-    }
+    let end = at + 2 * bytes.len();
+    out[end] = b'\n';
+    end + 1
 }
 
 // Prints a sheet, and answers the length of the text.
@@ -100,12 +84,11 @@ pub fn print_sheet(sheet: &[u8], out: &mut [u8]) -> usize
     requires { length (printed_sheet sheet.now) ≤ length out.old }
     ensures { Printed (printed_sheet sheet.now) out.old out.new result }
 {
-    let mut from = 0;
     let mut at = 0;
-    while from < sheet.len() {
-        let end = line_end(from, sheet.len());
+    for k in 0..sheet.len().div_ceil(PER_LINE) {
+        let from = PER_LINE * k;
+        let end = sheet.len().min(from + PER_LINE);
         at = put_line(&sheet[from..end], out, at);
-        from = end;
     }
     at
 }
@@ -125,12 +108,13 @@ fn put_decimal(out: &mut [u8], at: usize, number: u8) -> usize
 }
 
 // Prints a refusal, and answers the length of the text.
+#[tactic(auto, using(crate::proofs::HexLaws::decimal_steps))]
 pub fn print_refusal(refusal: Refusal, out: &mut [u8]) -> usize
     requires { 11 ≤ length out.old }
     ensures { Printed (printed_refusal (number_of refusal)) out.old out.new result }
 {
     out[..8].copy_from_slice(b"refused ");
-    let end = put_decimal(out, 8, fields::number_of(refusal) as u8);
+    let end = put_decimal(out, 8, u32::from(refusal) as u8);
     out[end] = b'\n';
     end + 1
 }

@@ -1,41 +1,26 @@
 // The sheet of a table (document 01, "The sheet"): its length, and writing it into lent bytes. Its length is known
 // before a byte is stored into them, so that refusal 16 changes nothing.
-#![tactic(auto)]
+#![tactic(auto, unfolding(crate::specs::Written::sheet_length, crate::specs::Written::written, crate::specs::Written::written_by))]
 
 ghost use Rattle.std.specs.Prelude.{◌≡◌, ◌++◌, ◌≤◌, ◌<◌, ◌^◌, length, take, drop};
 ghost use Rattle.std.proofs.lemmas.List.Edits.{sets};
 ghost use Rattle.std.proofs.Math.Seq.{slice};
-ghost use Rattle.fields.specs.declared.Fault.TheVariants.{Clear};
+ghost use Rattle.fields.specs.Faults.{Clear};
 ghost use Rattle.table.specs.Table.{table_fault};
 ghost use Rattle.sheet_write.specs.Written.{sheet_of, says_length, says_written, sheet_length, SheetOutcome, stored, written, Draft};
 
 use fields::{Fault, Refusal};
 use types::Direction;
 
-// How long the sheet is, in bytes.
-#[derive(Clone, Copy)]
-pub enum LengthAnswer {
-    Length(u32),
-    Refused { refusal: Refusal, at: usize },
-}
-
-// How many bytes were written.
-#[derive(Clone, Copy)]
-pub enum WriteAnswer {
-    Written(u32),
-    Refused { refusal: Refusal, at: usize },
-}
-
 // Stores the bytes that stand from `from` to `end` once more, after them; what would stand past the room is dropped.
 fn put_copy(room: &mut [u8], from: usize, end: usize)
     requires { from ≤ end }
     ensures { room.new ≡ sets room.old end (slice from end room.old) }
 {
-    let count = fields::lower(end - from, fields::less(room.len(), end));
-    let mut i: usize = 0;
-    while i < count {
-        room[end + i] = room[from + i];
-        i += 1;
+    if end < room.len() {
+        let (stored, free) = room.split_at_mut(end);
+        let count = (end - from).min(free.len());
+        free[..count].copy_from_slice(&stored[from..from + count]);
     }
 }
 
@@ -62,8 +47,7 @@ fn length_accepted(table: &[u8], glyphs: usize) -> usize
     requires { table_fault table.now glyphs ≡ Clear }
     ensures { (result ≡ length (sheet_of table.now glyphs)) × (result < 2 ^ 32) }
 {
-    let mut none = [0u8; 0];
-    put_sheet(table, glyphs, &mut none)
+    put_sheet(table, glyphs, &mut [])
 }
 
 // Stores the first `count` bytes of a list from the start of the room on.
@@ -71,16 +55,13 @@ fn copy_front(bytes: &[u8], count: usize, room: &mut [u8])
     requires { (count ≤ length bytes.now) × (count ≤ length room.old) }
     ensures { room.new ≡ take count bytes.now ++ drop count room.old }
 {
-    let mut i: usize = 0;
-    while i < count {
-        room[i] = bytes[i];
-        i += 1;
-    }
+    room[..count].copy_from_slice(&bytes[..count]);
 }
 
 // Stores the sheet, which is `size` bytes long, into a room that is long enough: from the draft, if it fits there.
+#[tactic(auto, using(crate::proofs::Laws::by_draft))]
 fn put_sized(table: &[u8], glyphs: usize, draft: &[u8], size: usize, room: &mut [u8])
-    requires glyphs_value { (table_fault table.now glyphs ≡ Clear) × ((size ≡ length (sheet_of table.now glyphs)) × (size ≤ length room.old)) }
+    requires sheet { (table_fault table.now glyphs ≡ Clear) × ((size ≡ length (sheet_of table.now glyphs)) × (size ≤ length room.old)) }
     requires draft { Draft (sheet_of table.now glyphs) draft.now }
     ensures { room.new ≡ sheet_of table.now glyphs ++ drop size room.old }
 {
@@ -93,67 +74,55 @@ fn put_sized(table: &[u8], glyphs: usize, draft: &[u8], size: usize, room: &mut 
 
 // Writes the sheet of an accepted table where the room is long enough. It is stored into `draft` first, which tells its
 // length before a byte of the room is changed.
-fn write_by(table: &[u8], glyphs: usize, draft: &mut [u8], room: &mut [u8]) -> WriteAnswer
+#[tactic(auto, using(crate::proofs::Laws::by_draft))]
+fn write_by(table: &[u8], glyphs: usize, draft: &mut [u8], room: &mut [u8]) -> Result<u32, Fault>
     requires { table_fault table.now glyphs ≡ Clear }
     ensures { record { said = says_written result; room = room.new } ≡ stored (sheet_of table.now glyphs) room.old }
 {
     let size = put_sheet(table, glyphs, draft);
     if room.len() < size {
-        return WriteAnswer::Refused {
+        return Err(Fault {
             refusal: Refusal::ShortRoom,
             at: 0,
-        };
+        });
     }
     put_sized(table, glyphs, draft, size, room);
-    WriteAnswer::Written(size as u32)
+    Ok(size as u32)
 }
 
-// With a draft for most sheets of small tables.
-fn write_small(table: &[u8], glyphs: usize, room: &mut [u8]) -> WriteAnswer
-    requires { table_fault table.now glyphs ≡ Clear }
+// With a draft of this many bytes. A sheet that is longer is numbered twice, once to learn its length and once to store it.
+#[inline(never)]
+fn write_sized<const DRAFT: usize>(
+    table: &[u8],
+    glyphs: usize,
+    room: &mut [u8],
+) -> Result<u32, Fault>
+    requires sound { table_fault table.now glyphs ≡ Clear }
+    requires few { DRAFT < 2 ^ 32 }
     ensures { record { said = says_written result; room = room.new } ≡ stored (sheet_of table.now glyphs) room.old }
 {
-    let mut draft = [0u8; 1024];
-    write_by(table, glyphs, &mut draft, room)
+    write_by(table, glyphs, &mut [0u8; DRAFT], room)
 }
 
-// With a draft for most sheets.
-fn write_drafted(table: &[u8], glyphs: usize, room: &mut [u8]) -> WriteAnswer
-    requires { table_fault table.now glyphs ≡ Clear }
-    ensures { record { said = says_written result; room = room.new } ≡ stored (sheet_of table.now glyphs) room.old }
-{
-    let mut draft = [0u8; 32768];
-    write_by(table, glyphs, &mut draft, room)
-}
-
-// With a draft for long sheets. One that is longer yet is numbered twice, once to learn its length and once to store it.
-fn write_long(table: &[u8], glyphs: usize, room: &mut [u8]) -> WriteAnswer
-    requires { table_fault table.now glyphs ≡ Clear }
-    ensures { record { said = says_written result; room = room.new } ≡ stored (sheet_of table.now glyphs) room.old }
-{
-    let mut draft = [0u8; 163840];
-    write_by(table, glyphs, &mut draft, room)
-}
-
-// With the shorter draft if that holds `most` bytes, what is expected of the sheet.
-fn write_large(table: &[u8], glyphs: usize, most: usize, room: &mut [u8]) -> WriteAnswer
+// With a draft for most sheets if that holds `most` bytes, what is expected of the sheet, else with one for long sheets.
+fn write_large(table: &[u8], glyphs: usize, most: usize, room: &mut [u8]) -> Result<u32, Fault>
     requires { table_fault table.now glyphs ≡ Clear }
     ensures { record { said = says_written result; room = room.new } ≡ stored (sheet_of table.now glyphs) room.old }
 {
     if most <= 32768 {
-        return write_drafted(table, glyphs, room);
+        return write_sized::<32768>(table, glyphs, room);
     }
-    write_long(table, glyphs, room)
+    write_sized::<163840>(table, glyphs, room)
 }
 
 // With a draft by what is expected of the sheet: few have eight times as many bytes as their table, and one that is longer than
-// the room is refused.
-fn write_accepted(table: &[u8], glyphs: usize, room: &mut [u8]) -> WriteAnswer
+// the room is refused. The smallest is for most sheets of small tables.
+fn write_accepted(table: &[u8], glyphs: usize, room: &mut [u8]) -> Result<u32, Fault>
     requires { table_fault table.now glyphs ≡ Clear }
     ensures { record { said = says_written result; room = room.new } ≡ stored (sheet_of table.now glyphs) room.old }
 {
     if table.len() <= 512 {
-        return write_small(table, glyphs, room);
+        return write_sized::<1024>(table, glyphs, room);
     }
     if table.len() <= 4096 {
         return write_large(table, glyphs, 8 * table.len(), room);
@@ -162,24 +131,17 @@ fn write_accepted(table: &[u8], glyphs: usize, room: &mut [u8]) -> WriteAnswer
 }
 
 // Writes a table's sheet into the first bytes of the room, or answers a refusal and changes nothing.
-pub fn write_sheet(table: &[u8], count: u32, room: &mut [u8]) -> WriteAnswer
+pub fn write_sheet(table: &[u8], count: u32, room: &mut [u8]) -> Result<u32, Fault>
     ensures { record { said = says_written result; room = room.new } ≡ written table.now count room.old }
 {
-    let fault = table::table_fault(table, count);
-    if let Fault::Bad { refusal, at } = fault {
-        return WriteAnswer::Refused { refusal, at };
-    }
+    table::table_fault(table, count)?;
     write_accepted(table, count as usize, room)
 }
 
 // The length of a table's sheet, without writing it, or the table's refusal.
-pub fn sheet_length(table: &[u8], count: u32) -> LengthAnswer
+pub fn sheet_length(table: &[u8], count: u32) -> Result<u32, Fault>
     ensures { says_length result ≡ sheet_length table.now count }
 {
-    let fault = table::table_fault(table, count);
-    if let Fault::Bad { refusal, at } = fault {
-        return LengthAnswer::Refused { refusal, at };
-    }
-    let length = length_accepted(table, count as usize) as u32;
-    LengthAnswer::Length(length)
+    table::table_fault(table, count)?;
+    Ok(length_accepted(table, count as usize) as u32)
 }

@@ -1,4 +1,6 @@
 -- Laws of a table's faults, for the proofs of the functions and for callers.
+use Rattle.lookup_targets.specs.Values.{from_lookup}
+use Rattle.std.specs.Prelude.{None}
 use Prim.Native.Nat.{ℕ, ◌≤◌}
 use mathlib.Core.Path.{◌≡◌, refl, sym, ap, ◌∙◌}
 use mathlib.Core.Bool.{Bool, true, false, cond}
@@ -7,24 +9,23 @@ use native.Mathlib.Decide.{ℕ_discrete}
 use lib.Dec.{eqb}
 use lib.ListN.{length}
 use borrow.Author.Tests.{eq-eqb, ne_eqb, leb-true}
-use Rattle.fields.specs.declared.Fault.{Fault}
-use Rattle.fields.specs.declared.Fault.TheVariants.{Clear}
+use Rattle.fields.specs.Faults.{FirstFault}
+use Rattle.fields.specs.Faults.{Clear}
 use Rattle.fields.specs.declared.Refusal.TheVariants.{TableLength, GlyphCount}
 use Rattle.fields.proofs.Laws.{then-first, then-second, rule-holds}
 use Rattle.types.specs.declared.Direction.{Direction}
 use Rattle.types.specs.declared.Direction.TheVariants.{Horizontal, Vertical}
 use Rattle.lookup_targets.specs.declared.Kind.{Kind}
 use Rattle.lookup_targets.specs.declared.Kind.TheVariants.{Clusters, Lists}
-use Rattle.lookup_targets.specs.declared.Source.TheVariants.{Lookup, Absent}
 use Rattle.lookup_targets.specs.Values.{values_fault, source_fault}
 use Rattle.table.specs.Table.{direction_at, machine_offset, action_offset, machine_place, source_there, source_at, present, header_fault, machine_part, action_part, direction_fault, table_fault}
 
 -- a part that is absent, and one that is there
-pub present-none : (at : ℕ) (f : Fault) → at ≡ 0 → present at f ≡ Clear
+pub present-none : (at : ℕ) (f : FirstFault) → at ≡ 0 → present at f ≡ Clear
 unfolding present
 present-none at f e = simp (eq-eqb at 0 e)
 
-pub present-some : (at : ℕ) (f : Fault) → (at ≡ 0 → ⊥) → present at f ≡ f
+pub present-some : (at : ℕ) (f : FirstFault) → (at ≡ 0 → ⊥) → present at f ≡ f
 unfolding present
 present-some at f n = simp (ne_eqb at 0 n)
 
@@ -39,7 +40,7 @@ module _ (t : List ℕ) (at : ℕ) where
   unfolding machine_place
   place-some e = simp (ne_eqb at 0 e)
 
-  pub source-none : (kind : Kind) → at ≡ 0 → source_at t at kind ≡ Absent
+  pub source-none : (kind : Kind) → at ≡ 0 → source_at t at kind ≡ None
   unfolding source_at
   source-none kind e = simp (eq-eqb at 0 e)
 
@@ -56,7 +57,7 @@ module _ (t : List ℕ) (at : ℕ) where
         off : ℕ
         off = action_offset t at
 
-        go : (b : Bool) → source_fault t n Lists (cond b Absent (Lookup off off)) ≡ cond b Clear (values_fault t n Lists off off)
+        go : (b : Bool) → source_fault t n Lists (cond b None (from_lookup off off)) ≡ cond b Clear (values_fault t n Lists off off)
         go true = refl
         go false = refl
 

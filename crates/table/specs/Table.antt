@@ -1,8 +1,10 @@
 -- The first fault of a table read with a glyph count (document 01, "Numbers of refusal", 1 to 8 and their order): the header's refusals by number, then each
 -- direction, horizontal first: its three offsets, the machine, the width lookup and the clusters by glyph, the action lookup and the lists by glyph.
+use Rattle.lookup_targets.specs.Values.{from_lookup}
+use Rattle.std.specs.Prelude.{None, Option}
 use Rattle.std.specs.Prelude.{ℕ, ◌+◌, cond, ◌≡◌, List, length, leb, eqb}
-use Rattle.fields.specs.declared.Fault.{Fault}
-use Rattle.fields.specs.declared.Fault.TheVariants.{Clear}
+use Rattle.fields.specs.Faults.{FirstFault}
+use Rattle.fields.specs.Faults.{Clear}
 use Rattle.fields.specs.declared.Refusal.TheVariants.{TableLength, GlyphCount, Version}
 use Rattle.fields.specs.Field.{u16_at, u32_at}
 use Rattle.fields.specs.Faults.{◌then◌, rule, inside}
@@ -12,15 +14,14 @@ use Rattle.types.specs.declared.Direction.TheVariants.{Horizontal, Vertical}
 use Rattle.lookup_targets.specs.declared.Kind.{Kind}
 use Rattle.lookup_targets.specs.declared.Kind.TheVariants.{Clusters, Lists}
 use Rattle.lookup_targets.specs.declared.Source.{Source}
-use Rattle.lookup_targets.specs.declared.Source.TheVariants.{Lookup, Absent}
 use Rattle.lookup_targets.specs.Values.{values_fault}
 
 -- a part at offset 0 is absent, and has no fault
-unfoldable pub present : ℕ → Fault → Fault
+unfoldable pub present : ℕ → FirstFault → FirstFault
 present at fault = cond (eqb at 0) Clear fault
 
 -- length, glyph count, version and format
-unfoldable pub header_fault : List ℕ → ℕ → Fault
+unfoldable pub header_fault : List ℕ → ℕ → FirstFault
 header_fault t n =
     rule (leb 10 (length t)) TableLength 0
     then rule (leb (length t) 32768) TableLength 0
@@ -52,30 +53,30 @@ unfoldable pub machine_place : List ℕ → ℕ → ℕ
 machine_place t at = cond (eqb at 0) 0 (machine_offset t at)
 
 -- an action lookup stands at the offset that its values count from; offset 0 is no lookup
-abbrev pub list_source : ℕ → Source
-list_source offset = cond (eqb offset 0) Absent (Lookup offset offset)
+abbrev pub list_source : ℕ → Option Source
+list_source offset = cond (eqb offset 0) None (from_lookup offset offset)
 
 -- where the clusters, and the lists, of a direction that is there come from
-abbrev pub source_there : List ℕ → ℕ → Kind → Source
-source_there t at Clusters = Lookup (width_lookup at) (width_offset t at)
+abbrev pub source_there : List ℕ → ℕ → Kind → Option Source
+source_there t at Clusters = from_lookup (width_lookup at) (width_offset t at)
 source_there t at Lists = list_source (action_offset t at)
 
 -- where those of the direction at `at` come from
-unfoldable pub source_at : List ℕ → ℕ → Kind → Source
-source_at t at kind = cond (eqb at 0) Absent (source_there t at kind)
+unfoldable pub source_at : List ℕ → ℕ → Kind → Option Source
+source_at t at kind = cond (eqb at 0) None (source_there t at kind)
 
-unfoldable pub offsets_fault : List ℕ → ℕ → Fault
+unfoldable pub offsets_fault : List ℕ → ℕ → FirstFault
 offsets_fault t at = inside t at 2 then inside t (at + 2) 2 then inside t (at + 4) 2
 
 -- a machine's own fields stand 8 bytes past its offset
-unfoldable pub machine_part : List ℕ → ℕ → ℕ → Fault
+unfoldable pub machine_part : List ℕ → ℕ → ℕ → FirstFault
 machine_part t n offset = present offset (machine_fault t n (offset + 8))
 
 -- an action lookup stands at the offset that its values count from
-unfoldable pub action_part : List ℕ → ℕ → ℕ → Fault
+unfoldable pub action_part : List ℕ → ℕ → ℕ → FirstFault
 action_part t n offset = present offset (values_fault t n Lists offset offset)
 
-unfoldable pub direction_fault : List ℕ → ℕ → ℕ → Fault
+unfoldable pub direction_fault : List ℕ → ℕ → ℕ → FirstFault
 direction_fault t n at =
     present at
     (offsets_fault t at
@@ -83,7 +84,7 @@ direction_fault t n at =
     then values_fault t n Clusters (width_lookup at) (width_offset t at)
     then action_part t n (action_offset t at))
 
-unfoldable pub table_fault : List ℕ → ℕ → Fault
+unfoldable pub table_fault : List ℕ → ℕ → FirstFault
 table_fault t n = header_fault t n then direction_fault t n (direction_at t Horizontal) then direction_fault t n (direction_at t Vertical)
 
 -- a table is accepted with N when no refusal from 1 to 8 bars it

@@ -1,4 +1,6 @@
 -- What is read at the places of specs/Places.antt is what the table's meaning answers: a law for each outcome of each part.
+use Rattle.lookup_targets.specs.Values.{from_lookup}
+use Rattle.std.specs.Prelude.{None, Option, Some}
 use Prim.Native.Nat.{ℕ, zero, suc, ◌+◌, ◌*◌, ◌≤◌, ◌<◌}
 use mathlib.Core.Path.{◌≡◌, refl, sym, ap, ◌∙◌}
 use mathlib.Core.Bool.{Bool, true, false, cond, ◌&&◌}
@@ -19,13 +21,10 @@ use Rattle.meaning.specs.Ask.{Part, sizes, class, cell, width, action, along, An
 use Rattle.machine.specs.Cells.{class_count, class_at, cell_at}
 use Rattle.machine.specs.Rows.{row_count}
 use Rattle.lookup.specs.Find.{value_of}
-use Rattle.actions.specs.declared.Spot.{Spot}
-use Rattle.actions.specs.declared.Spot.TheVariants.{At, Nowhere}
 use Rattle.actions.specs.Actions.{spot_in_list}
 use Rattle.actions.proofs.Laws.{place_at, place_none}
 use Rattle.lookup_targets.specs.declared.Kind.{Kind}
 use Rattle.lookup_targets.specs.declared.Kind.TheVariants.{Clusters, Lists}
-use Rattle.lookup_targets.specs.declared.Source.TheVariants.{Lookup, Absent}
 use Rattle.lookup_targets.specs.Values.{spot_of, cluster_here, list_here, cluster_of, list_of}
 use Rattle.table.specs.Table.{direction_at, machine_offset, width_offset, action_offset, width_lookup, machine_place, source_at}
 use Rattle.table.specs.Means.{cell_by, machine_at, machine_of, lists_of, side_at, direction_of, meaning_of}
@@ -43,7 +42,7 @@ get_or-none {A} n g = go n g
     go (suc m) (suc k) = go m k
 
 -- a glyph past N has no value, so what it would have is nothing
-pub value-past : (t : List ℕ) (n at g : ℕ) → n ≤ g → (k : Kind) (base : ℕ) → spot_of k base (value_of t n at g) ≡ Nowhere
+pub value-past : (t : List ℕ) (n at g : ℕ) → n ≤ g → (k : Kind) (base : ℕ) → spot_of k base (value_of t n at g) ≡ None
 unfolding value_of
 value-past t n at g h k base = simp (le-ltb g n h)
 
@@ -181,7 +180,7 @@ module _ (t : List ℕ) (n : ℕ) (d : Direction) where
     clusters-are = go (eqb (direction_at t d) 0)
       where
         go : (b : Bool) → get_or (cond b (empty_side n) (side_at t n (direction_at t d))).clusters g []
-            ≡ cluster_here t (spot_by t n Clusters (headed t (cond b Absent (Lookup (width_lookup (direction_at t d)) (width_offset t (direction_at t d))))) g)
+            ≡ cluster_here t (spot_by t n Clusters (headed t (cond b None (from_lookup (width_lookup (direction_at t d)) (width_offset t (direction_at t d))))) g)
         go true = get_or-none n g
         go false = cluster-of t n (width_lookup (direction_at t d)) (width_offset t (direction_at t d)) g
 
@@ -192,30 +191,30 @@ module _ (t : List ℕ) (n : ℕ) (d : Direction) where
         off : ℕ
         off = action_offset t (direction_at t d)
 
-        by-offset : (b : Bool) → get_or (cond b (replicate n []) (upto (list_of t n off off) n)) g [] ≡ list_here t (spot_by t n Lists (headed t (cond b Absent (Lookup off off))) g)
+        by-offset : (b : Bool) → get_or (cond b (replicate n []) (upto (list_of t n off off) n)) g [] ≡ list_here t (spot_by t n Lists (headed t (cond b None (from_lookup off off))) g)
         by-offset true = get_or-none n g
         by-offset false = list-of t n off off g
 
         by-direction : (b : Bool) → get_or (cond b (empty_side n) (side_at t n (direction_at t d))).lists g []
-            ≡ list_here t (spot_by t n Lists (headed t (cond b Absent (cond (eqb off 0) Absent (Lookup off off)))) g)
+            ≡ list_here t (spot_by t n Lists (headed t (cond b None (cond (eqb off 0) None (from_lookup off off)))) g)
         by-direction true = get_or-none n g
         by-direction false = by-offset (eqb off 0)
 
     -- `s` is the place as it was found
-    pub record-here : (c : ℕ) (s : Spot) → s ≡ spot_in t n d Clusters g → maybe pair (record_of c (cluster_here t s)) ≡ ask (meaning_of t n) (along d (width g c))
+    pub record-here : (c : ℕ) (s : Option ℕ) → s ≡ spot_in t n d Clusters g → maybe pair (record_of c (cluster_here t s)) ≡ ask (meaning_of t n) (along d (width g c))
     unfolding ask_side
     record-here c s e = sym (asked (width g c) ∙ ap (λ (l : List Pair). maybe pair (record_of c l)) (clusters-are ∙ ap (cluster_here t) (sym e)))
 
-    pub action-here : (k : ℕ) (s : Spot) → s ≡ action_spot t n d g k → action_here t s ≡ ask (meaning_of t n) (along d (action g k))
+    pub action-here : (k : ℕ) (s : Option ℕ) → s ≡ action_spot t n d g k → action_here t s ≡ ask (meaning_of t n) (along d (action g k))
     unfolding ask_side action_spot
     action-here k s e =
         ap (action_here t) e
         ∙ sym (asked (action g k) ∙ ap (λ (l : List Action). maybe act (get_elem? l k)) lists-are ∙ by-spot (spot_in t n d Lists g))
       where
-        by_place : (p : ℕ) (s : Spot) → spot_in_list t p k ≡ s → maybe act (get_elem? (list_here t (At p)) k) ≡ action_here t s
-        by_place p (At q) e = ap (maybe act) (place_at t p k q e)
-        by_place p Nowhere e = ap (maybe act) (place_none t p k e)
+        by_place : (p : ℕ) (s : Option ℕ) → spot_in_list t p k ≡ s → maybe act (get_elem? (list_here t (Some p)) k) ≡ action_here t s
+        by_place p (Some q) e = ap (maybe act) (place_at t p k q e)
+        by_place p None e = ap (maybe act) (place_none t p k e)
 
-        by-spot : (s : Spot) → maybe act (get_elem? (list_here t s) k) ≡ action_here t (numbered t k s)
-        by-spot (At p) = by_place p (spot_in_list t p k) refl
-        by-spot Nowhere = refl
+        by-spot : (s : Option ℕ) → maybe act (get_elem? (list_here t s) k) ≡ action_here t (numbered t k s)
+        by-spot (Some p) = by_place p (spot_in_list t p k) refl
+        by-spot None = refl

@@ -1,5 +1,8 @@
 -- What holds of an accepted table's actions and component lists: each action that is found keeps the limits, so it is handed out whole; a component list lies inside the
 -- table and is what the meaning has of it.
+use Rattle.lookup_targets.specs.Values.{from_lookup}
+use Rattle.std.specs.Prelude.{None, Option, Some, Ok, Err}
+use Rattle.std.specs.Prelude.{Ok, Err}
 use Prim.Native.Nat.{ℕ, ◌+◌, ◌*◌, ◌≤◌, ◌<◌}
 use mathlib.Core.Path.{◌≡◌, refl, sym, ap, ◌∙◌}
 use mathlib.Core.Bool.{Bool, true, false, cond}
@@ -9,18 +12,16 @@ use native.Mathlib.Decide.{dec_lt}
 use lib.Dec.{eqb}
 use lib.ListN.{length, drop}
 use borrow.Author.Tests.{eqb-true, eqb-false}
-use Rattle.fields.specs.declared.Fault.{Fault}
-use Rattle.fields.specs.declared.Fault.TheVariants.{Clear, Bad}
+use Rattle.fields.specs.Faults.{FirstFault}
+use Rattle.fields.specs.Faults.{Clear, Bad}
 use Rattle.fields.specs.Field.{u16_at, Bytes}
 use Rattle.fields.proofs.Walk.{walk-each}
 use Rattle.fields.proofs.Laws.{then-second}
 use Rattle.types.specs.declared.Direction.{Direction}
 use Rattle.meaning.specs.Ask.{Answer, action, along, act, ask}
-use Rattle.answers.specs.declared.ActionAnswer.{ActionAnswer}
-use Rattle.answers.specs.Says.{given, unless_bad, says_action, room_after}
+use Rattle.types.specs.declared.HeldAction.{HeldAction}
+use Rattle.answers.specs.Says.{given, unless_bad, says_action, room_of, room_after}
 use Rattle.lookup.specs.Find.{value_of}
-use Rattle.actions.specs.declared.Spot.{Spot}
-use Rattle.actions.specs.declared.Spot.TheVariants.{At, Nowhere}
 use Rattle.actions.specs.declared.Stretch.{Stretch}
 use Rattle.actions.specs.Faults.{list_fault, action_fault}
 use Rattle.actions.specs.Actions.{action_at}
@@ -29,7 +30,6 @@ use Rattle.actions.proofs.Steps.{components-none}
 use Rattle.lookup_targets.specs.declared.Kind.{Kind}
 use Rattle.lookup_targets.specs.declared.Kind.TheVariants.{Lists}
 use Rattle.lookup_targets.specs.declared.Source.{Source}
-use Rattle.lookup_targets.specs.declared.Source.TheVariants.{Lookup, Absent}
 use Rattle.lookup_targets.specs.Values.{spot_of, spot_fault, target_fault, values_fault, source_fault}
 use Rattle.table.specs.Table.{direction_at, source_at, table_fault}
 use Rattle.table.proofs.Laws.{direction-clear, source_clear}
@@ -40,12 +40,12 @@ use Rattle.table_ask.proofs.Steps.{judged}
 use Rattle.table_ask.proofs.Asked.{value-past, action-here}
 
 -- what a glyph's value leads to is without fault where the lookup's part is
-value-clear : (t : List ℕ) (n : ℕ) (kind : Kind) (at base g q : ℕ) → values_fault t n kind at base ≡ Clear → spot_of kind base (value_of t n at g) ≡ At q
-    → spot_fault t n kind (At q) ≡ Clear
+value-clear : (t : List ℕ) (n : ℕ) (kind : Kind) (at base g q : ℕ) → values_fault t n kind at base ≡ Clear → spot_of kind base (value_of t n at g) ≡ Some q
+    → spot_fault t n kind (Some q) ≡ Clear
 unfolding values_fault target_fault
 value-clear t n kind at base g q e f = go (dec_lt g n)
   where
-    go : Dec (g < n) → spot_fault t n kind (At q) ≡ Clear
+    go : Dec (g < n) → spot_fault t n kind (Some q) ≡ Clear
     go (yes h) =
         let z : 0 + 1 * g ≡ g = omega arith in
         ap (spot_fault t n kind) (sym f)
@@ -55,38 +55,38 @@ value-clear t n kind at base g q e f = go (dec_lt g n)
 
 module _ (t : List ℕ) (n : ℕ) (d : Direction) (ok : table_fault t n ≡ Clear) where
   -- a glyph's list is without fault
-  pub list-clear : (g q : ℕ) → spot_in t n d Lists g ≡ At q → list_fault t n q ≡ Clear
+  pub list-clear : (g q : ℕ) → spot_in t n d Lists g ≡ Some q → list_fault t n q ≡ Clear
   unfolding spot_in lookup_in
   list-clear g q e = go (source_at t (direction_at t d) Lists) (source_clear t (direction_at t d) n (direction-clear t n ok d) Lists) e
     where
-      go : (s : Source) → source_fault t n Lists s ≡ Clear → spot_by t n Lists (headed t s) g ≡ At q → list_fault t n q ≡ Clear
-      go (Lookup at base) f e = value-clear t n Lists at base g q f e
-      go Absent f e = let z : ◌≡◌ {A = ℕ} 0 1 = cc in absurd (omega arith)
+      go : (s : Option Source) → source_fault t n Lists s ≡ Clear → spot_by t n Lists (headed t s) g ≡ Some q → list_fault t n q ≡ Clear
+      go (Some s) f e = value-clear t n Lists s.at s.base g q f e
+      go None f e = let z : ◌≡◌ {A = ℕ} 0 1 = cc in absurd (omega arith)
 
   -- and so is each of its actions
-  pub action-clear : (g k p : ℕ) → action_spot t n d g k ≡ At p → action_fault t n p ≡ Clear
+  pub action-clear : (g k p : ℕ) → action_spot t n d g k ≡ Some p → action_fault t n p ≡ Clear
   unfolding action_spot
   action-clear g k p e = by-spot (spot_in t n d Lists g) refl e
     where
-      by-spot : (s : Spot) → spot_in t n d Lists g ≡ s → numbered t k s ≡ At p → action_fault t n p ≡ Clear
-      by-spot (At q) l e = list-each t n q k p (list-clear g q l) e
-      by-spot Nowhere l e = let z : ◌≡◌ {A = ℕ} 0 1 = cc in absurd (omega arith)
+      by-spot : (s : Option ℕ) → spot_in t n d Lists g ≡ s → numbered t k s ≡ Some p → action_fault t n p ≡ Clear
+      by-spot (Some q) l e = list-each t n q k p (list-clear g q l) e
+      by-spot None l e = let z : ◌≡◌ {A = ℕ} 0 1 = cc in absurd (omega arith)
 
   -- so an action is handed out whole
   pub whole : Bytes t → (g k : ℕ) → cut (ask (meaning_of t n) (along d (action g k))) ≡ ask (meaning_of t n) (along d (action g k))
   whole w g k = by-spot (action_spot t n d g k) refl
     where
-      by-spot : (s : Spot) → action_spot t n d g k ≡ s → cut (ask (meaning_of t n) (along d (action g k))) ≡ ask (meaning_of t n) (along d (action g k))
-      by-spot (At p) l =
-          let h = action-here t n d g k (At p) (sym l) in
+      by-spot : (s : Option ℕ) → action_spot t n d g k ≡ s → cut (ask (meaning_of t n) (along d (action g k))) ≡ ask (meaning_of t n) (along d (action g k))
+      by-spot (Some p) l =
+          let h = action-here t n d g k (Some p) (sym l) in
           ap cut (sym h) ∙ ap act (clipped-ok n (action_at t p) (action-ok t n p w (action-clear g k p l))) ∙ h
-      by-spot Nowhere l = let h = action-here t n d g k Nowhere (sym l) in ap cut (sym h) ∙ h
+      by-spot None l = let h = action-here t n d g k None (sym l) in ap cut (sym h) ∙ h
 
   -- what is read without judging is what a call answers
-  pub answered : Bytes t → (g k : ℕ) (r : ActionAnswer)
-      → (says_action r ≡ given (cut (ask (meaning_of t n) (along d (action g k))))) × (r.action ≡ room_after (given (cut (ask (meaning_of t n) (along d (action g k))))))
-      → (says_action r ≡ unless_bad (table_fault t n) (ask (meaning_of t n) (along d (action g k))))
-      × (r.action ≡ room_after (unless_bad (table_fault t n) (ask (meaning_of t n) (along d (action g k)))))
+  pub answered : Bytes t → (g k : ℕ) (r : Option HeldAction)
+      → (says_action (Ok r) ≡ given (cut (ask (meaning_of t n) (along d (action g k))))) × (room_of (Ok r) ≡ room_after (given (cut (ask (meaning_of t n) (along d (action g k))))))
+      → (says_action (Ok r) ≡ unless_bad (table_fault t n) (ask (meaning_of t n) (along d (action g k))))
+      × (room_of (Ok r) ≡ room_after (unless_bad (table_fault t n) (ask (meaning_of t n) (along d (action g k)))))
   answered w g k r e =
       let a : Answer = ask (meaning_of t n) (along d (action g k)) in
       let same : given (cut a) ≡ unless_bad (table_fault t n) a = ap given (whole w g k) ∙ judged a (sym ok) in
@@ -107,13 +107,13 @@ module _ (t : List ℕ) (n : ℕ) (d : Direction) (g k : ℕ) where
   unfolding components_of
   components-within = by-fault (table_fault t n) refl
     where
-      by-spot : table_fault t n ≡ Clear → (s : Spot) → action_spot t n d g k ≡ s → Within t (components_here t s)
-      by-spot ok (At p) e = record { ordered = components-ordered t p; inside = components-inside t n p (action-clear t n d ok g k p e) }
-      by-spot ok Nowhere e = none_within
+      by-spot : table_fault t n ≡ Clear → (s : Option ℕ) → action_spot t n d g k ≡ s → Within t (components_here t s)
+      by-spot ok (Some p) e = record { ordered = components-ordered t p; inside = components-inside t n p (action-clear t n d ok g k p e) }
+      by-spot ok None e = none_within
 
-      by-fault : (f : Fault) → table_fault t n ≡ f → Within t (unless_fault f (components_here t (action_spot t n d g k)))
-      by-fault Clear e = by-spot e (action_spot t n d g k) refl
-      by-fault (Bad r at) e = none_within
+      by-fault : (f : FirstFault) → table_fault t n ≡ f → Within t (unless_fault f (components_here t (action_spot t n d g k)))
+      by-fault (Ok u) e = by-spot e (action_spot t n d g k) refl
+      by-fault (Err f) e = none_within
 
   -- the component list is what the meaning has after the count of a type 0 action, and nothing where it has no such action or the table is refused
   pub components-mean : stretch t (components_of t n d g k) ≡ listed_components (unless_bad (table_fault t n) (ask (meaning_of t n) (along d (action g k))))
@@ -121,18 +121,18 @@ module _ (t : List ℕ) (n : ℕ) (d : Direction) (g k : ℕ) where
   components-mean = by-fault (table_fault t n) refl
     where
       by_kind : (p : ℕ) → action_fault t n p ≡ Clear → (b : Bool) → eqb (u16_at t (p + 2)) 0 ≡ b
-          → stretch t (components_here t (At p)) ≡ cond b (drop 12 (action_at t p).content) []
+          → stretch t (components_here t (Some p)) ≡ cond b (drop 12 (action_at t p).content) []
       by_kind p f true e = components-are t n p f (eqb-true _ _ e)
       by_kind p f false e = ap (stretch t) (components-none t p (u16_at t (p + 2)) refl (eqb-false _ _ e))
 
-      by-spot : table_fault t n ≡ Clear → (s : Spot) → action_spot t n d g k ≡ s
+      by-spot : table_fault t n ≡ Clear → (s : Option ℕ) → action_spot t n d g k ≡ s
           → stretch t (components_here t s) ≡ listed_components (unless_bad Clear (ask (meaning_of t n) (along d (action g k))))
-      by-spot ok (At p) e =
+      by-spot ok (Some p) e =
           by_kind p (action-clear t n d ok g k p e) (eqb (u16_at t (p + 2)) 0) refl
-          ∙ ap (λ (a : Answer). listed_components (unless_bad Clear a)) (action-here t n d g k (At p) (sym e))
-      by-spot ok Nowhere e = ap (λ (a : Answer). listed_components (unless_bad Clear a)) (action-here t n d g k Nowhere (sym e))
+          ∙ ap (λ (a : Answer). listed_components (unless_bad Clear a)) (action-here t n d g k (Some p) (sym e))
+      by-spot ok None e = ap (λ (a : Answer). listed_components (unless_bad Clear a)) (action-here t n d g k None (sym e))
 
-      by-fault : (f : Fault) → table_fault t n ≡ f
+      by-fault : (f : FirstFault) → table_fault t n ≡ f
           → stretch t (unless_fault f (components_here t (action_spot t n d g k))) ≡ listed_components (unless_bad f (ask (meaning_of t n) (along d (action g k))))
-      by-fault Clear e = by-spot e (action_spot t n d g k) refl
-      by-fault (Bad r at) e = refl
+      by-fault (Ok u) e = by-spot e (action_spot t n d g k) refl
+      by-fault (Err f) e = refl

@@ -1,4 +1,5 @@
 -- The row count of any bytes is at most 256, and a cell by row and class is the cell by its index.
+use Rattle.std.specs.Prelude.{Ok, Err}
 use Prim.Native.Nat.{ℕ, zero, suc, ◌+◌, ◌*◌, ◌≤◌, ◌<◌}
 use mathlib.Core.Path.{◌≡◌, refl, ap}
 use mathlib.Core.Bool.{Bool, true, false, cond}
@@ -7,8 +8,8 @@ use native.Mathlib.Omega.{arith}
 use native.Mathlib.Nat.{mul-le-mul_right}
 use lib.ListN.{get_or}
 use lib.Dec.{ltb}
-use Rattle.fields.specs.declared.Fault.{Fault}
-use Rattle.fields.specs.declared.Fault.TheVariants.{Clear, Bad}
+use Rattle.fields.specs.Faults.{FirstFault}
+use Rattle.fields.specs.Faults.{Clear, Bad}
 use Rattle.fields.specs.Faults.{◌then◌}
 use Rattle.fields.proofs.Laws.{then-first, then-second}
 use Rattle.machine.specs.Cells.{class_count, state_array, entry_at, cell_at}
@@ -32,9 +33,9 @@ module _ (t : List ℕ) (here : ℕ) where
   unfolding row_count unless
   rows-most = go (rows_fault t here) (count_most 256 0 2 (omega arith))
     where
-      go : (f : Fault) → (f ≡ Clear → count_from t here 256 0 2 ≤ 256) → count_of (unless f (count_from t here 256 0 2)) ≤ 256
-      go Clear h = h refl
-      go (Bad r at) h = omega arith
+      go : (f : FirstFault) → (f ≡ Clear → count_from t here 256 0 2 ≤ 256) → count_of (unless f (count_from t here 256 0 2)) ≤ 256
+      go (Ok u) h = h refl
+      go (Err f) h = omega arith
 
   pub cell-by : (row class : ℕ) → cell_by t here (row * class_count t here + class) ≡ cell_at t here row class
   unfolding cell_by cell_at

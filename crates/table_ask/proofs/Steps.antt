@@ -1,13 +1,15 @@
 -- The steps to a place of specs/Places.antt, over values as read.
+use Rattle.lookup_targets.specs.Values.{from_lookup}
+use Rattle.table_ask.specs.Places.{there}
+use Rattle.std.specs.Prelude.{None, Option, Some}
 use Prim.Native.Nat.{ℕ, ◌<◌, ◌≤◌, ◌^◌}
 use native.Mathlib.Omega.{arith}
 use mathlib.Core.Path.{◌≡◌, sym, ap, ap₂, subst, ◌∙◌}
 use mathlib.Core.List.{List}
 use mathlib.Core.Bool.{Bool, cond}
 use borrow.Author.Tests.{le-ltb, lt-ltb}
-use Rattle.fields.specs.declared.Fault.{Fault}
-use Rattle.fields.specs.declared.Fault.TheVariants.{Clear}
-use Rattle.lookup.specs.declared.Found.{Found}
+use Rattle.fields.specs.Faults.{FirstFault}
+use Rattle.fields.specs.Faults.{Clear}
 use Rattle.lookup_find.specs.declared.Head.{Head}
 use Rattle.lookup_find.specs.Halves.{head_at, Searchable}
 use Rattle.lookup_targets.specs.declared.Kind.{Kind}
@@ -16,46 +18,28 @@ use Rattle.types.specs.declared.Direction.{Direction}
 use Rattle.meaning.specs.Ask.{Answer}
 use Rattle.answers.specs.Says.{unless_bad}
 use Rattle.lookup.specs.Find.{value_of}
-use Rattle.actions.specs.declared.Spot.{Spot}
-use Rattle.actions.specs.declared.Spot.TheVariants.{At, Nowhere}
 use Rattle.actions.specs.declared.Stretch.{Stretch}
 use Rattle.actions.specs.Actions.{SpotBelow}
 use Rattle.lookup_targets.specs.declared.Source.{Source}
-use Rattle.lookup_targets.specs.declared.Source.TheVariants as source
 use Rattle.lookup_targets.specs.Values.{spot_of, values_fault, source_fault}
 use Rattle.table.specs.Table.{direction_at, source_at, table_fault}
 use Rattle.table.proofs.Laws.{direction-clear, source_clear, few-glyphs}
 use Rattle.table_ask.specs.declared.Lookup.{Lookup}
-use Rattle.table_ask.specs.declared.Lookup.TheVariants.{There}
 use Rattle.table_ask.specs.Places.{headed, lookup_in, Readable, Sound, spot_by, spot_from, spot_in}
 use Rattle.table_ask.specs.Components.{unless_fault}
 
 -- the offset of a spot that is there
-pub below_at : {n p : ℕ} {s : Spot} → s ≡ At p → SpotBelow n s → p < n
+pub below_at : {n p : ℕ} {s : Option ℕ} → s ≡ Some p → SpotBelow n s → p < n
 below_at {n} {p} {s} e b = subst (SpotBelow n) e b
 
--- a spot by a plain number
-pub from-near : (p : ℕ) → p < 2 ^ 17 → spot_from p ≡ At p
-from-near p h = ap (λ (b : Bool). cond b (At p) Nowhere) (lt-ltb p (2 ^ 17) h)
-
-pub from-far : (p : ℕ) → 2 ^ 17 ≤ p → spot_from p ≡ Nowhere
-from-far p h = ap (λ (b : Bool). cond b (At p) Nowhere) (le-ltb p (2 ^ 17) h)
-
 -- a call answers by the fault that was found
-pub judged : {f g : Fault} (a : Answer) → f ≡ g → unless_bad f a ≡ unless_bad g a
-judged a e = ap (λ (h : Fault). unless_bad h a) e
-
-pub unfaulted : {f g : Fault} (s : Stretch) → f ≡ g → unless_fault f s ≡ unless_fault g s
-unfaulted s e = ap (λ (h : Fault). unless_fault h s) e
-
--- a source that is there, as the code has taken it apart
-pub headed-there : (t : List ℕ) {s : Source} {at base : ℕ} {head : Head} → s ≡ source.Lookup at base → head ≡ head_at t at → There at base head ≡ headed t s
-headed-there t {s} {at} {base} e h = ap (There at base) h ∙ sym (ap (headed t) e)
+pub judged : {f g : FirstFault} (a : Answer) → f ≡ g → unless_bad f a ≡ unless_bad g a
+judged a e = ap (λ (h : FirstFault). unless_bad h a) e
 
 -- a spot by a direction's lookup is the direction's
-pub spot-found : (t : List ℕ) (n : ℕ) (d : Direction) (kind : Kind) (g : ℕ) {l : Lookup} → l ≡ lookup_in t d kind → spot_by t n kind l g ≡ spot_in t n d kind g
+pub spot-found : (t : List ℕ) (n : ℕ) (d : Direction) (kind : Kind) (g : ℕ) {l : Option Lookup} → l ≡ lookup_in t d kind → spot_by t n kind l g ≡ spot_in t n d kind g
 unfolding spot_in
-spot-found t n d kind g e = ap (λ (k : Lookup). spot_by t n kind k g) e
+spot-found t n d kind g e = ap (λ (k : Option Lookup). spot_by t n kind k g) e
 
 -- ---- the lookups of an accepted table have no fault
 
@@ -64,17 +48,17 @@ module _ (t : List ℕ) (n : ℕ) (e : table_fault t n ≡ Clear) where
   unfolding table_fault
   few = omega (arith, few-glyphs t n (then-first _ _ e))
 
-  pub lookup-sound : (d : Direction) (kind : Kind) {l : Lookup} → l ≡ lookup_in t d kind → Sound t n l
+  pub lookup-sound : (d : Direction) (kind : Kind) {l : Option Lookup} → l ≡ lookup_in t d kind → Sound t n l
   unfolding lookup_in values_fault
   lookup-sound d kind q = subst (Sound t n) (sym q) (go (source_at t (direction_at t d) kind) (source_clear t (direction_at t d) n (direction-clear t n e d) kind))
     where
-      go : (s : Source) → source_fault t n kind s ≡ Clear → Sound t n (headed t s)
-      go (source.Lookup at base) f = (then-first _ _ f, few)
-      go source.Absent f = tt
+      go : (s : Option Source) → source_fault t n kind s ≡ Clear → Sound t n (headed t s)
+      go (Some s) f = (then-first _ _ f, few)
+      go None f = tt
 
 -- ---- a lookup that is there, as the code has taken it apart
 
-module _ (t : List ℕ) (n : ℕ) {l : Lookup} {at base : ℕ} {head : Head} (e : l ≡ There at base head) where
+module _ (t : List ℕ) (n : ℕ) {l : Option Lookup} {at base : ℕ} {head : Head} (e : l ≡ there at base head) where
   pub there-ready : Readable t l → Sound t n l → Searchable t n at head
   there-ready r s =
       let w = subst (Readable t) e r in
@@ -83,12 +67,3 @@ module _ (t : List ℕ) (n : ℕ) {l : Lookup} {at base : ℕ} {head : Head} (e 
 
   pub there-base : Readable t l → base < 2 ^ 16
   there-base r = (subst (Readable t) e r).1.0
-
-  pub there-sound : Readable t l → Sound t n l → Readable t (There at base head) × Sound t n (There at base head)
-  there-sound r s = (subst (Readable t) e r, subst (Sound t n) e s)
-
-  pub spot-by-kind : (kind k : Kind) (g : ℕ) {s : Spot} → kind ≡ k → s ≡ spot_by t n k (There at base head) g → s ≡ spot_by t n kind l g
-  spot-by-kind kind k g q a = a ∙ sym (ap₂ (λ (i : Kind) (m : Lookup). spot_by t n i m g) q e)
-
-  pub spot-there : (kind : Kind) (g : ℕ) {f : Found} {s : Spot} → s ≡ spot_of kind base f → f ≡ value_of t n at g → s ≡ spot_by t n kind l g
-  spot-there kind g a b = a ∙ ap (spot_of kind base) b ∙ sym (ap (λ (k : Lookup). spot_by t n kind k g) e)

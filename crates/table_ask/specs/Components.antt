@@ -1,12 +1,12 @@
 -- A component list as a stretch of the table (document 01, "The table": handed back as that very stretch; empty, never a refusal, where there is none).
+use Rattle.std.specs.Prelude.{None, Option, Some}
+use Rattle.std.specs.Prelude.{Ok, Err}
 use Rattle.std.specs.Prelude.{ℕ, ◌+◌, ◌-◌, cond, List, [], eqb, take, drop}
-use Rattle.fields.specs.declared.Fault.{Fault}
-use Rattle.fields.specs.declared.Fault.TheVariants.{Clear, Bad}
+use Rattle.fields.specs.Faults.{FirstFault}
+use Rattle.fields.specs.Faults.{Clear, Bad}
 use Rattle.types.specs.declared.Direction.{Direction}
 use Rattle.meaning.specs.Ask.{Answer, nothing, number, both, entry, pair, act}
 use Rattle.answers.specs.Says.{Reply, refused, given}
-use Rattle.actions.specs.declared.Spot.{Spot}
-use Rattle.actions.specs.declared.Spot.TheVariants.{At, Nowhere}
 use Rattle.actions.specs.declared.Stretch.{Stretch}
 use Rattle.actions.specs.Actions.{components_at}
 use Rattle.table.specs.Table.{table_fault}
@@ -16,14 +16,14 @@ abbrev pub empty_stretch : Stretch
 empty_stretch = record { from = 0; to = 0 }
 
 -- the glyphs of the action at a spot, an empty stretch where it is not of type 0
-abbrev pub components_here : List ℕ → Spot → Stretch
-components_here t (At p) = components_at t p
-components_here t Nowhere = empty_stretch
+abbrev pub components_here : List ℕ → Option ℕ → Stretch
+components_here t (Some p) = components_at t p
+components_here t None = empty_stretch
 
 -- a table with a fault has no component list
-abbrev pub unless_fault : Fault → Stretch → Stretch
-unless_fault Clear s = s
-unless_fault (Bad r at) s = empty_stretch
+abbrev pub unless_fault : FirstFault → Stretch → Stretch
+unless_fault (Ok u) s = s
+unless_fault (Err f) s = empty_stretch
 
 -- the stretch of the type 0 action that direction, glyph and number name in an accepted table, else the empty one
 unfoldable pub components_of : List ℕ → ℕ → Direction → ℕ → ℕ → Stretch

@@ -1,15 +1,9 @@
 -- What the structs of the C boundary say of a value and of a lookup's units: a refusal is its number and offset and everything else zeros; where a glyph has no value,
 -- `found` is false and the value 0, and the looks are those that were taken.
-use Rattle.std.specs.Prelude.{ℕ, true, false, cond, eqb}
-use Rattle.lookup_targets.specs.declared.Kind.{Kind}
-use Rattle.lookup_targets.specs.declared.Kind.TheVariants.{Clusters, Lists}
+use Rattle.std.specs.Prelude.{true, false}
 use Rattle.table_find.specs.Values.{FindReply, valued, valueless, barred, UnitsReply, units_of, units_barred}
 use Rattle.table_find.specs.declared.JustValue.{JustValue}
 use Rattle.table_find.specs.declared.JustUnits.{JustUnits}
-
--- 0 is the width lookup, which leads to clusters, any other number the action lookup
-abbrev pub kind_in : ℕ → Kind
-kind_in n = cond (eqb n 0) Clusters Lists
 
 abbrev pub value_in : FindReply → JustValue
 value_in (valued v looks) = record { refusal = 0; offset = 0; found = true; value = v; looks = looks }

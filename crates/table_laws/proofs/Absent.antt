@@ -1,4 +1,5 @@
 -- An absent direction means what an empty one means (document 01, "The table"): the same parts, and in the sheet the same bytes.
+use Rattle.std.specs.Prelude.{None}
 use Prim.Native.Nat.{ℕ, zero, suc, ◌+◌, ◌≤◌, ◌<◌}
 use mathlib.Core.Path.{◌≡◌, refl, sym, ap, ap₂, ◌∙◌}
 use mathlib.Core.Bool.{Bool, true, false, cond}
@@ -15,7 +16,6 @@ use Rattle.types.specs.declared.Direction.TheVariants.{Horizontal, Vertical}
 use Rattle.meaning.specs.Meaning.{Meaning, empty_side}
 use Rattle.meaning.specs.Ask.{Question, ask}
 use Rattle.meaning.specs.Sheet.{write}
-use Rattle.lookup.specs.declared.Found.TheVariants.{Nothing}
 use Rattle.lookup.specs.Find.{value_of}
 use Rattle.lookup_targets.specs.declared.Kind.TheVariants.{Clusters}
 use Rattle.lookup_targets.specs.Values.{spot_of, cluster_here, cluster_of, list_of}
@@ -48,7 +48,7 @@ module _ (t : List ℕ) (n : ℕ) where
       go false = upto-same (list_of t n offset offset) [] n h
 
   -- a glyph without a width value has no width records
-  pub no-cluster : (at base g : ℕ) → value_of t n at g ≡ Nothing → cluster_of t n at base g ≡ []
+  pub no-cluster : (at base g : ℕ) → value_of t n at g ≡ None → cluster_of t n at base g ≡ []
   unfolding cluster_of
   no-cluster at base g e = ap (λ (f : _). cluster_here t (spot_of Clusters base f)) e
 

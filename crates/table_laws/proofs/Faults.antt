@@ -1,5 +1,7 @@
 -- The first fault of a table in plain words (document 01, "Numbers of refusal"): it is refused exactly when one of the listed faults holds, with the number and
 -- the offset of the first; the header's refusals in terms of length, glyph count, version and format; horizontal before vertical.
+use Rattle.fields.proofs.Laws.{bad-refusal, bad-at}
+use Rattle.std.specs.Prelude.{Ok, Err}
 use Prim.Native.Nat.{ℕ, zero, suc, ◌+◌, ◌≤◌, ◌<◌}
 use mathlib.Core.Path.{◌≡◌, refl, sym, ap, ap₂, ◌∙◌, subst}
 use mathlib.Core.Bool.{Bool, true, false}
@@ -12,8 +14,8 @@ use lib.Dec.{leb, eqb}
 use borrow.Author.Tests.{leb-true, leb-false, le-leb, lt-leb, eqb-true, eqb-false, eq-eqb, ne_eqb}
 use Rattle.fields.specs.declared.Refusal.{Refusal}
 use Rattle.fields.specs.declared.Refusal.TheVariants.{TableLength, GlyphCount, Version}
-use Rattle.fields.specs.declared.Fault.{Fault}
-use Rattle.fields.specs.declared.Fault.TheVariants.{Clear, Bad}
+use Rattle.fields.specs.Faults.{FirstFault}
+use Rattle.fields.specs.Faults.{Clear, Bad}
 use Rattle.fields.specs.Field.{u16_at, u32_at}
 use Rattle.fields.specs.Faults.{◌then◌, rule}
 use Rattle.fields.proofs.Laws.{then-assoc, then-clear, then-first, then-second, then-stop, then-go, rule-holds, rule-clear, rule-fails}
@@ -29,31 +31,31 @@ use Rattle.table_laws.specs.Order.{FirstIs, NoFault, FirstGlyph, table_parts, di
 -- ---- a chain of faults
 
 -- the faults of a list, one after the other
-abbrev pub chain : List Fault → Fault
+abbrev pub chain : List FirstFault → FirstFault
 chain [] = Clear
 chain (f ∷ fs) = f then chain fs
 
-pub clear-not-bad : {r : Refusal} {at : ℕ} {f : Fault} → f ≡ Clear → f ≡ Bad r at → ⊥
+pub clear-not-bad : {r : Refusal} {at : ℕ} {f : FirstFault} → f ≡ Clear → f ≡ Bad r at → ⊥
 clear-not-bad {r} {at} {f} p q = let z : ◌≡◌ {A = ℕ} 0 1 = cc in omega arith
 
-pub chain_first : (fs : List Fault) (r : Refusal) (at : ℕ) → chain fs ≡ Bad r at → FirstIs fs r at
+pub chain_first : (fs : List FirstFault) (r : Refusal) (at : ℕ) → chain fs ≡ Bad r at → FirstIs fs r at
 chain_first [] r at e = clear-not-bad refl e
 chain_first (f ∷ fs) r at e = go f refl (chain_first fs r at)
   where
-    go : (g : Fault) → f ≡ g → (chain fs ≡ Bad r at → FirstIs fs r at) → (f ≡ Bad r at) ⊎ ((f ≡ Clear) × FirstIs fs r at)
-    go Clear p ih = inr (p, ih (sym (then-go (chain fs) p) ∙ e))
-    go (Bad s q) p ih = inl (sym (then-stop (chain fs) p) ∙ e)
+    go : (g : FirstFault) → f ≡ g → (chain fs ≡ Bad r at → FirstIs fs r at) → (f ≡ Bad r at) ⊎ ((f ≡ Clear) × FirstIs fs r at)
+    go (Ok u) p ih = inr (p, ih (sym (then-go (chain fs) p) ∙ e))
+    go (Err f) p ih = inl (sym (then-stop (chain fs) p) ∙ e)
 
-pub first-chain : (fs : List Fault) (r : Refusal) (at : ℕ) → FirstIs fs r at → chain fs ≡ Bad r at
+pub first-chain : (fs : List FirstFault) (r : Refusal) (at : ℕ) → FirstIs fs r at → chain fs ≡ Bad r at
 first-chain [] r at h = absurd h
 first-chain (f ∷ fs) r at (inl p) = then-stop (chain fs) p ∙ p
 first-chain (f ∷ fs) r at (inr h) = then-go (chain fs) h.0 ∙ first-chain fs r at h.1
 
-pub chain-free : (fs : List Fault) → chain fs ≡ Clear → NoFault fs
+pub chain-free : (fs : List FirstFault) → chain fs ≡ Clear → NoFault fs
 chain-free [] e = tt
 chain-free (f ∷ fs) e = (then-first _ _ e, chain-free fs (then-second _ _ e))
 
-pub free-chain : (fs : List Fault) → NoFault fs → chain fs ≡ Clear
+pub free-chain : (fs : List FirstFault) → NoFault fs → chain fs ≡ Clear
 free-chain [] h = refl
 free-chain (f ∷ fs) h = then-go (chain fs) h.0 ∙ free-chain fs h.1
 
@@ -107,17 +109,17 @@ direction-free t n at h =
 -- ---- a lookup and what its values lead to
 
 -- the first of n things from `at` on that has a fault
-FirstFrom : (ℕ → Fault) → ℕ → ℕ → Refusal → ℕ → Type 0
+FirstFrom : (ℕ → FirstFault) → ℕ → ℕ → Refusal → ℕ → Type 0
 FirstFrom one n at r p = (q : ℕ) × (at ≤ q) × (q < at + n) × ((j : ℕ) → at ≤ j → j < q → one j ≡ Clear) × (one q ≡ Bad r p)
 
-each_first : (one : ℕ → Fault) (n at : ℕ) (r : Refusal) (p : ℕ) → each one (λ q. q + 1) n at ≡ Bad r p → FirstFrom one n at r p
+each_first : (one : ℕ → FirstFault) (n at : ℕ) (r : Refusal) (p : ℕ) → each one (λ q. q + 1) n at ≡ Bad r p → FirstFrom one n at r p
 unfolding walk FirstFrom
 each_first one zero at r p e = absurd (clear-not-bad refl e)
 each_first one (suc n) at r p e = go (one at) refl (each_first one n (at + 1) r p)
   where
-    go : (f : Fault) → one at ≡ f → (each one (λ q. q + 1) n (at + 1) ≡ Bad r p → FirstFrom one n (at + 1) r p) → FirstFrom one (suc n) at r p
-    go (Bad s k) q ih = (at, omega arith, omega arith, (λ j a b. absurd (omega arith)), sym (then-stop _ q) ∙ e)
-    go Clear q ih =
+    go : (f : FirstFault) → one at ≡ f → (each one (λ q. q + 1) n (at + 1) ≡ Bad r p → FirstFrom one n (at + 1) r p) → FirstFrom one (suc n) at r p
+    go (Err f) q ih = (at, omega arith, omega arith, (λ j a b. absurd (omega arith)), sym (then-stop _ q) ∙ e)
+    go (Ok u) q ih =
         let h = ih (sym (then-go _ q) ∙ e) in
         (h.0, omega (arith, h.1), omega (arith, h.2), (λ j a b. before h.3 j a b (ℕ_discrete j at)), h.4)
       where
@@ -125,7 +127,7 @@ each_first one (suc n) at r p e = go (one at) refl (each_first one n (at + 1) r 
         before c j a b (yes w) = ap one w ∙ q
         before c j a b (no w) = c j (omega arith) b
 
-first-each : (one : ℕ → Fault) (n at : ℕ) (r : Refusal) (p : ℕ) → FirstFrom one n at r p → each one (λ q. q + 1) n at ≡ Bad r p
+first-each : (one : ℕ → FirstFault) (n at : ℕ) (r : Refusal) (p : ℕ) → FirstFrom one n at r p → each one (λ q. q + 1) n at ≡ Bad r p
 unfolding walk FirstFrom
 first-each one zero at r p h = absurd (omega (arith, h.1, h.2))
 first-each one (suc n) at r p h = go (ℕ_discrete h.0 at) (first-each one n (at + 1) r p)
@@ -143,16 +145,16 @@ pub values-first : (t : List ℕ) (n : ℕ) (kind : Kind) (at base : ℕ) (r : R
 unfolding values_fault FirstFrom
 values-first t n kind at base r p = (there, back)
   where
-    one : ℕ → Fault
+    one : ℕ → FirstFault
     one = target_fault t n kind at base
 
     there : (lookup_fault t n at then each one (λ g. g + 1) n 0) ≡ Bad r p
         → (lookup_fault t n at ≡ Bad r p) ⊎ ((lookup_fault t n at ≡ Clear) × FirstGlyph one n r p)
     there e = go (lookup_fault t n at) refl
       where
-        go : (f : Fault) → lookup_fault t n at ≡ f → (lookup_fault t n at ≡ Bad r p) ⊎ ((lookup_fault t n at ≡ Clear) × FirstGlyph one n r p)
-        go (Bad s k) q = inl (sym (then-stop _ q) ∙ e)
-        go Clear q =
+        go : (f : FirstFault) → lookup_fault t n at ≡ f → (lookup_fault t n at ≡ Bad r p) ⊎ ((lookup_fault t n at ≡ Clear) × FirstGlyph one n r p)
+        go (Err f) q = inl (sym (then-stop _ q) ∙ e)
+        go (Ok u) q =
             let h = each_first one n 0 r p (sym (then-go _ q) ∙ e) in
             inr (q, (h.0, omega (arith, h.2), (λ j b. h.3 j (omega arith) b), h.4))
 
@@ -168,9 +170,9 @@ pub check-accepts : (t : List ℕ) (n : ℕ) → (judged_by (table_fault t n) �
 unfolding Accepted
 check-accepts t n = (λ e. go (table_fault t n) e, λ e. ap judged_by e)
   where
-    go : (f : Fault) → judged_by f ≡ accepted → f ≡ Clear
-    go Clear e = refl
-    go (Bad r at) e = let z : ◌≡◌ {A = ℕ} 0 1 = cc in absurd (omega arith)
+    go : (f : FirstFault) → judged_by f ≡ accepted → f ≡ Clear
+    go (Ok u) e = refl
+    go (Err f) e = let z : ◌≡◌ {A = ℕ} 0 1 = cc in absurd (omega arith)
 
 -- a refusal's number and an offset, exactly when they are those of the first part with a fault
 pub check-refuses : (t : List ℕ) (n : ℕ) (r : Refusal) (at : ℕ) → (judged_by (table_fault t n) ≡ barred (number_of r) at) ↔ FirstIs (table_parts t n) r at
@@ -179,19 +181,19 @@ check-refuses t n r at = (
   λ h. ap judged_by ((first-fault t n r at).1 h),
 )
   where
-    go : (f : Fault) → judged_by f ≡ barred (number_of r) at → f ≡ Bad r at
-    go Clear e = let z : ◌≡◌ {A = ℕ} 0 1 = cc in absurd (omega arith)
-    go (Bad s p) e = let z : p ≡ at = cc in ap₂ Bad (one_number s r (cc)) z
+    go : (f : FirstFault) → judged_by f ≡ barred (number_of r) at → f ≡ Bad r at
+    go (Ok u) e = let z : ◌≡◌ {A = ℕ} 0 1 = cc in absurd (omega arith)
+    go (Err f) e = let z : f.at ≡ at = cc in ap₂ Bad (one_number f.refusal r (cc)) z
 
 -- ---- the header
 
 pub rule-bad : (b : Bool) (r s : Refusal) (at p : ℕ) → rule b r at ≡ Bad s p → (b ≡ false) × (r ≡ s) × (at ≡ p)
 unfolding rule
 rule-bad true r s at p e = absurd (clear-not-bad refl e)
-rule-bad false r s at p e = (refl, cc, cc)
+rule-bad false r s at p e = (refl, bad-refusal e, bad-at e)
 
 -- length, length, count, count, version, format
-abbrev header_parts : List ℕ → ℕ → List Fault
+abbrev header_parts : List ℕ → ℕ → List FirstFault
 header_parts t n =
     rule (leb 10 (length t)) TableLength 0
     ∷ rule (leb (length t) 32768) TableLength 0

@@ -6,7 +6,7 @@ use native.Mathlib.Omega.{arith}
 use native.Mathlib.Nat.{div-add-mod', mod-lt, div-lt_iff_lt-mul}
 use lib.Arith.{digits_lt}
 use lib.ListN.{length, get_or}
-use Rattle.fields.specs.declared.Fault.TheVariants.{Clear}
+use Rattle.fields.specs.Faults.{Clear}
 use Rattle.fields.specs.Field.{Bytes}
 use Rattle.encoding.specs.Distinct.{distinct}
 use Rattle.encoding.specs.Upto.{upto}

@@ -1,4 +1,7 @@
 -- The numbers of a table's faults (document 01, "Numbers of refusal"), for any bytes: its header's are 1 to 3, with offset 0, its parts' 4 to 8.
+use Rattle.fields.specs.Faults.{earlier}
+use Rattle.std.specs.Prelude.{None, Option, Some}
+use Rattle.std.specs.Prelude.{Ok, Err}
 use Prim.Native.Nat.{ℕ, zero, suc, ◌+◌, ◌≤◌}
 use mathlib.Core.Path.{◌≡◌, refl, ap}
 use mathlib.Core.Bool.{Bool, true, false, cond}
@@ -8,14 +11,12 @@ use lib.Dec.{leb, eqb}
 use lib.ListN.{length}
 use Rattle.fields.specs.declared.Refusal.{Refusal}
 use Rattle.fields.specs.declared.Refusal.TheVariants.{TableLength, GlyphCount, Version, Outside}
-use Rattle.fields.specs.declared.Fault.{Fault}
-use Rattle.fields.specs.declared.Fault.TheVariants.{Clear, Bad}
+use Rattle.fields.specs.Faults.{FirstFault}
+use Rattle.fields.specs.Faults.{Clear, Bad}
 use Rattle.fields.specs.Refusals.{number_of}
 use Rattle.fields.specs.Field.{u16_at}
 use Rattle.fields.specs.Faults.{◌then◌, rule, inside}
 use Rattle.fields.specs.Walk.{walk}
-use Rattle.actions.specs.declared.Spot.{Spot}
-use Rattle.actions.specs.declared.Spot.TheVariants.{At, Nowhere}
 use Rattle.lookup.specs.Find.{value_of}
 use Rattle.lookup_targets.specs.declared.Kind.{Kind}
 use Rattle.lookup_targets.specs.declared.Kind.TheVariants.{Clusters, Lists}
@@ -28,18 +29,18 @@ use Rattle.table_laws.proofs.Only.{lookup-only, cluster-only, machine_only, list
 -- ---- chains, rules, fields and walks
 
 infixr 20 ◌and◌
-◌and◌ : {f g : Fault} → OfTable f → OfTable g → OfTable (f then g)
-unfolding ◌then◌
+◌and◌ : {f g : FirstFault} → OfTable f → OfTable g → OfTable (f then g)
+unfolding earlier
 of_none and q = q
 (of-header r h) and q = of-header r h
 (of_part r at l h) and q = of_part r at l h
 
-either : {f g : Fault} (b : Bool) → OfTable f → OfTable g → OfTable (cond b f g)
+either : {f g : FirstFault} (b : Bool) → OfTable f → OfTable g → OfTable (cond b f g)
 either true p q = p
 either false p q = q
 
 -- a part's own number is 5 to 8
-of-only : {r : Refusal} {f : Fault} → (4 ≤ number_of r) × (number_of r ≤ 8) → Only r f → OfTable f
+of-only : {r : Refusal} {f : FirstFault} → (4 ≤ number_of r) × (number_of r ≤ 8) → Only r f → OfTable f
 of-only h clear = of_none
 of-only h (outside at) = of_part Outside at (omega arith) (omega arith)
 of-only {r} h (own at) = of_part r at h.0 h.1
@@ -53,7 +54,7 @@ found : (t : List ℕ) (at width : ℕ) → OfTable (inside t at width)
 unfolding inside
 found t at width = outside-rule (leb (at + width) (length t)) at
 
-walked : (one : ℕ → ℕ → Fault) (to next : ℕ → ℕ) → ((p least : ℕ) → OfTable (one p least)) → (n at least : ℕ) → OfTable (walk one to next n at least)
+walked : (one : ℕ → ℕ → FirstFault) (to next : ℕ → ℕ) → ((p least : ℕ) → OfTable (one p least)) → (n at least : ℕ) → OfTable (walk one to next n at least)
 unfolding walk
 walked one to next h zero at least = of_none
 walked one to next h (suc n) at least = h at least and walked one to next h n (to at) (next at)
@@ -66,11 +67,11 @@ header-rule false r h = of-header r h
 -- ---- a table
 
 module _ (t : List ℕ) (n : ℕ) where
-  spotted : (kind : Kind) (s : Spot) → OfTable (spot_fault t n kind s)
-  spotted Clusters (At p) = of-only (omega arith, omega arith) (cluster-only t p)
-  spotted Lists (At p) = of-only (omega arith, omega arith) (list-only t n p)
-  spotted Clusters Nowhere = of_none
-  spotted Lists Nowhere = of_none
+  spotted : (kind : Kind) (s : Option ℕ) → OfTable (spot_fault t n kind s)
+  spotted Clusters (Some p) = of-only (omega arith, omega arith) (cluster-only t p)
+  spotted Lists (Some p) = of-only (omega arith, omega arith) (list-only t n p)
+  spotted Clusters None = of_none
+  spotted Lists None = of_none
 
   valued : (kind : Kind) (at base : ℕ) → OfTable (values_fault t n kind at base)
   unfolding values_fault target_fault
@@ -111,11 +112,11 @@ module _ (t : List ℕ) (n : ℕ) where
   pub table-number : {r : Refusal} {at : ℕ} → table_fault t n ≡ Bad r at → number_of r ≤ 8
   table-number {r} {at} e = go of-table e
     where
-      named : Fault → ℕ
-      named Clear = 0
-      named (Bad s p) = number_of s
+      named : FirstFault → ℕ
+      named (Ok u) = 0
+      named (Err f) = number_of f.refusal
 
-      go : {f : Fault} → OfTable f → f ≡ Bad r at → number_of r ≤ 8
+      go : {f : FirstFault} → OfTable f → f ≡ Bad r at → number_of r ≤ 8
       go of_none q = absurd (clear-not-bad refl q)
       go (of-header s h) q = omega (arith, ap named q)
       go (of_part s p l h) q = omega (arith, ap named q)

@@ -1,5 +1,8 @@
 -- The numbers of a part's faults (document 01, "Numbers of refusal"), for any bytes: a lookup's fault is 4 or 5, a cluster's 4 or 6, a machine's 4 or 7 and an
 -- action list's 4 or 8.
+use Rattle.std.proofs.Common.{sym}
+use Rattle.fields.proofs.Laws.{bad-refusal}
+use Rattle.fields.specs.Faults.{earlier}
 use Prim.Native.Nat.{ℕ, zero, suc, ◌+◌}
 use mathlib.Core.Bool.{Bool, true, false, cond}
 use mathlib.Core.List.{List}
@@ -9,8 +12,8 @@ use lib.Dec.{leb, eqb, ltb}
 use lib.ListN.{length}
 use Rattle.fields.specs.declared.Refusal.{Refusal}
 use Rattle.fields.specs.declared.Refusal.TheVariants.{Outside, BadLookup, BadCluster, BadMachine, BadActions}
-use Rattle.fields.specs.declared.Fault.{Fault}
-use Rattle.fields.specs.declared.Fault.TheVariants.{Bad}
+use Rattle.fields.specs.Faults.{FirstFault}
+use Rattle.fields.specs.Faults.{Bad}
 use Rattle.fields.specs.Field.{u16_at}
 use Rattle.fields.specs.Faults.{◌then◌, rule, inside}
 use Rattle.fields.specs.Walk.{walk, each}
@@ -25,16 +28,16 @@ use Rattle.table_laws.specs.Order.{Only, clear, outside, own}
 use Rattle.table_laws.proofs.Faults.{clear-not-bad}
 
 -- such a fault, where there is one, has the number 4 or the part's own
-pub only-bad : {r s : Refusal} {f : Fault} {at : ℕ} → Only r f → f ≡ Bad s at → (s ≡ Outside) ⊎ (s ≡ r)
+pub only-bad : {r s : Refusal} {f : FirstFault} {at : ℕ} → Only r f → f ≡ Bad s at → (s ≡ Outside) ⊎ (s ≡ r)
 only-bad clear e = absurd (clear-not-bad refl e)
-only-bad (outside p) e = inl (cc)
-only-bad (own p) e = inr (cc)
+only-bad (outside p) e = inl (sym (bad-refusal e))
+only-bad (own p) e = inr (sym (bad-refusal e))
 
 -- ---- chains, rules, fields and walks
 
 infixr 20 ◌and◌
-◌and◌ : {r : Refusal} {f g : Fault} → Only r f → Only r g → Only r (f then g)
-unfolding ◌then◌
+◌and◌ : {r : Refusal} {f g : FirstFault} → Only r f → Only r g → Only r (f then g)
+unfolding earlier
 clear and q = q
 (outside at) and q = outside at
 (own at) and q = own at
@@ -54,17 +57,17 @@ found : {r : Refusal} (t : List ℕ) (at width : ℕ) → Only r (inside t at wi
 unfolding inside
 found t at width = outside-rule (leb (at + width) (length t)) at
 
-either : {r : Refusal} {f g : Fault} (b : Bool) → Only r f → Only r g → Only r (cond b f g)
+either : {r : Refusal} {f g : FirstFault} (b : Bool) → Only r f → Only r g → Only r (cond b f g)
 either true p q = p
 either false p q = q
 
-module _ {r : Refusal} (one : ℕ → ℕ → Fault) (only : (p least : ℕ) → Only r (one p least)) (to next : ℕ → ℕ) where
+module _ {r : Refusal} (one : ℕ → ℕ → FirstFault) (only : (p least : ℕ) → Only r (one p least)) (to next : ℕ → ℕ) where
   walked : (n at least : ℕ) → Only r (walk one to next n at least)
   unfolding walk
   walked zero at least = clear
   walked (suc n) at least = only at least and walked n (to at) (next at)
 
-all : {r : Refusal} (one : ℕ → Fault) → ((p : ℕ) → Only r (one p)) → (to : ℕ → ℕ) (n at : ℕ) → Only r (each one to n at)
+all : {r : Refusal} (one : ℕ → FirstFault) → ((p : ℕ) → Only r (one p)) → (to : ℕ → ℕ) (n at : ℕ) → Only r (each one to n at)
 all one only to n at = walked (λ p _. one p) (λ p _. only p) to (λ p. 0) n at 0
 
 module _ (t : List ℕ) where

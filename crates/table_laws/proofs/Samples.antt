@@ -1,4 +1,6 @@
 -- Small tables: some are accepted, so that a program which refuses every table does not keep to `table_fault`; one has a fault in either direction, and horizontal's is given.
+use Rattle.fields.specs.Faults.{earlier}
+use Rattle.std.specs.Prelude.{None, Option}
 use Prim.Native.Nat.{ℕ, zero, suc, ◌+◌, ◌≤◌}
 use mathlib.Core.Path.{◌≡◌, refl, ap, ◌∙◌}
 use mathlib.Core.Bool.{Bool, true, false, cond}
@@ -8,8 +10,8 @@ use native.Mathlib.Omega.{arith}
 use lib.Dec.{ltb}
 use lib.ListN.{replicate}
 use Rattle.fields.specs.declared.Refusal.TheVariants.{Outside}
-use Rattle.fields.specs.declared.Fault.{Fault}
-use Rattle.fields.specs.declared.Fault.TheVariants.{Clear, Bad}
+use Rattle.fields.specs.Faults.{FirstFault}
+use Rattle.fields.specs.Faults.{Clear, Bad}
 use Rattle.fields.specs.Field.{u16_at, u32_at, be32}
 use Rattle.fields.specs.Faults.{◌then◌, rule, inside}
 use Rattle.fields.specs.Walk.{walk, each}
@@ -17,8 +19,6 @@ use Rattle.fields.proofs.Laws.{then-clear, then-go}
 use Rattle.types.specs.declared.Direction.TheVariants.{Horizontal}
 use Rattle.meaning.specs.Sheet.{write}
 use Rattle.meaning.proofs.SheetLaws.{empty-sheet}
-use Rattle.lookup.specs.declared.Found.{Found}
-use Rattle.lookup.specs.declared.Found.TheVariants.{Nothing}
 use Rattle.lookup.specs.Units.{unit_size}
 use Rattle.lookup.specs.Find.{units_value, has_units, unit_count, value_from, value_of}
 use Rattle.lookup.specs.Lookup.{counted_fault, format_fault, lookup_fault}
@@ -62,7 +62,7 @@ bare-sheet n = ap write (bare-meaning n) ∙ empty-sheet n
 
 -- ---- a direction that is present and holds nothing
 
-all-clear : (one : ℕ → Fault) → ((p : ℕ) → one p ≡ Clear) → (n at : ℕ) → each one (λ p. p + 1) n at ≡ Clear
+all-clear : (one : ℕ → FirstFault) → ((p : ℕ) → one p ≡ Clear) → (n at : ℕ) → each one (λ p. p + 1) n at ≡ Clear
 unfolding walk
 all-clear one h zero at = refl
 all-clear one h (suc n) at = then-go _ (h at) ∙ all-clear one h n (at + 1)
@@ -72,20 +72,20 @@ unfolding hollow_table u16_at u32_at
 hollow-header n a b = record { long = omega arith; short = omega arith; some = a; few = b; version = refl; format = refl }
 
 -- no glyph has a width value
-hollow-value : (n g : ℕ) → value_of hollow_table n 16 g ≡ Nothing
+hollow-value : (n g : ℕ) → value_of hollow_table n 16 g ≡ None
 unfolding hollow_table u16_at value_of value_from unit_count has_units units_value
 hollow-value n g = go (ltb g n)
   where
-    go : (b : Bool) → cond b (value_from hollow_table 16 g (unit_count hollow_table 16) 28) Nothing ≡ Nothing
+    go : (b : Bool) → cond b (value_from hollow_table 16 g (unit_count hollow_table 16) 28) None ≡ None
     go true = refl
     go false = refl
 
 hollow-glyph : (n g : ℕ) → target_fault hollow_table n Clusters 16 0 g ≡ Clear
 unfolding target_fault
-hollow-glyph n g = ap (λ (f : Found). spot_fault hollow_table n Clusters (spot_of Clusters 0 f)) (hollow-value n g)
+hollow-glyph n g = ap (λ (f : Option ℕ). spot_fault hollow_table n Clusters (spot_of Clusters 0 f)) (hollow-value n g)
 
 hollow-lookup : (n : ℕ) → lookup_fault hollow_table n 16 ≡ Clear
-unfolding hollow_table u16_at lookup_fault format_fault counted_fault unit_size inside rule ◌then◌ walk
+unfolding hollow_table u16_at lookup_fault format_fault counted_fault unit_size inside rule earlier walk
 hollow-lookup n = refl
 
 hollow-widths : (n : ℕ) → values_fault hollow_table n Clusters 16 0 ≡ Clear
@@ -97,7 +97,7 @@ unfolding hollow_table u16_at
 hollow-empty n = record { no-machine = refl; no-widths = λ g _. hollow-value n g; no-actions = inl refl }
 
 hollow-horizontal : (n : ℕ) → direction_fault hollow_table n (u16_at hollow_table 6) ≡ Clear
-unfolding hollow_table u16_at direction_fault present offsets_fault machine_part action_part inside rule ◌then◌
+unfolding hollow_table u16_at direction_fault present offsets_fault machine_part action_part inside rule earlier
 hollow-horizontal n = then-clear (values_fault hollow_table n Clusters 16 0) ∙ hollow-widths n
 
 hollow-vertical : (n : ℕ) → direction_fault hollow_table n (u16_at hollow_table 8) ≡ Clear
@@ -122,11 +122,11 @@ hollow-sheet n = ap write (hollow-meaning n)
 
 -- vertical's fault is refusal 4 at 11
 pub stray-vertical : (n : ℕ) → direction_fault stray_table n (u16_at stray_table 8) ≡ Bad Outside 11
-unfolding stray_table u16_at direction_fault present offsets_fault inside rule ◌then◌
+unfolding stray_table u16_at direction_fault present offsets_fault inside rule earlier
 stray-vertical n = refl
 
 stray-horizontal : (n : ℕ) → direction_fault stray_table n (u16_at stray_table 6) ≡ Bad Outside 10
-unfolding stray_table u16_at direction_fault present offsets_fault inside rule ◌then◌
+unfolding stray_table u16_at direction_fault present offsets_fault inside rule earlier
 stray-horizontal n = refl
 
 stray-header : (n : ℕ) → 1 ≤ n → n ≤ 65535 → GoodHeader stray_table n

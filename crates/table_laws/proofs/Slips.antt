@@ -1,8 +1,9 @@
 -- Small tables with something in them, read out: width value 0 is an offset and action value 0 is none; a glyph that the class table does not cover is class 1 below N
 -- and has no class at N and past it.
+use Rattle.fields.specs.Faults.{earlier}
 use mathlib.Core.Path.{◌≡◌, refl}
 use Rattle.fields.specs.declared.Refusal.TheVariants.{BadActions}
-use Rattle.fields.specs.declared.Fault.TheVariants.{Bad}
+use Rattle.fields.specs.Faults.{Bad}
 use Rattle.fields.specs.Field.{u16_at, u32_at}
 use Rattle.fields.specs.Faults.{◌then◌, rule, inside}
 use Rattle.fields.specs.Walk.{walk}
@@ -29,7 +30,7 @@ use Rattle.table_laws.specs.Samples.{zero_table, machine_table}
 
 -- the table is accepted with one glyph
 pub zero-accepted : Accepted zero_table 1
-unfolding zero_table Accepted table_fault header_fault direction_fault present offsets_fault machine_part action_part u16_at u32_at inside rule ◌then◌ walk values_fault lookup_fault format_fault counted_fault unit_size unit_fault single_fault target_fault value_of value_from unit_count has_units units_value covers first_of unit_value cluster.cluster_fault cluster.pair_fault cluster.pair_class_fault cluster.grow_fault cluster.shrink_fault cluster.flags_fault cluster.pair_class fixed_size
+unfolding zero_table Accepted table_fault header_fault direction_fault present offsets_fault machine_part action_part u16_at u32_at inside rule earlier walk values_fault lookup_fault format_fault counted_fault unit_size unit_fault single_fault target_fault value_of value_from unit_count has_units units_value covers first_of unit_value cluster.cluster_fault cluster.pair_fault cluster.pair_class_fault cluster.grow_fault cluster.shrink_fault cluster.flags_fault cluster.pair_class fixed_size
 zero-accepted = refl
 
 -- the value 0 gives glyph 0 a cluster: its one record, of class 5
@@ -45,7 +46,7 @@ zero-width = refl
 
 -- the value 0 gives it no action; what stands at pcTableOffset is no list, so whoever took the value for an offset would refuse the table
 pub zero-no-list : list_fault zero_table 1 48 ≡ Bad BadActions 48
-unfolding zero_table u16_at u32_at inside rule ◌then◌ list_fault
+unfolding zero_table u16_at u32_at inside rule earlier list_fault
 zero-no-list = refl
 
 pub zero-action : ask (meaning_of zero_table 1) (along Horizontal (action 0 0)) ≡ nothing
@@ -56,7 +57,7 @@ zero-action = refl
 
 -- the table is accepted with two glyphs
 pub class-accepted : Accepted machine_table 2
-unfolding machine_table Accepted table_fault header_fault direction_fault present offsets_fault machine_part action_part u16_at u32_at inside rule ◌then◌ walk values_fault lookup_fault format_fault counted_fault unit_size target_fault value_of value_from unit_count has_units units_value machine_fault head_fault class_table_fault class_fault entry_fault cell_fault row_fault raised raised_by fault_from cell_at entry_at
+unfolding machine_table Accepted table_fault header_fault direction_fault present offsets_fault machine_part action_part u16_at u32_at inside rule earlier walk values_fault lookup_fault format_fault counted_fault unit_size target_fault value_of value_from unit_count has_units units_value machine_fault head_fault class_table_fault class_fault entry_fault cell_fault row_fault raised raised_by fault_from cell_at entry_at
 class-accepted = refl
 
 -- glyph 0 is not covered: class 1; glyph 1 has the class of its byte; the font has no glyph 2
@@ -74,10 +75,10 @@ class-past = refl
 
 -- the row count is 2, for all cells lead to row 1
 pub class-sizes : ask (meaning_of machine_table 2) (along Horizontal sizes) ≡ both 2 4
-unfolding machine_table u16_at ask ask_side meaning_of direction_of side_at machine_of machine_at inside rule ◌then◌ walk entry_fault cell_fault row_fault raised raised_by fault_from count_from unless row_count cell_at entry_at
+unfolding machine_table u16_at ask ask_side meaning_of direction_of side_at machine_of machine_at inside rule earlier walk entry_fault cell_fault row_fault raised raised_by fault_from count_from unless row_count cell_at entry_at
 class-sizes = refl
 
 -- a cell: the new row's number and the flags
 pub class-cell : ask (meaning_of machine_table 2) (along Horizontal (cell 1 3)) ≡ entry (record { row = 1; flags = 0x8001 })
-unfolding machine_table u16_at ask ask_side meaning_of direction_of side_at machine_of machine_at inside rule ◌then◌ walk entry_fault cell_fault row_fault raised raised_by fault_from count_from unless row_count cell_at cell_by entry_at from
+unfolding machine_table u16_at ask ask_side meaning_of direction_of side_at machine_of machine_at inside rule earlier walk entry_fault cell_fault row_fault raised raised_by fault_from count_from unless row_count cell_at cell_by entry_at from
 class-cell = refl

@@ -1,4 +1,5 @@
 -- The meaning of an accepted table keeps the limits, so that what is written for it is a sheet.
+use Rattle.std.specs.Prelude.{None, Option, Some}
 use Prim.Native.Nat.{ℕ, ◌+◌, ◌*◌, ◌<◌}
 use mathlib.Core.Path.{◌≡◌}
 use mathlib.Core.Bool.{Bool, true, false, cond}
@@ -7,7 +8,7 @@ use mathlib.Core.List.{List, []}
 use native.Mathlib.Omega.{arith}
 use lib.Dec.{eqb}
 use lib.ListN.{length, replicate, length-replicate}
-use Rattle.fields.specs.declared.Fault.TheVariants.{Clear}
+use Rattle.fields.specs.Faults.{Clear}
 use Rattle.fields.specs.Field.{u16_at, Bytes}
 use Rattle.fields.specs.Faults.{◌then◌}
 use Rattle.fields.proofs.Walk.{walk-each}
@@ -22,8 +23,6 @@ use Rattle.meaning.proofs.SheetLaws.{empty-ok, is-sheet}
 use Rattle.machine.specs.Machine.{machine_fault}
 use Rattle.lookup.specs.Find.{value_of}
 use Rattle.cluster.proofs.Laws.{cluster-ok}
-use Rattle.actions.specs.declared.Spot.{Spot}
-use Rattle.actions.specs.declared.Spot.TheVariants.{At, Nowhere}
 use Rattle.actions.proofs.Laws.{list-ok}
 use Rattle.lookup_targets.specs.declared.Kind.{Kind}
 use Rattle.lookup_targets.specs.declared.Kind.TheVariants.{Clusters, Lists}
@@ -50,13 +49,13 @@ module _ (t : List ℕ) (n : ℕ) where
       rw p at (walk-each (λ p _. target_fault t n kind at base p) 1 (λ p. 0) n 0 0 (then-second _ _ e) g h).1
 
   module _ (w : Bytes t) where
-    cluster-here : (s : Spot) → spot_fault t n Clusters s ≡ Clear → OkCluster (cluster_here t s)
-    cluster-here (At p) e = cluster-ok t p e
-    cluster-here Nowhere e = no-cluster
+    cluster-here : (s : Option ℕ) → spot_fault t n Clusters s ≡ Clear → OkCluster (cluster_here t s)
+    cluster-here (Some p) e = cluster-ok t p e
+    cluster-here None e = no-cluster
 
-    list-here : (s : Spot) → spot_fault t n Lists s ≡ Clear → OkActions n (list_here t s)
-    list-here (At p) e = list-ok t n p w e
-    list-here Nowhere e = no-actions n
+    list-here : (s : Option ℕ) → spot_fault t n Lists s ≡ Clear → OkActions n (list_here t s)
+    list-here (Some p) e = list-ok t n p w e
+    list-here None e = no-actions n
 
     clusters-ok : (at base : ℕ) → values_fault t n Clusters at base ≡ Clear → All OkCluster (upto (cluster_of t n at base) n)
     unfolding cluster_of target_fault

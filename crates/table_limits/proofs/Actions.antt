@@ -8,7 +8,7 @@ use lib.Dec.{leb, ltb, eqb}
 use lib.ListN.{length, get_or, length-append}
 use borrow.Author.Tests.{le-leb, lt-ltb}
 use Rattle.fields.specs.declared.Refusal.TheVariants.{BadActions}
-use Rattle.fields.specs.declared.Fault.TheVariants.{Clear}
+use Rattle.fields.specs.Faults.{Clear}
 use Rattle.fields.specs.Field.{u16_at, u32_at, be32}
 use Rattle.fields.specs.Walk.{walk, each}
 use Rattle.fields.proofs.Laws.{rule-clear}

@@ -9,7 +9,7 @@ use lib.Dec.{leb}
 use lib.ListN.{length, length-append}
 use borrow.Author.Tests.{le-leb}
 use Rattle.fields.specs.declared.Refusal.TheVariants.{BadCluster}
-use Rattle.fields.specs.declared.Fault.TheVariants.{Clear}
+use Rattle.fields.specs.Faults.{Clear}
 use Rattle.fields.specs.Field.{u16_at, u32_at, be32}
 use Rattle.fields.specs.Faults.{inside}
 use Rattle.fields.specs.Walk.{walk}

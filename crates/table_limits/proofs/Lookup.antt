@@ -1,4 +1,5 @@
 -- The lookup with a closing unit that is counted has no fault wherever it stands; glyph 0 has its value, and no other glyph of a font has one.
+use Rattle.std.specs.Prelude.{None, Option, Some}
 use Prim.Native.Nat.{ℕ, zero, suc, ◌+◌, ◌*◌, ◌≤◌, ◌<◌}
 use mathlib.Core.Path.{◌≡◌, refl, sym, ap, ◌∙◌}
 use mathlib.Core.List.{List}
@@ -7,12 +8,10 @@ use lib.Dec.{eqb}
 use lib.ListN.{length}
 use borrow.Author.Tests.{le-leb}
 use Rattle.fields.specs.declared.Refusal.TheVariants.{BadLookup}
-use Rattle.fields.specs.declared.Fault.TheVariants.{Clear}
+use Rattle.fields.specs.Faults.{Clear}
 use Rattle.fields.specs.Field.{u16_at}
 use Rattle.fields.specs.Walk.{walk}
 use Rattle.fields.proofs.Laws.{rule-clear}
-use Rattle.lookup.specs.declared.Found.{Found}
-use Rattle.lookup.specs.declared.Found.TheVariants.{Value, Nothing}
 use Rattle.lookup.specs.Units.{unit_size, last_of, first_of, unit_fault, units_fault}
 use Rattle.lookup.specs.Lookup.{counted_fault, format_fault, lookup_fault}
 use Rattle.lookup.specs.Find.{units_value, has_units, unit_count, value_of}
@@ -92,14 +91,14 @@ module _ (t : List ℕ) (n at v : ℕ) (s : Stands t at (lookup_of v)) where
     unfolding first_of
     closing-of = closing-is
 
-    pub value-first : v < 65536 → g ≡ 0 → value_of t n at g ≡ Value v
+    pub value-first : v < 65536 → g ≡ 0 → value_of t n at g ≡ Some v
     value-first h e =
         from-two
         ∙ units-here t 6 at g 2 (at + 12) (omega arith)
         (covers_high t 6 g (at + 12) 0 (sym first-of) 0 (sym first-is) (omega arith) ∙ le-leb g 0 (omega arith))
-        ∙ ap Value (value-6 t 6 at g (at + 12) (λ e. omega arith) (λ e. omega arith) ∙ u16-is s (at + 12 + 2) 14 (omega arith) (omega (arith, m)) ∙ lookup-value v h)
+        ∙ ap Some (value-6 t 6 at g (at + 12) (λ e. omega arith) (λ e. omega arith) ∙ u16-is s (at + 12 + 2) 14 (omega arith) (omega (arith, m)) ∙ lookup-value v h)
 
-    pub value-other : n ≤ 65535 → 0 < g → value_of t n at g ≡ Nothing
+    pub value-other : n ≤ 65535 → 0 < g → value_of t n at g ≡ None
     value-other h l =
         from-two
         ∙ units-next t 6 at g 2 (at + 12) (at + 12 + 4) (omega arith) (ends-below t 6 g (at + 12) (omega (arith, first-is))) (ap (λ (k : ℕ). at + 12 + k) (sym (size-single 6 refl)))
@@ -108,11 +107,11 @@ module _ (t : List ℕ) (n at v : ℕ) (s : Stands t at (lookup_of v)) where
 
   -- ---- what the values lead to
 
-  module _ (kind : Kind) (base : ℕ) (few : n ≤ 65535) (small : v < 65536) (item : spot_fault t n kind (spot_of kind base (Value v)) ≡ Clear) where
+  module _ (kind : Kind) (base : ℕ) (few : n ≤ 65535) (small : v < 65536) (item : spot_fault t n kind (spot_of kind base (Some v)) ≡ Clear) where
     glyph-clear : (g : ℕ) → g < n → target_fault t n kind at base g ≡ Clear
     unfolding target_fault
-    glyph-clear zero h = ap (λ (f : Found). spot_fault t n kind (spot_of kind base f)) (value-first 0 h small refl) ∙ item
-    glyph-clear (suc g) h = ap (λ (f : Found). spot_fault t n kind (spot_of kind base f)) (value-other (suc g) h few (omega arith))
+    glyph-clear zero h = ap (λ (f : Option ℕ). spot_fault t n kind (spot_of kind base f)) (value-first 0 h small refl) ∙ item
+    glyph-clear (suc g) h = ap (λ (f : Option ℕ). spot_fault t n kind (spot_of kind base f)) (value-other (suc g) h few (omega arith))
 
     pub values-clear : values_fault t n kind at base ≡ Clear
     unfolding values_fault

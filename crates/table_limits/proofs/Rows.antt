@@ -8,7 +8,7 @@ use lib.Dec.{leb, ltb, eqb}
 use lib.ListN.{length}
 use borrow.Author.Tests.{ltb-true, lt-ltb}
 use Rattle.fields.specs.declared.Refusal.TheVariants.{BadMachine}
-use Rattle.fields.specs.declared.Fault.TheVariants.{Clear}
+use Rattle.fields.specs.Faults.{Clear}
 use Rattle.fields.specs.Field.{u16_at}
 use Rattle.fields.specs.Faults.{◌then◌}
 use Rattle.fields.proofs.Laws.{rule-clear, clear-inside}

@@ -5,8 +5,8 @@ use mathlib.Core.List.{List, ◌++◌}
 use native.Mathlib.Omega.{arith}
 use lib.ListN.{length, get_or, length-append, length-replicate, get_or-replicate, get_or-append}
 use lib.Seq.{get_or-append-add}
-use Rattle.fields.specs.declared.Fault.{Fault}
-use Rattle.fields.specs.declared.Fault.TheVariants.{Clear}
+use Rattle.fields.specs.Faults.{FirstFault}
+use Rattle.fields.specs.Faults.{Clear}
 use Rattle.fields.specs.Field.{u16_at, u32_at}
 use Rattle.fields.specs.Faults.{◌then◌, inside}
 use Rattle.fields.specs.Walk.{walk, each}
@@ -75,11 +75,11 @@ zeros-at n i h = get_or-replicate n i 0 0 h
 -- ---- parts without a fault
 
 infixr 20 ◌so◌
-pub ◌so◌ : {f g : Fault} → f ≡ Clear → g ≡ Clear → (f then g) ≡ Clear
+pub ◌so◌ : {f g : FirstFault} → f ≡ Clear → g ≡ Clear → (f then g) ≡ Clear
 ◌so◌ {f} {g} p q = then-go g p ∙ q
 
 -- n things of one size
-pub each-clear : (one : ℕ → Fault) (size n at : ℕ) → ((i : ℕ) → i < n → one (at + size * i) ≡ Clear) → each one (λ p. p + size) n at ≡ Clear
+pub each-clear : (one : ℕ → FirstFault) (size n at : ℕ) → ((i : ℕ) → i < n → one (at + size * i) ≡ Clear) → each one (λ p. p + size) n at ≡ Clear
 unfolding walk
 each-clear one size zero at h = refl
 each-clear one size (suc n) at h =

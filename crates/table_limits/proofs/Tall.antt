@@ -5,8 +5,8 @@ use mathlib.Core.List.{List, [], ◌∷◌, ◌++◌}
 use native.Mathlib.Omega.{arith}
 use native.Mathlib.Nat.{min-le_left}
 use lib.ListN.{length, length-append}
-use Rattle.fields.specs.declared.Fault.{Fault}
-use Rattle.fields.specs.declared.Fault.TheVariants.{Clear}
+use Rattle.fields.specs.Faults.{FirstFault}
+use Rattle.fields.specs.Faults.{Clear}
 use Rattle.fields.specs.Field.{u16_at}
 use Rattle.machine.specs.Cells.{class_count, class_table, entry_at, number_at, cell_at}
 use Rattle.machine.specs.Rows.{cell_place, entry_place, entry_fault, cell_fault, raised, raised_by, count_from, rows_fault, unless, count_of, row_count}
@@ -162,7 +162,7 @@ module _ {t : List ℕ} (here : ℕ) (s : Stands t here tall_machine) where
   pub tall-rows : row_count t here ≡ 256
   unfolding row_count unless
   tall-rows =
-      ap (λ (f : Fault). count_of (unless f (count_from t here 256 0 2))) rows-fine
+      ap (λ (f : FirstFault). count_of (unless f (count_from t here 256 0 2))) rows-fine
       ∙ counts-on t here 255 0 2 256 (omega arith) raise (rows-count t here 256 cell-clear cell-low 255 1)
 
   pub tall-clear : (n : ℕ) → machine_fault t n here ≡ Clear

@@ -6,8 +6,8 @@ use mathlib.Core.List.{List, ◌++◌}
 use native.Mathlib.Omega.{arith}
 use lib.Dec.{eqb}
 use lib.ListN.{length, length-append}
-use Rattle.fields.specs.declared.Fault.{Fault}
-use Rattle.fields.specs.declared.Fault.TheVariants.{Clear}
+use Rattle.fields.specs.Faults.{FirstFault}
+use Rattle.fields.specs.Faults.{Clear}
 use Rattle.fields.specs.Field.{u16_at, u32_at}
 use Rattle.machine.specs.Machine.{machine_fault}
 use Rattle.lookup_targets.specs.declared.Kind.TheVariants.{Clusters, Lists}
@@ -103,7 +103,7 @@ offset-first : (m : ℕ) → m < 65536 → u16_at (offsets m) 0 ≡ m
 unfolding offsets u16_at
 offset-first m h = omega arith
 
-present-clear : (at : ℕ) {f : Fault} → f ≡ Clear → present at f ≡ Clear
+present-clear : (at : ℕ) {f : FirstFault} → f ≡ Clear → present at f ≡ Clear
 unfolding present
 present-clear at {f} e = go (eqb at 0)
   where

@@ -7,7 +7,7 @@ use native.Mathlib.Nat.{min-le_left}
 use lib.ListN.{length, get_or, length-append}
 use borrow.Author.Tests.{lt-ltb}
 use Rattle.fields.specs.declared.Refusal.TheVariants.{BadMachine}
-use Rattle.fields.specs.declared.Fault.TheVariants.{Clear}
+use Rattle.fields.specs.Faults.{Clear}
 use Rattle.fields.specs.Field.{u16_at}
 use Rattle.fields.proofs.Laws.{rule-clear}
 use Rattle.machine.specs.Cells.{class_count, class_table, entry_at, number_at, cell_at}

@@ -7,7 +7,7 @@ ghost use Rattle.std.specs.Prelude.{◌≡◌};
 ghost use Rattle.meaning.specs.Ask.{record_of};
 ghost use Rattle.cluster.specs.Pairs.{cluster_at, sought_pair};
 
-use cluster::Sought;
+use types::Pair;
 
 #[derive(Clone, Copy)]
 pub struct Reader<'a> {
@@ -16,7 +16,7 @@ pub struct Reader<'a> {
 }
 
 // The record of a class in the cluster at a place.
-fn record_at(table: &[u8], place: u32, class: u8) -> Sought
+fn record_at(table: &[u8], place: u32, class: u8) -> Option<Pair>
     ensures { sought_pair result ≡ record_of class (cluster_at table.now place) }
 {
     cluster::record_of(table, place as usize, class)
@@ -41,7 +41,7 @@ impl<'a> Reader<'a> {
     }
 
     // The record that the cluster here gives a class.
-    pub fn record(self, class: u8) -> Sought
+    pub fn record(self, class: u8) -> Option<Pair>
         ensures { sought_pair result ≡ record_of class (cluster_at self.entry.table.now self.entry.place) }
     {
         record_at(self.table, self.place, class)
@@ -49,7 +49,7 @@ impl<'a> Reader<'a> {
 }
 
 // The record that the cluster at a place gives a class; over plain parameters, for callers that hold no reader.
-pub fn record_by(table: &[u8], place: u32, class: u8) -> Sought
+pub fn record_by(table: &[u8], place: u32, class: u8) -> Option<Pair>
     ensures { sought_pair result ≡ record_of class (cluster_at table.now place) }
 {
     Reader::new(table).moved(place).record(class)

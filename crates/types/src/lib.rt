@@ -8,7 +8,7 @@ ghost use Rattle.std.specs.Prelude.{◌≡◌};
 ghost use Rattle.types.specs.InC.{direction_in};
 
 // Horizontal stands first in a table, in a sheet and in the order of faults.
-#[derive(Clone, Copy)]
+#[derive(Clone, Copy, PartialEq, Eq)]
 pub enum Direction {
     Horizontal,
     Vertical,
@@ -16,7 +16,7 @@ pub enum Direction {
 
 // What a cell of the class machine holds: the new row's number and the flags.
 #[repr(C)]
-#[derive(Clone, Copy)]
+#[derive(Clone, Copy, PartialEq, Eq)]
 pub struct Entry {
     pub row: u16,
     pub flags: u16,
@@ -24,7 +24,7 @@ pub struct Entry {
 
 // A side's limits in ems (Fixed), both as sizes.
 #[repr(C)]
-#[derive(Clone, Copy)]
+#[derive(Clone, Copy, PartialEq, Eq, PartialOrd, Ord)]
 pub struct Limits {
     pub grow: u32,
     pub shrink: u32,
@@ -32,7 +32,7 @@ pub struct Limits {
 
 // Of each: 0x1000 for unlimited, and the priority, 0 to 3.
 #[repr(C)]
-#[derive(Clone, Copy)]
+#[derive(Clone, Copy, PartialEq, Eq, PartialOrd, Ord)]
 pub struct Flags {
     pub grow: u16,
     pub shrink: u16,
@@ -40,7 +40,7 @@ pub struct Flags {
 
 // A width record with its class.
 #[repr(C)]
-#[derive(Clone, Copy)]
+#[derive(Clone, Copy, PartialEq, Eq, PartialOrd, Ord)]
 pub struct Pair {
     pub class: u32,
     pub before: Limits,
@@ -62,7 +62,7 @@ pub struct HeldAction {
 // An action that fires: the glyph's place in the line, the action's number in its list, both from 0, and 1 where a
 // type 2 action substitutes, else 0: a number, so that the record has no padding and each byte of a lent list is told.
 #[repr(C)]
-#[derive(Clone, Copy)]
+#[derive(Clone, Copy, PartialEq, Eq)]
 pub struct Verdict {
     pub place: u16,
     pub action: u16,
@@ -70,11 +70,13 @@ pub struct Verdict {
 }
 
 // A direction by its number, as programs in C and other languages hand it in.
-pub fn direction_in(number: u32) -> Direction
-    ensures { result ≡ direction_in number }
-{
-    if number == 0 {
-        return Direction::Horizontal;
+impl From<u32> for Direction {
+    ghost from_gives = { λ number direction. direction ≡ direction_in number };
+
+    fn from(number: u32) -> Direction {
+        if number == 0 {
+            return Direction::Horizontal;
+        }
+        Direction::Vertical
     }
-    Direction::Vertical
 }

@@ -21,19 +21,6 @@ small a =
     let h : a % 128 < 128 = mod-lt a (omega arith) in
     mod-eq_of_lt (omega arith)
 
-pub entry-put : (m s : Bool) (a b mark current : ℕ) → a ≡ cond m 1 0 → b ≡ cond s 1 0
-    → a * 32768 % 65536 + b * 16384 % 65536 + (mark % 128 * 128 % 65536 + current % 128) ≡ entry_flags m s mark current
-unfolding entry_flags
-entry-put true true a b mark current e f = rw (e, f) (omega (arith, small mark))
-entry-put true false a b mark current e f = rw (e, f) (omega (arith, small mark))
-entry-put false true a b mark current e f = rw (e, f) (omega (arith, small mark))
-entry-put false false a b mark current e f = rw (e, f) (omega (arith, small mark))
-
-pub width-put : (u : Bool) (a priority : ℕ) → a ≡ cond u 1 0 → a * 4096 % 65536 + priority % 16 ≡ width_flags u priority
-unfolding width_flags
-width-put true a priority e = omega arith
-width-put false a priority e = omega arith
-
 -- ---- a Fixed number
 
 pub fixed_of-low : (bits : ℕ) → bits < 2 ^ 31 → fixed_of bits ≡ pos bits
@@ -75,9 +62,6 @@ size_low bits h = ap nat_abs (fixed_of-low bits h)
 pub size-high : (bits : ℕ) → 2 ^ 31 ≤ bits → fixed_size bits ≡ 2 ^ 32 - bits
 unfolding fixed_size
 size-high bits h = ap nat_abs (fixed_of-high bits h) ∙ nat_abs-negℤ (2 ^ 32 - bits)
-
-pub size-high-is : (bits : ℕ) → 2 ^ 31 ≤ bits → bits < 2 ^ 32 → 4294967295 - bits + 1 ≡ fixed_size bits
-size-high-is bits l h = omega (arith, size-high bits l)
 
 -- ---- the factor
 

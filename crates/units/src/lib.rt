@@ -1,40 +1,32 @@
 // Distances and flags (document 01, "Numbers", and of "The table" the flags of entries and of width records).
 // A distance in ems and one in points are values of two types; only `factor` joins them, with a point size.
 // Flags are taken apart by shifts and masks and put together again by shifts.
-#![tactic(auto)]
+#![tactic(auto, unfolding(crate::specs::Fixed::fixed_size, crate::specs::Flags::entry_flags, crate::specs::Flags::width_flags))]
 
 ghost use Rattle.std.specs.Prelude.{◌≡◌, cond, ℕ, ◌+◌, ◌*◌, ◌/◌, ◌%◌, ◌<◌, ◌^◌};
 ghost use Rattle.units.specs.Fixed.{fixed_of, fixed_size, factor_of};
 ghost use Rattle.units.specs.Flags.{sets_mark, stays, mark_class, current_class, entry_flags, is_unlimited, priority_of, width_flags, kept_flags};
 
 // A distance in ems, Fixed: 65,536 is one em.
-#[derive(Clone, Copy)]
+#[derive(Clone, Copy, PartialEq, Eq)]
 pub struct Ems(pub i64);
 
 // A distance in units of 1/65,536 point.
-#[derive(Clone, Copy)]
+#[derive(Clone, Copy, PartialEq, Eq)]
 pub struct Units(pub i64);
 
 // The distance that the 32 bits of a Fixed say.
 pub fn fixed(bits: u32) -> Ems
     ensures { result.0 ≡ fixed_of bits }
 {
-    if bits < 2147483648 {
-        Ems(bits as i64)
-    } else {
-        Ems((bits as i64) - 4294967296)
-    }
+    Ems(i64::from(bits.cast_signed()))
 }
 
 // The size of a Fixed, its sign left out: 2,147,483,648 for the lowest one.
 pub fn fixed_size(bits: u32) -> u32
     ensures { result ≡ fixed_size bits }
 {
-    if bits < 2147483648 {
-        bits
-    } else {
-        4294967295 - bits + 1
-    }
+    bits.cast_signed().unsigned_abs()
 }
 
 // limit × size / 65,536, rounded down, below zero too. A limit that is neither a Fixed nor a Fixed's negative gives 0.
@@ -79,19 +71,12 @@ pub fn current_class(flags: u16) -> u8
     (flags & 0x7F) as u8
 }
 
-// A bit, 0 or 1.
-fn bit(set: bool) -> u16
-    ensures { (result ≡ cond set 1 0) × (result < 2) }
-{
-    if set { 1 } else { 0 }
-}
-
 // An entry's flags put together: of each class the low 7 bits count.
 pub fn entry_flags(sets_mark: bool, stays: bool, mark: u8, current: u8) -> u16
     ensures { result ≡ entry_flags sets_mark stays mark current }
 {
-    let high = (bit(sets_mark) << 15) + (bit(stays) << 14);
-    let classes = (((mark % 128) as u16) << 7) + ((current % 128) as u16);
+    let high = (u16::from(sets_mark) << 15) + (u16::from(stays) << 14);
+    let classes = (u16::from(mark % 128) << 7) + u16::from(current % 128);
     high + classes
 }
 
@@ -113,7 +98,7 @@ pub fn priority(flags: u16) -> u8
 pub fn width_flags(unlimited: bool, priority: u8) -> u16
     ensures { result ≡ width_flags unlimited priority }
 {
-    (bit(unlimited) << 12) + ((priority % 16) as u16)
+    (u16::from(unlimited) << 12) + u16::from(priority % 16)
 }
 
 // Grow or shrink flags with the ignored bits zero.

@@ -5,7 +5,7 @@ use mathlib.Core.Path.{◌≡◌, refl, sym, ap, ap₂, ◌∙◌, subst}
 use native.Mathlib.Nat.{mul-le-mul, div-le_self, add_assoc, add-zero}
 use native.Mathlib.Omega.{arith}
 use mathlib.Core.List.{List}
-use mathlib.Core.Logic.{◌⊎◌, inl, inr, ⊎_elim}
+use mathlib.Core.Logic.{◌⊎◌, ⊎_elim}
 use lib.Dec.{ltb, eqb}
 use lib.IntN.{ℤ, pos, negsuc, neg_ℤ, nat_abs, neg_ℤ-neg_ℤ, ◌-ℤ◌, ◌*ℤ◌, +ℤ_idl}
 use lib.ListN.{drop}
@@ -196,22 +196,22 @@ module _ (content : List ℕ) (g : ℤ) (s : ℕ) where
   unfolding type_fires
   type-substitutes k e = sym (ap (λ (n : ℕ). type_fires n content g s) e)
 
-  pub type-stretches : (k : ℕ) → k < 5 → (k ≡ 0 → ⊥) → ((k ≡ 1) ⊎ (k ≡ 5) → ⊥) → (k ≡ 2 → ⊥) → stretches g ≡ type_fires k content g s
+  pub type-stretches : (k : ℕ) → 3 ≤ k → k ≤ 4 → stretches g ≡ type_fires k content g s
   unfolding type_fires
-  type-stretches zero h a b c = absurd (a refl)
-  type-stretches (suc zero) h a b c = absurd (b (inl refl))
-  type-stretches (suc (suc zero)) h a b c = absurd (c refl)
-  type-stretches (suc (suc (suc zero))) h a b c = refl
-  type-stretches (suc (suc (suc (suc zero)))) h a b c = refl
-  type-stretches (suc (suc (suc (suc (suc k))))) h a b c = absurd (omega arith)
+  type-stretches zero h l = absurd (omega arith)
+  type-stretches (suc zero) h l = absurd (omega arith)
+  type-stretches (suc (suc zero)) h l = absurd (omega arith)
+  type-stretches (suc (suc (suc zero))) h l = refl
+  type-stretches (suc (suc (suc (suc zero)))) h l = refl
+  type-stretches (suc (suc (suc (suc (suc k))))) h l = absurd (omega arith)
 
-  pub type-none : (k : ℕ) → 5 ≤ k → ((k ≡ 1) ⊎ (k ≡ 5) → ⊥) → No ≡ type_fires k content g s
+  pub type-none : (k : ℕ) → 6 ≤ k → No ≡ type_fires k content g s
   unfolding type_fires
-  type-none k h b =
+  type-none k h =
       simp (
         ne_eqb k 0 (λ e. omega arith),
         ne_eqb k 1 (λ e. omega arith),
-        ne_eqb k 5 (λ e. b (inr e)),
+        ne_eqb k 5 (λ e. omega arith),
         ne_eqb k 2 (λ e. omega arith),
         ne_eqb k 3 (λ e. omega arith),
         ne_eqb k 4 (λ e. omega arith),

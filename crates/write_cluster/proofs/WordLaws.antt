@@ -1,12 +1,8 @@
 -- The words of a cluster tell it, and which of two pairs comes earlier is told by their first fields that differ.
-use Prim.Native.Nat.{ℕ}
-use mathlib.Core.Path.{◌≡◌, sym, ◌∙◌}
-use mathlib.Core.Bool.{Bool}
+use mathlib.Core.Path.{◌≡◌}
 use mathlib.Core.List.{List, ◌++◌, head-eq_of_cons-eq, tail-eq_of_cons-eq}
-use Rattle.encoding.specs.Dictionary.{Before, listed, Free}
-use Rattle.encoding.specs.Tests.{Says}
-use Rattle.encoding.proofs.DictionaryLaws.{listed_free, words_same, told_of, rest-tells, first-tells}
-use Rattle.types.specs.declared.Limits.{Limits}
+use Rattle.encoding.specs.Dictionary.{listed, Free}
+use Rattle.encoding.proofs.DictionaryLaws.{listed_free, words_same}
 use Rattle.types.specs.declared.Pair.{Pair}
 use Rattle.write_cluster.specs.Words.{limits_words, flags_words, after_words, pair_words, cluster_words}
 
@@ -30,11 +26,3 @@ pair-free a b s t p q e =
 pub cluster-words-same : (x y : List Pair) → cluster_words x ≡ cluster_words y → x ≡ y
 unfolding cluster_words
 cluster-words-same x y e = words_same (listed pair_words) (listed_free pair_words pair-free) x y e
-
--- limits that were read as l and m, with what follows them
-module _ (r : Bool) {l l' m m' : Limits} (e : l ≡ l') (f : m ≡ m') (u v : List ℕ) where
-  pub limits-skipped : l ≡ m → Says r (Before u v) → Says r (Before (limits_words l' ++ u) (limits_words m' ++ v))
-  limits-skipped h s = rest-tells limits_words r l' m' u v (sym e ∙ h ∙ f) s
-
-  pub limits-tell : (l ≡ m → ⊥) → Says r (Before (limits_words l) (limits_words m)) → Says r (Before (limits_words l' ++ u) (limits_words m' ++ v))
-  limits-tell d s = first-tells limits_words limits-free r l' m' u v (λ h. d (e ∙ h ∙ sym f)) (told_of limits_words r e f s)

@@ -1,18 +1,7 @@
 -- A number below 2^32 for a cluster, the same for clusters that are the same: it tells where to look for one.
 use Rattle.std.specs.Prelude.{ℕ, ◌+◌, ◌*◌, ◌%◌, List, [], ◌∷◌, length, take}
-use Rattle.fields.specs.Field.{u16_at, u32_at}
-use Rattle.units.specs.Fixed.{fixed_size}
-use Rattle.units.specs.Flags.{kept_flags}
-use Rattle.types.specs.declared.Flags.{Flags}
 use Rattle.types.specs.declared.Limits.{Limits}
 use Rattle.types.specs.declared.Pair.{Pair}
-
--- the limits and the flags that begin at a position, as they are written
-abbrev pub limits_at : List ℕ → ℕ → Limits
-limits_at t at = record { grow = u32_at t at; shrink = fixed_size (u32_at t (at + 4)) }
-
-abbrev pub flags_at : List ℕ → ℕ → Flags
-flags_at t at = record { grow = kept_flags (u16_at t at); shrink = kept_flags (u16_at t (at + 2)) }
 
 abbrev pub limits_hash : Limits → ℕ
 limits_hash l = l.grow + 3 * l.shrink

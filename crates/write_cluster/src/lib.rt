@@ -2,150 +2,62 @@
 // whether two positions hold the same one and which comes earlier, a number that tells where to look for it, and storing
 // it into lent bytes. Two clusters are the same when they are written alike, whatever their ignored bits and the signs of
 // their shrink limits.
+// A cluster and a list are compared, ordered, hashed and stored by functions of their own: their elements have a fixed and a stored
+// length, and a trait over both would have one method for each of these functions and no code in common.
 #![tactic(auto)]
 
-ghost use Rattle.std.specs.Prelude.{◌≡◌, ◌++◌, ◌+◌, ◌*◌, ◌<◌, ◌^◌, length};
+ghost use Rattle.std.specs.Prelude.{◌≡◌, ◌++◌, ◌+◌, ◌*◌, ◌<◌, ◌^◌, MatchOption, length};
 ghost use Rattle.std.proofs.lemmas.List.Edits.{sets};
 ghost use Rattle.fields.specs.Field.{be16, be32};
 ghost use Rattle.encoding.specs.Codes.{many, counted};
 ghost use Rattle.meaning.specs.Sheet.{pair_code};
-ghost use Rattle.encoding.specs.Dictionary.{Before, ApartAt};
+ghost use Rattle.encoding.specs.Dictionary.{Before, Apart};
 ghost use Rattle.encoding.specs.Tests.{Says};
 ghost use Rattle.cluster.specs.Pairs.{pair_at, pairs_at, cluster_at};
-ghost use Rattle.write_cluster.specs.Hash.{limits_at, flags_at, limits_hash, pair_hash, cluster_hash};
-ghost use Rattle.write_cluster.specs.Words.{limits_words, flags_words, after_words, pair_words};
+ghost use Rattle.write_cluster.specs.Hash.{limits_hash, pair_hash, cluster_hash};
+ghost use Rattle.write_cluster.specs.Words.{pair_words};
 
-use encoding::Front;
-use types::{Flags, Limits};
+use types::{Limits, Pair};
 
-fn same_limits(a: Limits, b: Limits) -> bool
-    ensures { Says result (a ≡ b) }
-{
-    if a.grow != b.grow {
-        return false;
-    }
-    if a.shrink != b.shrink {
-        return false;
-    }
-    true
-}
-
-// The limits that begin at a position: grow, then shrink.
-fn limits_at(table: &[u8], at: usize) -> Limits
-    requires { at < 2 ^ 62 }
-    ensures { result ≡ limits_at table.now at }
-{
-    Limits {
-        grow: cluster::fixed_at(table, at),
-        shrink: cluster::size_at(table, at + 4),
-    }
-}
-
-// The flags that begin at a position: grow, then shrink.
-fn flags_at(table: &[u8], at: usize) -> Flags
-    requires { at < 2 ^ 62 }
-    ensures { result ≡ flags_at table.now at }
-{
-    Flags {
-        grow: cluster::kept_at(table, at),
-        shrink: cluster::kept_at(table, at + 2),
-    }
-}
-
-// Whether positions of two tables, or of one lent twice, hold the same pair: field by field, since where clusters overlap this is asked most.
+// Whether positions of two tables, or of one lent twice, hold the same pair. Field by field and not `==` of two pairs: where
+// clusters overlap this is asked most, and the class alone tells most pairs apart.
+#[tactic(auto, unfolding(cluster::specs::Pairs::pair_at))]
 pub fn same_pair<'a>(one: &'a [u8], other: &'a [u8], a: usize, b: usize) -> bool
     requires { (a < 2 ^ 61) × (b < 2 ^ 61) }
     ensures { Says result (pair_at one.now a ≡ pair_at other.now b) }
 {
-    if cluster::pair_class(one, a) != cluster::pair_class(other, b) {
-        return false;
-    }
-    if cluster::fixed_at(one, a + 4) != cluster::fixed_at(other, b + 4) {
-        return false;
-    }
-    if cluster::size_at(one, a + 8) != cluster::size_at(other, b + 8) {
-        return false;
-    }
-    if cluster::fixed_at(one, a + 12) != cluster::fixed_at(other, b + 12) {
-        return false;
-    }
-    if cluster::size_at(one, a + 16) != cluster::size_at(other, b + 16) {
-        return false;
-    }
-    if cluster::kept_at(one, a + 20) != cluster::kept_at(other, b + 20) {
-        return false;
-    }
-    if cluster::kept_at(one, a + 22) != cluster::kept_at(other, b + 22) {
-        return false;
-    }
-    true
+    cluster::pair_class(one, a) == cluster::pair_class(other, b)
+        && cluster::fixed_at(one, a + 4) == cluster::fixed_at(other, b + 4)
+        && cluster::size_at(one, a + 8) == cluster::size_at(other, b + 8)
+        && cluster::fixed_at(one, a + 12) == cluster::fixed_at(other, b + 12)
+        && cluster::size_at(one, a + 16) == cluster::size_at(other, b + 16)
+        && cluster::kept_at(one, a + 20) == cluster::kept_at(other, b + 20)
+        && cluster::kept_at(one, a + 22) == cluster::kept_at(other, b + 22)
 }
 
-// Past the pairs that are the same, of `count` from `first` of one table on and from `second` of the other on.
-fn past_same<'a>(one: &'a [u8], other: &'a [u8], first: usize, second: usize, count: usize) -> Front
+// The number of the first two pairs that differ, of `count` from `first` of one table on and from `second` of the other on.
+fn first_apart<'a>(
+    one: &'a [u8],
+    other: &'a [u8],
+    first: usize,
+    second: usize,
+    count: usize,
+) -> Option<usize>
     requires { (first + 24 * count < 2 ^ 60) × (second + 24 * count < 2 ^ 60) }
-    ensures { (result.a < 2 ^ 61) × (result.b < 2 ^ 61) × ApartAt pair_words (pair_at one.now) (pair_at other.now) (pairs_at one.now count first) (pairs_at other.now count second) result.left result.a result.b }
+    ensures { MatchOption result (pairs_at one.now count first ≡ pairs_at other.now count second)
+        (λ i. (i < count) × Apart pair_words (pairs_at one.now count first) (pairs_at other.now count second)
+        (pair_at one.now (first + 24 * i)) (pair_at other.now (second + 24 * i))) }
 {
-    let mut a = first;
-    let mut b = second;
-    let mut left = count;
-    while 0 < left {
-        if same_pair(one, other, a, b) {
-            a += 24;
-            b += 24;
-            left -= 1;
-        } else {
-            return Front { left, a, b };
+    for i in 0..count {
+        if !same_pair(one, other, first + 24 * i, second + 24 * i) {
+            return Some(i);
         }
     }
-    Front { left, a, b }
+    None
 }
 
-// Whether the `count` pairs from `first` of one table on are the same as those from `second` of the other on.
-fn same_pairs<'a>(one: &'a [u8], other: &'a [u8], first: usize, second: usize, count: usize) -> bool
-    requires { (first + 24 * count < 2 ^ 60) × (second + 24 * count < 2 ^ 60) }
-    ensures { Says result (pairs_at one.now count first ≡ pairs_at other.now count second) }
-{
-    let front = past_same(one, other, first, second, count);
-    if front.left == 0 {
-        return true;
-    }
-    false
-}
-
-fn earlier_limits(a: Limits, b: Limits) -> bool
-    ensures { Says result (Before (limits_words a) (limits_words b)) }
-{
-    if a.grow != b.grow {
-        return a.grow < b.grow;
-    }
-    a.shrink < b.shrink
-}
-
-fn earlier_flags(a: Flags, b: Flags) -> bool
-    ensures { Says result (Before (flags_words a) (flags_words b)) }
-{
-    if a.grow != b.grow {
-        return a.grow < b.grow;
-    }
-    a.shrink < b.shrink
-}
-
-// Whether the limits after and the flags of the pair at `a` come before those of the pair at `b`.
-fn earlier_after(table: &[u8], a: usize, b: usize) -> bool
-    requires { (a < 2 ^ 61) × (b < 2 ^ 61) }
-    ensures { Says result (Before (after_words (pair_at table.now a)) (after_words (pair_at table.now b))) }
-{
-    let first = limits_at(table, a + 12);
-    let second = limits_at(table, b + 12);
-    if same_limits(first, second) {
-        return earlier_flags(flags_at(table, a + 20), flags_at(table, b + 20));
-    } else {
-        return earlier_limits(first, second);
-    }
-}
-
-// Whether the pair at `a` comes before the one at `b`.
+// Whether the pair at `a` comes before the one at `b`. The class alone tells most pairs apart, and is read first.
+#[tactic(auto, unfolding(cluster::specs::Pairs::pair_at))]
 fn earlier_pair(table: &[u8], a: usize, b: usize) -> bool
     requires { (a < 2 ^ 61) × (b < 2 ^ 61) }
     ensures { Says result (Before (pair_words (pair_at table.now a)) (pair_words (pair_at table.now b))) }
@@ -155,13 +67,7 @@ fn earlier_pair(table: &[u8], a: usize, b: usize) -> bool
     if class != other {
         return class < other;
     }
-    let first = limits_at(table, a + 4);
-    let second = limits_at(table, b + 4);
-    if same_limits(first, second) {
-        return earlier_after(table, a, b);
-    } else {
-        return earlier_limits(first, second);
-    }
+    cluster::pair_at(table, a) < cluster::pair_at(table, b)
 }
 
 // Whether the `count` pairs from `first` on come before those from `second` on: the first two that differ tell it.
@@ -169,11 +75,10 @@ pub fn earlier_pairs(table: &[u8], first: usize, second: usize, count: usize) ->
     requires { (first + 24 * count < 2 ^ 60) × (second + 24 * count < 2 ^ 60) }
     ensures { Says result (Before (many pair_words (pairs_at table.now count first)) (many pair_words (pairs_at table.now count second))) }
 {
-    let front = past_same(table, table, first, second, count);
-    if front.left == 0 {
-        return false;
+    match first_apart(table, table, first, second, count) {
+        Some(i) => earlier_pair(table, first + 24 * i, second + 24 * i),
+        None => false,
     }
-    earlier_pair(table, front.a, front.b)
 }
 
 // Whether positions of two tables hold the same cluster.
@@ -183,11 +88,7 @@ pub fn same_cluster<'a>(one: &'a [u8], other: &'a [u8], first: u16, second: u16)
     let a = first as usize;
     let b = second as usize;
     let count = fields::u32_at(one, a);
-    if count == fields::u32_at(other, b) {
-        same_pairs(one, other, a + 4, b + 4, count)
-    } else {
-        false
-    }
+    count == fields::u32_at(other, b) && first_apart(one, other, a + 4, b + 4, count).is_none()
 }
 
 fn limits_hash(limits: Limits) -> usize
@@ -196,16 +97,12 @@ fn limits_hash(limits: Limits) -> usize
     limits.grow as usize + 3 * (limits.shrink as usize)
 }
 
-fn pair_hash(table: &[u8], at: usize) -> usize
-    requires { at < 2 ^ 61 }
-    ensures { (result ≡ pair_hash (pair_at table.now at)) × (result < 2 ^ 40) }
+fn pair_hash(pair: Pair) -> usize
+    ensures { (result ≡ pair_hash pair) × (result < 2 ^ 40) }
 {
-    let before = limits_hash(limits_at(table, at + 4));
-    let after = limits_hash(limits_at(table, at + 12));
-    let flags = flags_at(table, at + 20);
-    let sides = before + 5 * after;
-    let bits = 11 * (flags.grow as usize) + 13 * (flags.shrink as usize);
-    17 * (cluster::pair_class(table, at) as usize) + sides + bits
+    let sides = limits_hash(pair.before) + 5 * limits_hash(pair.after);
+    let bits = 11 * (pair.flags.grow as usize) + 13 * (pair.flags.shrink as usize);
+    17 * (pair.class as usize) + sides + bits
 }
 
 // A number for the cluster at a position, the same for the same clusters: by its count and its first four pairs,
@@ -213,14 +110,11 @@ fn pair_hash(table: &[u8], at: usize) -> usize
 pub fn cluster_hash(table: &[u8], at: u16) -> usize
     ensures { (result ≡ cluster_hash (cluster_at table.now at)) × (result < 2 ^ 32) }
 {
+    let first = at as usize + 4;
     let count = fields::u32_at(table, at as usize);
-    let mut left = fields::lower(count, 4);
-    let mut first = at as usize + 4;
     let mut hash = count;
-    while 0 < left {
-        hash = (31 * hash + pair_hash(table, first)) % 4294967296;
-        first += 24;
-        left -= 1;
+    for i in 0..count.min(4) {
+        hash = (31 * hash + pair_hash(cluster::pair_at(table, first + 24 * i))) % 4294967296;
     }
     hash
 }
@@ -240,23 +134,16 @@ fn put_limits(out: &mut [u8], to: usize, limits: Limits)
     fields::put_u32(out, to + 4, limits.shrink);
 }
 
-fn put_flags(out: &mut [u8], to: usize, flags: Flags)
-    requires { to < 2 ^ 62 }
-    ensures { out.new ≡ sets out.old to (be16 flags.grow ++ be16 flags.shrink) }
+// Stores a pair, in 24 bytes.
+fn put_pair(pair: Pair, out: &mut [u8], to: usize)
+    requires { to < 2 ^ 61 }
+    ensures { out.new ≡ sets out.old to (pair_code pair) }
 {
-    fields::put_u16(out, to, flags.grow);
-    fields::put_u16(out, to + 2, flags.shrink);
-}
-
-// Stores the pair at a position, in 24 bytes.
-fn put_pair(table: &[u8], at: usize, out: &mut [u8], to: usize)
-    requires { (at < 2 ^ 61) × (to < 2 ^ 61) }
-    ensures { out.new ≡ sets out.old to (pair_code (pair_at table.now at)) }
-{
-    fields::put_u32(out, to, cluster::pair_class(table, at));
-    put_limits(out, to + 4, limits_at(table, at + 4));
-    put_limits(out, to + 12, limits_at(table, at + 12));
-    put_flags(out, to + 20, flags_at(table, at + 20));
+    fields::put_u32(out, to, pair.class);
+    put_limits(out, to + 4, pair.before);
+    put_limits(out, to + 12, pair.after);
+    fields::put_u16(out, to + 20, pair.flags.grow);
+    fields::put_u16(out, to + 22, pair.flags.shrink);
 }
 
 // Stores the `count` pairs from `first` on.
@@ -264,14 +151,8 @@ fn put_pairs(table: &[u8], first: usize, count: usize, out: &mut [u8], to: usize
     requires { (first + 24 * count < 2 ^ 60) × (to + 24 * count < 2 ^ 60) }
     ensures { out.new ≡ sets out.old to (many pair_code (pairs_at table.now count first)) }
 {
-    let mut at = first;
-    let mut end = to;
-    let mut left = count;
-    while 0 < left {
-        put_pair(table, at, out, end);
-        at += 24;
-        end += 24;
-        left -= 1;
+    for i in 0..count {
+        put_pair(cluster::pair_at(table, first + 24 * i), out, to + 24 * i);
     }
 }
 

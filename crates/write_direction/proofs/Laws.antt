@@ -1,4 +1,6 @@
 -- A direction by its parts as they are stored, and what a direction without fault gives each of them.
+use Rattle.lookup_targets.specs.Values.{from_lookup}
+use Rattle.std.specs.Prelude.{None, Option, Some}
 use Prim.Native.Nat.{ℕ, zero, suc, ◌+◌, ◌<◌, ◌^◌}
 use mathlib.Core.Path.{◌≡◌, refl, sym, ap, ap₂, ◌∙◌}
 use mathlib.Core.Bool.{Bool, true, false, cond}
@@ -8,7 +10,7 @@ use native.Mathlib.Decide.{ℕ_discrete}
 use lib.ListN.{length, length-append, replicate}
 use lib.Dec.{eqb}
 use borrow.Author.Tests.{eq-eqb, ne_eqb}
-use Rattle.fields.specs.declared.Fault.TheVariants.{Clear}
+use Rattle.fields.specs.Faults.{Clear}
 use Rattle.fields.specs.Field.{Bytes}
 use Rattle.fields.proofs.Laws.{then-first}
 use Rattle.encoding.specs.Codes.{All}
@@ -19,15 +21,12 @@ use Rattle.lookup_targets.specs.declared.Kind.{Kind}
 use Rattle.lookup_targets.specs.declared.Kind.TheVariants.{Clusters, Lists}
 use Rattle.lookup_targets.specs.Values.{spot_of, cluster_here, list_here, cluster_of, list_of, values_fault, source_fault, NearSource}
 use Rattle.lookup.specs.Find.{value_of}
-use Rattle.actions.specs.declared.Spot.{Spot}
-use Rattle.actions.specs.declared.Spot.TheVariants.{At, Nowhere}
 use Rattle.types.specs.declared.Direction.{Direction}
 use Rattle.table.specs.Table.{direction_at, width_offset, action_offset, width_lookup, machine_place, source_there, source_at, header_fault, direction_fault, table_fault}
 use Rattle.table.specs.Means.{machine_of, lists_of, side_at, direction_of}
 use Rattle.table.proofs.Laws.{place_none, place-some, source-none, source-some, source_clear, direction-clear, short, few-glyphs}
 use Rattle.write_item.specs.Items.{item_at, item-discrete, item_code}
 use Rattle.lookup_targets.specs.declared.Source.{Source}
-use Rattle.lookup_targets.specs.declared.Source.TheVariants.{Lookup, Absent}
 use Rattle.write_glyphs.specs.Places.{item_here, items_from, SoundSource}
 use Rattle.write_pool.specs.Pool.{pool_bytes, Short, Numberable}
 use Rattle.write_machine.specs.Parts.{machine_parts, machine_bytes}
@@ -41,34 +40,34 @@ unfolding from
 from-same f g e zero i = refl
 from-same f g e (suc n) i = ap₂ (λ a l. a ∷ l) (e i) (from-same f g e n (suc i))
 
-cluster-here : (t : List ℕ) (spot : Spot) → item_here Clusters t spot ≡ cluster_here t spot
+cluster-here : (t : List ℕ) (spot : Option ℕ) → item_here Clusters t spot ≡ cluster_here t spot
 unfolding item_at
-cluster-here t (At p) = refl
-cluster-here t Nowhere = refl
+cluster-here t (Some p) = refl
+cluster-here t None = refl
 
-list-here : (t : List ℕ) (spot : Spot) → item_here Lists t spot ≡ list_here t spot
+list-here : (t : List ℕ) (spot : Option ℕ) → item_here Lists t spot ≡ list_here t spot
 unfolding item_at
-list-here t (At p) = refl
-list-here t Nowhere = refl
+list-here t (Some p) = refl
+list-here t None = refl
 
 module _ (t : List ℕ) (n : ℕ) where
-  clusters-are : (at base : ℕ) → upto (cluster_of t n at base) n ≡ items_from Clusters t n (Lookup at base)
+  clusters-are : (at base : ℕ) → upto (cluster_of t n at base) n ≡ items_from Clusters t n (from_lookup at base)
   unfolding items_from cluster_of
   clusters-are at base =
       sym (from-same (λ (g : ℕ). item_here Clusters t (spot_of Clusters base (value_of t n at g))) (λ (g : ℕ). cluster_here t (spot_of Clusters base (value_of t n at g)))
       (λ g. cluster-here t (spot_of Clusters base (value_of t n at g))) n 0)
 
-  lists-are : (at base : ℕ) → upto (list_of t n at base) n ≡ items_from Lists t n (Lookup at base)
+  lists-are : (at base : ℕ) → upto (list_of t n at base) n ≡ items_from Lists t n (from_lookup at base)
   unfolding items_from list_of
   lists-are at base =
       sym (from-same (λ (g : ℕ). item_here Lists t (spot_of Lists base (value_of t n at g))) (λ (g : ℕ). list_here t (spot_of Lists base (value_of t n at g)))
       (λ g. list-here t (spot_of Lists base (value_of t n at g))) n 0)
 
-  absent-clusters : replicate n [] ≡ items_from Clusters t n Absent
+  absent-clusters : replicate n [] ≡ items_from Clusters t n None
   unfolding items_from
   absent-clusters = refl
 
-  absent-lists : replicate n [] ≡ items_from Lists t n Absent
+  absent-lists : replicate n [] ≡ items_from Lists t n None
   unfolding items_from
   absent-lists = refl
 
@@ -82,7 +81,7 @@ module _ (t : List ℕ) (n : ℕ) where
         off : ℕ
         off = action_offset t at
 
-        go : (b : Bool) → cond b (replicate n []) (upto (list_of t n off off) n) ≡ items_from Lists t n (cond b Absent (Lookup off off))
+        go : (b : Bool) → cond b (replicate n []) (upto (list_of t n off off) n) ≡ items_from Lists t n (cond b None (from_lookup off off))
         go true = absent-lists
         go false = lists-are off off
 
@@ -140,17 +139,17 @@ module _ (t : List ℕ) (n : ℕ) where
   -- ---- a source without fault
 
   module _ (kind : Kind) where
-    pub source_sound : (s : Source) → NearSource s → source_fault t n kind s ≡ Clear → SoundSource t n s
+    pub source_sound : (s : Option Source) → NearSource s → source_fault t n kind s ≡ Clear → SoundSource t n s
     unfolding values_fault
-    source_sound (Lookup at base) near e = (omega (arith, near.0), near.1, then-first _ _ e)
-    source_sound Absent near e = tt
+    source_sound (Some s) near e = (omega (arith, near.0), near.1, then-first _ _ e)
+    source_sound None near e = tt
 
-    source-short : (s : Source) → Bytes t → source_fault t n kind s ≡ Clear → All (Short kind) (items_from kind t n s)
-    source-short (Lookup at base) w e = looked-short t n kind at base w e
-    source-short Absent w e = absent-short t n kind
+    source-short : (s : Option Source) → Bytes t → source_fault t n kind s ≡ Clear → All (Short kind) (items_from kind t n s)
+    source-short (Some s) w e = looked-short t n kind s.at s.base w e
+    source-short None w e = absent-short t n kind
 
 -- what the items of a kind need, from what the direction has
-pub pool-ready : (t : List ℕ) (n at : ℕ) → ClearSide t n at → Bytes t → (kind : Kind) (source : Source) → (source ≡ source_at t at kind) × NearSource source → Numberable kind t n source
+pub pool-ready : (t : List ℕ) (n at : ℕ) → ClearSide t n at → Bytes t → (kind : Kind) (source : Option Source) → (source ≡ source_at t at kind) × NearSource source → Numberable kind t n source
 pool-ready t n at r w kind source e =
     let clear = ap (source_fault t n kind) e.0 ∙ source_clear t at n r.clear kind in
     record { bytes = r.bytes; few = r.few; sound = source_sound t n kind source e.1 clear; short = source-short t n kind source w clear }

@@ -1,6 +1,6 @@
 -- One direction of a sheet for a table (document 01, "The sheet", sections 1 to 8), `at` being the direction's offset in the table, 0 where it is absent.
 use Rattle.std.specs.Prelude.{ℕ, ◌≤◌, ◌<◌, ◌^◌, ◌≡◌, List, length}
-use Rattle.fields.specs.declared.Fault.TheVariants.{Clear}
+use Rattle.fields.specs.Faults.{Clear}
 use Rattle.meaning.specs.Sheet.{write_side}
 use Rattle.table.specs.Table.{direction_fault}
 use Rattle.table.specs.Means.{direction_of}

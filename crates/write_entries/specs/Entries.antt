@@ -1,6 +1,7 @@
 -- Sections 3 and 4 of a sheet for the machine of a table (document 01, "The sheet"): its distinct entries in order of first use, row by row, and each
 -- cell's entry by its number. Entries are distinct by row number and flags: two stored numbers may name the same one.
-use Rattle.std.specs.Prelude.{ℕ, ◌+◌, ◌-◌, ◌≤◌, ◌<◌, ◌≡◌, List, [], map, get_or, take}
+use Rattle.std.specs.Prelude.{ℕ, ◌+◌, ◌≤◌, ◌<◌, ◌≡◌, List, [], map, get_or, take, Option, Some, None, IsSome}
+use Rattle.std.specs.Option.{unwrap_or}
 use Rattle.encoding.specs.Upto.{upto}
 use Rattle.encoding.specs.Distinct.{index, distinct}
 use Rattle.encoding.specs.Sections.{numbered}
@@ -25,19 +26,18 @@ distinct_of t here n = distinct Entry-discrete [] (stored_entries t here (stored
 unfoldable pub entry_bytes : List ℕ → ℕ → ℕ → List ℕ
 entry_bytes t here n = numbered Entry-discrete entry_code (stored_entries t here (stored_at t here n))
 
--- The first k of `firsts` are stored numbers whose entries are the distinct ones; the array `sheet` maps the stored number of each cell to one more than
--- the number of its entry in the sheet.
-pub record NumberedEntries (t : List ℕ) (here n : ℕ) (firsts sheet : List ℕ) (k : ℕ) : Type 0 where
+-- The first k of `firsts` are stored numbers whose entries are the distinct ones; the array `sheet` maps the stored number of each cell to the number of
+-- its entry in the sheet.
+pub record NumberedEntries (t : List ℕ) (here n : ℕ) (firsts : List ℕ) (sheet : List (Option ℕ)) (k : ℕ) : Type 0 where
   pub few : k ≤ 256
   pub found : distinct_of t here n ≡ stored_entries t here (take k firsts)
   pub each : (j : ℕ) → j < n
-      → index Entry-discrete (entry_at t here (get_or (stored_at t here n) j 0)) (distinct_of t here n) + 1 ≡ get_or sheet (get_or (stored_at t here n) j 0) 0
-  pub within : (j : ℕ) → j < n → get_or sheet (get_or (stored_at t here n) j 0) 0 ≤ k
+      → get_or sheet (get_or (stored_at t here n) j 0) None ≡ Some (index Entry-discrete (entry_at t here (get_or (stored_at t here n) j 0)) (distinct_of t here n))
 
 -- the bytes of section 4 without their count: the numbers that the array has for the cells
-unfoldable pub cell_bytes : List ℕ → List ℕ → List ℕ
-cell_bytes sheet stored = map (λ (q : ℕ). get_or sheet q 0 - 1) stored
+unfoldable pub cell_bytes : List (Option ℕ) → List ℕ → List ℕ
+cell_bytes sheet stored = map (λ (q : ℕ). unwrap_or (get_or sheet q None) 0) stored
 
 -- the array has a number for each of n cells
-abbrev pub Covers : List ℕ → List ℕ → ℕ → Type 0
-Covers sheet stored n = (j : ℕ) → j < n → (1 ≤ get_or sheet (get_or stored j 0) 0) × (get_or sheet (get_or stored j 0) 0 ≤ 256)
+abbrev pub Covers : List (Option ℕ) → List ℕ → ℕ → Type 0
+Covers sheet stored n = (j : ℕ) → j < n → IsSome (get_or sheet (get_or stored j 0) None)

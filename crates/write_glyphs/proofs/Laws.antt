@@ -1,4 +1,5 @@
 -- What stands at the places, the places of a run, and how far an item goes.
+use Rattle.std.specs.Prelude.{None, Option, Some}
 use Prim.Native.Nat.{ℕ, zero, suc, ◌+◌, ◌-◌, ◌*◌, ◌≤◌, ◌<◌, ◌^◌, min, max}
 use mathlib.Core.Path.{◌≡◌, refl, sym, ap, ap₂, ◌∙◌, subst}
 use mathlib.Core.Bool.{Bool, true, false, cond}
@@ -12,11 +13,7 @@ use borrow.Author.Tests.{lt-ltb, le-ltb, ltb-true, ltb-false}
 use Rattle.fields.specs.Field.{u16_at}
 use Rattle.encoding.specs.Tests.{Says}
 use Rattle.encoding.specs.Upto.{from}
-use Rattle.lookup.specs.declared.Found.{Found}
-use Rattle.lookup.specs.declared.Found.TheVariants.{Value}
 use Rattle.lookup.proofs.Laws.{value_in_lem}
-use Rattle.actions.specs.declared.Spot.{Spot}
-use Rattle.actions.specs.declared.Spot.TheVariants.{At, Nowhere}
 use Rattle.lookup_runs.specs.declared.Run.{Run}
 use Rattle.lookup_runs.specs.Runs.{field_in_run, Follows}
 use Rattle.lookup_targets.specs.declared.Kind.{Kind}
@@ -28,29 +25,23 @@ use Rattle.write_glyphs.specs.Places.{item_here, glyph_item, spot_place, value_p
 
 -- ---- what stands at a place
 
-there : (kind : Kind) (t : List ℕ) → length t ≤ 2 ^ 15 → (spot : Spot) → item_at kind t (spot_place spot) ≡ item_here kind t spot
-there kind t h Nowhere = item-past kind t (spot_place Nowhere) (omega arith)
-there kind t h (At p) = go (dec_lt p 65535)
+there : (kind : Kind) (t : List ℕ) → length t ≤ 2 ^ 15 → (spot : Option ℕ) → item_at kind t (spot_place spot) ≡ item_here kind t spot
+there kind t h None = item-past kind t (spot_place None) (omega arith)
+there kind t h (Some p) = go (dec_lt p 65535)
   where
     go : Dec (p < 65535) → item_at kind t (min p 65535) ≡ item_at kind t p
     go (yes l) = let e : min p 65535 ≡ p = omega arith in ap (item_at kind t) e
     go (no l) = item-past kind t (min p 65535) (omega (arith, l)) ∙ sym (item-past kind t p (omega (arith, l)))
 
 value_there : (kind : Kind) (t : List ℕ) (base : ℕ) → length t ≤ 2 ^ 15 → (p : ℕ)
-    → item_at kind t (value_place kind t base p) ≡ item_here kind t (spot_of kind base (Value (u16_at t p)))
+    → item_at kind t (value_place kind t base p) ≡ item_here kind t (spot_of kind base (Some (u16_at t p)))
 unfolding value_place
-value_there kind t base short p = there kind t short (spot_of kind base (Value (u16_at t p)))
+value_there kind t base short p = there kind t short (spot_of kind base (Some (u16_at t p)))
 
 pub map-from : {A B : Type 0} (f : ℕ → A) (g : A → B) (h : ℕ → B) → ((x : ℕ) → g (f x) ≡ h x) → (n i : ℕ) → map g (from f n i) ≡ from h n i
 unfolding from
 map-from f g h e zero i = refl
 map-from f g h e (suc n) i = ap₂ (λ a l. a ∷ l) (e i) (map-from f g h e n (suc i))
-
--- what a value leads to, as the code has its steps
-pub value-leads : (kind : Kind) (t : List ℕ) (base p value place : ℕ) (spot : Spot) → value ≡ u16_at t p → spot ≡ spot_of kind base (Value value) → place ≡ spot_place spot
-    → place ≡ value_place kind t base p
-unfolding value_place
-value-leads kind t base p value place spot v s e = e ∙ ap spot_place (s ∙ ap (λ (x : ℕ). spot_of kind base (Value x)) v)
 
 -- ---- the places of a run
 
@@ -79,11 +70,11 @@ run-item kind t n at base glyph x r short few w h u l = go (ltb x r.from) refl
     go true e =
         let before : x < r.from = ltb-true x r.from e in
         ap (item_at kind t) (place-before kind t base r.from r.place r.array x before) ∙ item-past kind t 65535 (omega arith)
-        ∙ sym (ap (λ (f : Found). item_here kind t (spot_of kind base f)) (value_in_lem t n at x l ∙ w.none x h before (omega arith)))
+        ∙ sym (ap (λ (f : Option ℕ). item_here kind t (spot_of kind base f)) (value_in_lem t n at x l ∙ w.none x h before (omega arith)))
     go false e =
         let among : r.from ≤ x = ltb-false x r.from e in
         ap (item_at kind t) (place_in kind t base r.from r.place r.array x among) ∙ value_there kind t base short (field_in_run r x)
-        ∙ sym (ap (λ (f : Found). item_here kind t (spot_of kind base f)) (value_in_lem t n at x l ∙ w.some x among u (omega arith)))
+        ∙ sym (ap (λ (f : Option ℕ). item_here kind t (spot_of kind base f)) (value_in_lem t n at x l ∙ w.some x among u (omega arith)))
 
 -- ---- values
 
@@ -148,14 +139,6 @@ noted-alike kind t base place n alike alike' w s o =
           (λ v. same-later kind t base place n (n - v.0) p (omega arith) (omega (arith, v.1, v.2)) s i (omega (arith, l, v.1, v.3)))
           (w.at p);
     }
-
--- a pass that had room has come further where its room is full
-pub went_on : (g₀ g m₀ m room : ℕ) → g₀ ≤ g → (g ≤ g₀ → m ≡ m₀) → m₀ < room → room ≤ m → g₀ < g
-went_on g₀ g m₀ m room h same before full = go (dec_lt g₀ g)
-  where
-    go : Dec (g₀ < g) → g₀ < g
-    go (yes l) = l
-    go (no l) = absurd (omega (arith, same (omega (arith, l))))
 
 -- ---- how far an item goes
 

@@ -1,15 +1,14 @@
 -- What each glyph has of a kind, a cluster or an action list, and where it stands (document 01, "The sheet": the width records of every glyph, every
 -- glyph's actions).
+use Rattle.lookup_targets.specs.Values.{from_lookup}
+use Rattle.std.specs.Prelude.{None, Option, Some}
 use Rattle.std.specs.Prelude.{ℕ, ◌+◌, ◌-◌, ◌*◌, ◌≤◌, ◌<◌, ◌^◌, min, ◌≡◌, Bool, cond, List, ◌∷◌, ◌++◌, ltb, length, get_or, take, replicate}
-use Rattle.fields.specs.declared.Fault.TheVariants.{Clear}
+use Rattle.fields.specs.Faults.{Clear}
 use Rattle.fields.specs.Field.{u16_at}
 use Rattle.encoding.specs.Distinct.{distinct, numbers}
 use Rattle.encoding.specs.Upto.{from, upto}
-use Rattle.lookup.specs.declared.Found.TheVariants.{Value}
 use Rattle.lookup.specs.Lookup.{lookup_fault}
 use Rattle.lookup.specs.Find.{value_of}
-use Rattle.actions.specs.declared.Spot.{Spot}
-use Rattle.actions.specs.declared.Spot.TheVariants.{At, Nowhere}
 use Rattle.lookup_targets.specs.declared.Kind.{Kind}
 use Rattle.lookup_targets.specs.Values.{spot_of}
 use Rattle.write_item.specs.Items.{Item, no_item, item_at, item-discrete}
@@ -17,35 +16,34 @@ use Rattle.write_numbers.specs.Numbered.{placed, distinct_of, Kept, Seen, KnownA
 use Rattle.write_runs.specs.Spread.{spread, Rise}
 use Rattle.write_glyphs.specs.declared.Pass.{Pass}
 use Rattle.lookup_targets.specs.declared.Source.{Source}
-use Rattle.lookup_targets.specs.declared.Source.TheVariants.{Lookup, Absent}
 
 -- the item of a place; none where there is none
-abbrev pub item_here : (kind : Kind) → List ℕ → Spot → Item kind
-item_here kind t (At p) = item_at kind t p
-item_here kind t Nowhere = no_item kind
+abbrev pub item_here : (kind : Kind) → List ℕ → Option ℕ → Item kind
+item_here kind t (Some p) = item_at kind t p
+item_here kind t None = no_item kind
 
 -- what a glyph of n has by the lookup at `at`, whose values are offsets from `base`
 abbrev pub glyph_item : (kind : Kind) → List ℕ → ℕ → ℕ → ℕ → ℕ → Item kind
 glyph_item kind t n at base glyph = item_here kind t (spot_of kind base (value_of t n at glyph))
 
 -- what each of n glyphs has: by a lookup, or none where there is no lookup
-unfoldable pub items_from : (kind : Kind) → List ℕ → ℕ → Source → List (Item kind)
-items_from kind t n (Lookup at base) = upto (glyph_item kind t n at base) n
-items_from kind t n Absent = replicate n (no_item kind)
+unfoldable pub items_from : (kind : Kind) → List ℕ → ℕ → Option Source → List (Item kind)
+items_from kind t n (Some s) = upto (glyph_item kind t n s.at s.base) n
+items_from kind t n None = replicate n (no_item kind)
 
 -- such a lookup is without fault, and it and its base stand near
-abbrev pub SoundSource : List ℕ → ℕ → Source → Type 0
-SoundSource t n (Lookup at base) = (at < 2 ^ 32) × (base < 2 ^ 16) × (lookup_fault t n at ≡ Clear)
-SoundSource t n Absent = Unit {0}
+abbrev pub SoundSource : List ℕ → ℕ → Option Source → Type 0
+SoundSource t n (Some s) = (s.at < 2 ^ 32) × (s.base < 2 ^ 16) × (lookup_fault t n s.at ≡ Clear)
+SoundSource t n None = Unit {0}
 
 -- a place as a 16-bit number: 65,535, where a table of at most 32,768 bytes has nothing, stands for none and for what is further on
-abbrev pub spot_place : Spot → ℕ
-spot_place (At p) = min p 65535
-spot_place Nowhere = 65535
+abbrev pub spot_place : Option ℕ → ℕ
+spot_place (Some p) = min p 65535
+spot_place None = 65535
 
 -- the place that the value at `p` leads to
 unfoldable pub value_place : Kind → List ℕ → ℕ → ℕ → ℕ
-value_place kind t base p = spot_place (spot_of kind base (Value (u16_at t p)))
+value_place kind t base p = spot_place (spot_of kind base (Some (u16_at t p)))
 
 -- the place of what a glyph has that stands in a run, which begins at the glyph `start` and whose values stand at `place`, or before it and has none
 unfoldable pub run_place : Kind → List ℕ → ℕ → ℕ → ℕ → Bool → ℕ → ℕ
@@ -111,4 +109,4 @@ pub record PassedOver (kind : Kind) (t : List ℕ) (n at base : ℕ) (ends nums 
   pub few : pass.items ≤ pass.stretches
   pub stops : pass.glyph < n → pass.stretches ≡ length ends
   pub numbered : n ≤ pass.glyph
-      → Numbered kind t (items_from kind t n (Lookup at base)) (spread 0 (take pass.stretches ends) (take pass.stretches nums)) firsts pass.items
+      → Numbered kind t (items_from kind t n (from_lookup at base)) (spread 0 (take pass.stretches ends) (take pass.stretches nums)) firsts pass.items

@@ -1,6 +1,7 @@
 // The clusters and the action lists of a table by one name (document 01, "The sheet", sections 5 and 7): how many
 // bytes one takes in the sheet, whether two positions hold the same one as written and which comes earlier, a number
-// that tells where to look for it, and storing it into lent bytes.
+// that tells where to look for it, and storing it into lent bytes. Which kind it is is read from a table, so that each function
+// matches on it: a type parameter for the kind would only move the match to each caller.
 #![tactic(auto)]
 
 ghost use Rattle.std.specs.Prelude.{◌≡◌, ◌≤◌, ◌<◌, ◌^◌, length};

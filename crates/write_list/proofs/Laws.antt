@@ -1,12 +1,13 @@
 -- Bytes and actions one after the other, and the bytes of an action and of a list.
 use Prim.Native.Nat.{ℕ, zero, suc, ◌+◌, ◌-◌, ◌*◌, ◌%◌, ◌≤◌, ◌<◌, ◌^◌}
-use mathlib.Core.Path.{◌≡◌, refl, sym, ap, ap₂, ◌∙◌, subst}
+use mathlib.Core.Path.{◌≡◌, refl, sym, ap, ap₂, ◌∙◌}
 use mathlib.Core.Bool.{Bool, true, false}
 use mathlib.Core.List.{List, [], ◌∷◌, ◌++◌, head-eq_of_cons-eq, tail-eq_of_cons-eq}
 use native.Mathlib.Omega.{arith}
 use native.Mathlib.Decide.{ℕ_discrete, dec_lt}
-use native.Mathlib.Numerals.{add-one}
 use lib.ListN.{length, get_or, length-append}
+use lib.Dec.{eqb}
+use Rattle.std.specs.Prelude.{cond}
 use borrow.Author.Tests.{eq-eqb, ne_eqb}
 use Rattle.fields.specs.Field.{u16_at, u32_at, be16, be32, Bytes}
 use Rattle.fields.proofs.Laws.{u16_at-fits, u32_at-past}
@@ -18,41 +19,40 @@ use Rattle.encoding.proofs.SectionLaws.{many-byte}
 use Rattle.meaning.specs.Meaning.{Action}
 use Rattle.meaning.specs.Sheet.{action_code}
 use Rattle.encoding.specs.Tests.{Says}
+use Rattle.encoding.proofs.DictionaryLaws.{says-iff}
+use Rattle.std.proofs.lemmas.List.{append_cancel_left}
 use Rattle.actions.specs.Faults.{data_size}
 use Rattle.actions.specs.Actions.{bytes_at, content_at, action_at, actions_at, list_at}
 use Rattle.actions.proofs.Copies.{bytes-length}
 use Rattle.actions.proofs.Laws.{list_length}
+use Rattle.write_list.specs.Kept.{left_out}
 use Rattle.write_list.specs.Hash.{weight, action_hash, actions_hash, list_hash}
 
 module _ (t : List ℕ) where
   -- ---- bytes
 
-  pub bytes-cons : (n at : ℕ) → 0 < n → bytes_at t at n ≡ get_or t at 0 ∷ bytes_at t (at + 1) (n - 1)
+  -- n bytes, of which m are left from p on after the first
+  pub bytes-cons : (n m at p : ℕ) → n ≡ m + 1 → p ≡ at + 1 → bytes_at t at n ≡ get_or t at 0 ∷ bytes_at t p m
   unfolding bytes_at from
-  bytes-cons zero at h = absurd (omega arith)
-  bytes-cons (suc n) at h =
-      let e : n ≡ suc n - 1 = omega arith in
-      ap₂ (λ (k p : ℕ). get_or t at 0 ∷ bytes_at t p k) e (sym (add-one at))
+  bytes-cons n m at p e f =
+      let k : n ≡ suc m = omega arith in
+      let q : suc at ≡ p = omega arith in
+      ap (bytes_at t at) k ∙ ap (λ (r : ℕ). get_or t at 0 ∷ bytes_at t r m) q
 
   pub bytes-none : (n at : ℕ) → n ≤ 0 → bytes_at t at n ≡ []
   unfolding bytes_at from
   bytes-none zero at h = refl
   bytes-none (suc n) at h = absurd (omega arith)
 
-  bytes-four : (n at : ℕ) → 3 < n
-      → bytes_at t at n ≡ get_or t at 0 ∷ get_or t (at + 1) 0 ∷ get_or t (at + 2) 0 ∷ get_or t (at + 2 + 1) 0 ∷ bytes_at t (at + 4) (n - 4)
-  unfolding bytes_at from
-  bytes-four zero at h = absurd (omega arith)
-  bytes-four (suc zero) at h = absurd (omega arith)
-  bytes-four (suc (suc zero)) at h = absurd (omega arith)
-  bytes-four (suc (suc (suc zero))) at h = absurd (omega arith)
-  bytes-four (suc (suc (suc (suc n)))) at h =
-      let a : suc at ≡ at + 1 = omega arith in
-      let b : suc (suc at) ≡ at + 2 = omega arith in
-      let c : suc (suc (suc at)) ≡ at + 2 + 1 = omega arith in
-      let d : suc (suc (suc (suc at))) ≡ at + 4 = omega arith in
-      let e : n ≡ suc (suc (suc (suc n))) - 4 = omega arith in
-      λ i. get_or t at 0 ∷ get_or t (a i) 0 ∷ get_or t (b i) 0 ∷ get_or t (c i) 0 ∷ bytes_at t (d i) (e i)
+  -- the same after the first four
+  bytes-four : (n m at p : ℕ) → n ≡ m + 4 → p ≡ at + 4
+      → bytes_at t at n ≡ get_or t at 0 ∷ get_or t (at + 1) 0 ∷ get_or t (at + 2) 0 ∷ get_or t (at + 2 + 1) 0 ∷ bytes_at t p m
+  bytes-four n m at p e f =
+      let w = bytes-cons n (m + 3) at (at + 1) (omega arith) refl in
+      let x = bytes-cons (m + 3) (m + 2) (at + 1) (at + 2) (omega arith) (omega arith) in
+      let y = bytes-cons (m + 2) (m + 1) (at + 2) (at + 2 + 1) (omega arith) refl in
+      let z = bytes-cons (m + 1) m (at + 2 + 1) p refl (omega arith) in
+      w ∙ ap (λ (l : List ℕ). get_or t at 0 ∷ l) (x ∙ ap (λ (l : List ℕ). get_or t (at + 1) 0 ∷ l) (y ∙ ap (λ (l : List ℕ). get_or t (at + 2) 0 ∷ l) z))
 
   -- ---- the data of an action
 
@@ -91,16 +91,21 @@ module _ (t : List ℕ) where
         go (no z) =
             content-other z f ∙ ap (bytes_at t (at + 8)) (sym (ap length (content-other z f) ∙ bytes-length t (at + 8) (data_size ty)))
 
+    -- the data as it is read
+    pub kept-5 : ty ≡ 5 → content_at t at ty ≡ left_out ty ++ bytes_at t (at + 10) 2
+    kept-5 e = content-5 e ∙ ap (λ (k : ℕ). left_out k ++ bytes_at t (at + 10) 2) (sym e)
+
+    pub kept-other : (s : ℕ) → (ty ≡ 5 → ⊥) → s ≡ length (content_at t at ty) → content_at t at ty ≡ left_out ty ++ bytes_at t (at + 8) s
+    kept-other s f e = content-plain f ∙ ap (bytes_at t (at + 8)) (sym e) ∙ simp (ne_eqb ty 5 f)
+
   -- ---- actions
 
-  pub actions-cons : (n at : ℕ) → 0 < n → actions_at t n at ≡ action_at t at ∷ actions_at t (n - 1) (at + u32_at t (at + 4))
+  -- n actions, of which m are left from p on after the first
+  pub actions-cons : (n m at p : ℕ) → n ≡ m + 1 → p ≡ at + u32_at t (at + 4) → actions_at t n at ≡ action_at t at ∷ actions_at t m p
   unfolding actions_at
-  actions-cons zero at h = absurd (omega arith)
-  actions-cons (suc n) at h = let e : n ≡ suc n - 1 = omega arith in ap (λ (k : ℕ). action_at t at ∷ actions_at t k (at + u32_at t (at + 4))) e
-
-  -- where the length of the first was read as j
-  pub actions-read : (n at j : ℕ) → 0 < n → j ≡ u32_at t (at + 4) → actions_at t n at ≡ action_at t at ∷ actions_at t (n - 1) (at + j)
-  actions-read n at j h e = actions-cons n at h ∙ ap (λ (i : ℕ). action_at t at ∷ actions_at t (n - 1) (at + i)) (sym e)
+  actions-cons n m at p e f =
+      let k : n ≡ suc m = omega arith in
+      ap (λ (j : ℕ). actions_at t j at) k ∙ ap (λ (q : ℕ). action_at t at ∷ actions_at t m q) (sym f)
 
   pub actions-none : (n at : ℕ) → n ≤ 0 → actions_at t n at ≡ []
   unfolding actions_at
@@ -131,71 +136,57 @@ module _ (t : List ℕ) where
       ∙ ap (λ (l : List ℕ). be16 c ++ (be16 k ++ (be32 (length (content_at t at k)) ++ l))) (sym (many-byte (content_at t at k)))
       ∙ ap₂ (λ (i j : ℕ). be16 i ++ (be16 j ++ counted byte (content_at t at j))) ec ek
 
-  pub many-cons : (n at j : ℕ) → 0 < n → j ≡ u32_at t (at + 4)
-      → many action_code (actions_at t n at) ≡ action_code (action_at t at) ++ many action_code (actions_at t (n - 1) (at + j))
-  many-cons n at j h e = ap (many action_code) (actions-read n at j h e)
+  pub many-cons : (n m at p : ℕ) → n ≡ m + 1 → p ≡ at + u32_at t (at + 4)
+      → many action_code (actions_at t n at) ≡ action_code (action_at t at) ++ many action_code (actions_at t m p)
+  many-cons n m at p e f = ap (many action_code) (actions-cons n m at p e f)
 
-  pub size-cons : (n at j : ℕ) → 0 < n → j ≡ u32_at t (at + 4)
-      → length (many action_code (actions_at t n at)) ≡ length (action_code (action_at t at)) + length (many action_code (actions_at t (n - 1) (at + j)))
-  size-cons n at j h e =
-      ap length (many-cons n at j h e) ∙ length-append (action_code (action_at t at)) (many action_code (actions_at t (n - 1) (at + j)))
+  pub size-cons : (n m at p : ℕ) → n ≡ m + 1 → p ≡ at + u32_at t (at + 4)
+      → length (many action_code (actions_at t n at)) ≡ length (action_code (action_at t at)) + length (many action_code (actions_at t m p))
+  size-cons n m at p e f =
+      ap length (many-cons n m at p e f) ∙ length-append (action_code (action_at t at)) (many action_code (actions_at t m p))
 
   pub size_none : (n at : ℕ) → n ≤ 0 → length (many action_code (actions_at t n at)) ≡ 0
   size_none n at h = ap (λ (l : List Action). length (many action_code l)) (actions-none n at h)
 
+  -- a list's actions, its count as it was read
+  pub list-actions : (at n : ℕ) → n ≡ u32_at t at → actions_at t n (at + 4) ≡ list_at t at
+  unfolding list_at
+  list-actions at n e = ap (λ (k : ℕ). actions_at t k (at + 4)) e
+
   -- the count as it was read, then so many actions
   pub list_code_lem : (at n : ℕ) → n ≡ u32_at t at → be32 n ++ many action_code (actions_at t n (at + 4)) ≡ counted action_code (list_at t at)
-  unfolding list_at
   list_code_lem at n e =
-      ap (λ (k : ℕ). be32 n ++ many action_code (actions_at t k (at + 4))) e
-      ∙ ap (λ (k : ℕ). be32 k ++ many action_code (actions_at t (u32_at t at) (at + 4))) (e ∙ sym (list_length t at))
+      ap (λ (l : List Action). be32 n ++ many action_code l) (list-actions at n e)
+      ∙ ap (λ (k : ℕ). be32 k ++ many action_code (list_at t at)) (e ∙ sym (list_length t at))
 
-  pub list-bytes : (at n : ℕ) → n ≡ u32_at t at → length (counted action_code (list_at t at)) ≡ 4 + length (many action_code (actions_at t n (at + 4)))
-  list-bytes at n e = omega (arith, ap length (list_code_lem at n e))
+  pub list-bytes : (at n k : ℕ) → n ≡ u32_at t at → k ≡ n → length (counted action_code (list_at t at)) ≡ 4 + length (many action_code (actions_at t k (at + 4)))
+  list-bytes at n k e f = omega (arith, ap length (list_code_lem at n e), ap (λ (j : ℕ). length (many action_code (actions_at t j (at + 4)))) f)
 
 -- bytes and actions of two tables, or of one taken twice
 module _ (t u : List ℕ) where
-  pub same_byte : (n a b : ℕ) → 0 < n → get_or t a 0 ≡ get_or u b 0 → bytes_at t (a + 1) (n - 1) ≡ bytes_at u (b + 1) (n - 1) → bytes_at t a n ≡ bytes_at u b n
-  same_byte n a b h e f = bytes-cons t n a h ∙ ap₂ (λ (x : ℕ) (l : List ℕ). x ∷ l) e f ∙ sym (bytes-cons u n b h)
+  -- n bytes of each, of which m are left from p and from q on after the first four
+  module _ (n m a b p q : ℕ) (en : n ≡ m + 4) (ep : p ≡ a + 4) (eq : q ≡ b + 4) where
+    pub same-four : Bytes t → Bytes u → u32_at t a ≡ u32_at u b → bytes_at t p m ≡ bytes_at u q m → bytes_at t a n ≡ bytes_at u b n
+    same-four bytes bytes' e f =
+        let w = word-halves t u bytes bytes' a b e in
+        let x = half-bytes t u bytes bytes' a b w.0 in
+        let y = half-bytes t u bytes bytes' (a + 2) (b + 2) w.1 in
+        bytes-four t n m a p en ep ∙ (λ i. x.0 i ∷ x.1 i ∷ y.0 i ∷ y.1 i ∷ f i) ∙ sym (bytes-four u n m b q en eq)
 
-  pub byte-same : (n a b : ℕ) → 0 < n → bytes_at t a n ≡ bytes_at u b n → (get_or t a 0 ≡ get_or u b 0) × (bytes_at t (a + 1) (n - 1) ≡ bytes_at u (b + 1) (n - 1))
-  byte-same n a b h e =
-      let f = sym (bytes-cons t n a h) ∙ e ∙ bytes-cons u n b h in
-      (head-eq_of_cons-eq f, tail-eq_of_cons-eq f)
+    pub four_same : bytes_at t a n ≡ bytes_at u b n → (u32_at t a ≡ u32_at u b) × (bytes_at t p m ≡ bytes_at u q m)
+    unfolding u32_at u16_at
+    four_same e =
+        let v = sym (bytes-four t n m a p en ep) ∙ e ∙ bytes-four u n m b q en eq in
+        let w = tail-eq_of_cons-eq v in
+        let r = tail-eq_of_cons-eq w in
+        let s = tail-eq_of_cons-eq r in
+        ((λ i. (head-eq_of_cons-eq v i * 256 + head-eq_of_cons-eq w i) * 65536 + (head-eq_of_cons-eq r i * 256 + head-eq_of_cons-eq s i)), tail-eq_of_cons-eq s)
 
-  pub same-four : Bytes t → Bytes u → (n a b : ℕ) → 3 < n → u32_at t a ≡ u32_at u b → bytes_at t (a + 4) (n - 4) ≡ bytes_at u (b + 4) (n - 4) → bytes_at t a n ≡ bytes_at u b n
-  same-four bytes bytes' n a b h e f =
-      let w = word-halves t u bytes bytes' a b e in
-      let x = half-bytes t u bytes bytes' a b w.0 in
-      let y = half-bytes t u bytes bytes' (a + 2) (b + 2) w.1 in
-      bytes-four t n a h ∙ (λ i. x.0 i ∷ x.1 i ∷ y.0 i ∷ y.1 i ∷ f i) ∙ sym (bytes-four u n b h)
-
-  pub four_same : (n a b : ℕ) → 3 < n → bytes_at t a n ≡ bytes_at u b n → (u32_at t a ≡ u32_at u b) × (bytes_at t (a + 4) (n - 4) ≡ bytes_at u (b + 4) (n - 4))
-  unfolding u32_at u16_at
-  four_same n a b h e =
-      let p = sym (bytes-four t n a h) ∙ e ∙ bytes-four u n b h in
-      let q = tail-eq_of_cons-eq p in
-      let r = tail-eq_of_cons-eq q in
-      let s = tail-eq_of_cons-eq r in
-      ((λ i. (head-eq_of_cons-eq p i * 256 + head-eq_of_cons-eq q i) * 65536 + (head-eq_of_cons-eq r i * 256 + head-eq_of_cons-eq s i)), tail-eq_of_cons-eq s)
-
-  pub same_next : (n a b j k : ℕ) → 0 < n → action_at t a ≡ action_at u b → j ≡ u32_at t (a + 4) → k ≡ u32_at u (b + 4)
-      → actions_at t (n - 1) (a + j) ≡ actions_at u (n - 1) (b + k) → actions_at t n a ≡ actions_at u n b
-  same_next n a b j k h e ej ek f =
-      actions-cons t n a h
-      ∙ ap₂ (λ (x : Action) (l : List Action). x ∷ l) e
-      (ap (λ (i : ℕ). actions_at t (n - 1) (a + i)) (sym ej) ∙ f ∙ ap (λ (i : ℕ). actions_at u (n - 1) (b + i)) ek)
-      ∙ sym (actions-cons u n b h)
-
-  pub next-same : (n a b j k : ℕ) → 0 < n → j ≡ u32_at t (a + 4) → k ≡ u32_at u (b + 4) → actions_at t n a ≡ actions_at u n b
-      → actions_at t (n - 1) (a + j) ≡ actions_at u (n - 1) (b + k)
-  next-same n a b j k h ej ek e =
-      ap (λ (i : ℕ). actions_at t (n - 1) (a + i)) ej
-      ∙ tail-eq_of_cons-eq (sym (actions-cons t n a h) ∙ e ∙ actions-cons u n b h)
-      ∙ ap (λ (i : ℕ). actions_at u (n - 1) (b + i)) (sym ek)
-
-  pub first-same : (n a b : ℕ) → 0 < n → actions_at t n a ≡ actions_at u n b → action_at t a ≡ action_at u b
-  first-same n a b h e = head-eq_of_cons-eq (sym (actions-cons t n a h) ∙ e ∙ actions-cons u n b h)
+-- the n bytes from a on in the one and from b on in the other are the same just where those after the first 4 * i are
+abbrev pub SameAfter : List ℕ → List ℕ → ℕ → ℕ → ℕ → ℕ → Type 0
+SameAfter t u a b n i =
+    (bytes_at t (a + 4 * i) (n - 4 * i) ≡ bytes_at u (b + 4 * i) (n - 4 * i) → bytes_at t a n ≡ bytes_at u b n)
+    × (bytes_at t a n ≡ bytes_at u b n → bytes_at t (a + 4 * i) (n - 4 * i) ≡ bytes_at u (b + 4 * i) (n - 4 * i))
 
 -- what is left to compare of two actions
 pub same-held : (t u : List ℕ) (r : Bool) (a b k : ℕ) → u16_at t a ≡ u16_at u b → k ≡ u16_at t (a + 2) → k ≡ u16_at u (b + 2)
@@ -227,40 +218,35 @@ pub no-data : (t u : List ℕ) (a b k : ℕ) → k ≡ 3 → content_at t a k �
 unfolding content_at
 no-data t u a b k e = rw e (bytes-none t 0 (a + 8) (omega arith) ∙ sym (bytes-none u 0 (b + 8) (omega arith)))
 
--- the data of two actions of one type, compared as it is written
-module _ (t u : List ℕ) (r : Bool) (a b k : ℕ) where
-  pub same-5 : k ≡ 5 → Says r (bytes_at t (a + 10) 2 ≡ bytes_at u (b + 10) 2) → Says r (content_at t a k ≡ content_at u b k)
-  same-5 e s = go r s
-    where
-      go : (r : Bool) → Says r (bytes_at t (a + 10) 2 ≡ bytes_at u (b + 10) 2) → Says r (content_at t a k ≡ content_at u b k)
-      go true f = content-5 t a k e ∙ ap (λ (l : List ℕ). 0 ∷ 0 ∷ l) f ∙ sym (content-5 u b k e)
-      go false f = λ g. f (tail-eq_of_cons-eq (tail-eq_of_cons-eq (sym (content-5 t a k e) ∙ g ∙ content-5 u b k e)))
+-- the data of two actions of one type: the same is left out of both
+module _ {cs ds : List ℕ} (z xs ys : List ℕ) (e : cs ≡ z ++ xs) (f : ds ≡ z ++ ys) where
+  pub same-kept : (r : Bool) → Says r (xs ≡ ys) → Says r (cs ≡ ds)
+  same-kept r s = says-iff r (λ g. e ∙ ap (λ (l : List ℕ). z ++ l) g ∙ sym f) (λ g. append_cancel_left z xs ys (sym e ∙ g ∙ f)) s
 
-  pub same-plain : (s : ℕ) → (k ≡ 5 → ⊥) → s ≡ length (content_at t a k) → s ≡ length (content_at u b k)
-      → Says r (bytes_at t (a + 8) s ≡ bytes_at u (b + 8) s) → Says r (content_at t a k ≡ content_at u b k)
-  same-plain s n ea eb f =
-      subst (λ (l : List ℕ). Says r (l ≡ content_at u b k)) (ap (bytes_at t (a + 8)) ea ∙ sym (content-plain t a k n))
-      (subst (λ (l : List ℕ). Says r (bytes_at t (a + 8) s ≡ l)) (ap (bytes_at u (b + 8)) eb ∙ sym (content-plain u b k n)) f)
+  pub sizes-kept : cs ≡ ds → length xs ≡ length ys
+  sizes-kept g = ap length (append_cancel_left z xs ys (sym e ∙ g ∙ f))
 
 -- ---- the number of a list
 
 module _ (t : List ℕ) where
-  pub weight-more : (n at sum total b : ℕ) → 0 < n → b ≡ get_or t at 0
-      → weight (sum + b) (total + (sum + b)) (bytes_at t (at + 1) (n - 1)) ≡ weight sum total (bytes_at t at n)
+  pub weight-more : (n m at p sum total b : ℕ) → n ≡ m + 1 → p ≡ at + 1 → b ≡ get_or t at 0
+      → weight (sum + b) (total + (sum + b)) (bytes_at t p m) ≡ weight sum total (bytes_at t at n)
   unfolding weight
-  weight-more n at sum total b h e =
-      ap (λ (k : ℕ). weight (sum + k) (total + (sum + k)) (bytes_at t (at + 1) (n - 1))) e ∙ ap (weight sum total) (sym (bytes-cons t n at h))
+  weight-more n m at p sum total b en ep e =
+      ap (λ (k : ℕ). weight (sum + k) (total + (sum + k)) (bytes_at t p m)) e ∙ ap (weight sum total) (sym (bytes-cons t n m at p en ep))
 
   pub weight-none : (n at sum total : ℕ) → n ≤ 0 → weight sum total (bytes_at t at n) ≡ total
   unfolding weight
   weight-none n at sum total h = ap (weight sum total) (bytes-none t n at h)
 
-  pub weight-5 : (at ty : ℕ) → ty ≡ 5 → weight 0 0 (bytes_at t (at + 10) 2) ≡ weight 0 0 (content_at t at ty)
+  -- what is left out weighs nothing
+  pub weight-kept : (ty : ℕ) {cs : List ℕ} (xs : List ℕ) → cs ≡ left_out ty ++ xs → weight 0 0 xs ≡ weight 0 0 cs
   unfolding weight
-  weight-5 at ty e = sym (ap (weight 0 0) (content-5 t at ty e))
-
-  pub weight-plain : (at ty s : ℕ) → (ty ≡ 5 → ⊥) → s ≡ length (content_at t at ty) → weight 0 0 (bytes_at t (at + 8) s) ≡ weight 0 0 (content_at t at ty)
-  weight-plain at ty s n e = ap (λ (k : ℕ). weight 0 0 (bytes_at t (at + 8) k)) e ∙ ap (weight 0 0) (sym (content-plain t at ty n))
+  weight-kept ty {cs} xs e = go (eqb ty 5) ∙ ap (weight 0 0) (sym e)
+    where
+      go : (b : Bool) → weight 0 0 xs ≡ weight 0 0 (cond b (0 ∷ 0 ∷ []) [] ++ xs)
+      go true = refl
+      go false = refl
 
   pub weight-3 : (at ty : ℕ) → ty ≡ 3 → 0 ≡ weight 0 0 (content_at t at ty)
   unfolding content_at weight
@@ -273,16 +259,16 @@ module _ (t : List ℕ) where
       let e : k ≡ u16_at t (at + 2) = omega (arith, u16_at-fits t (at + 2) bytes) in
       ap₂ ◌+◌ eh (ew ∙ ap (λ (j : ℕ). weight 0 0 (content_at t at j)) e)
 
-  pub hash-more : (n at hash w j : ℕ) → 0 < n → w ≡ action_hash (action_at t at) → j ≡ u32_at t (at + 4)
-      → actions_hash ((31 * hash + w) % 4294967296) (actions_at t (n - 1) (at + j)) ≡ actions_hash hash (actions_at t n at)
+  pub hash-more : (n m at p hash w : ℕ) → n ≡ m + 1 → p ≡ at + u32_at t (at + 4) → w ≡ action_hash (action_at t at)
+      → actions_hash ((31 * hash + w) % 4294967296) (actions_at t m p) ≡ actions_hash hash (actions_at t n at)
   unfolding actions_hash
-  hash-more n at hash w j h e ej =
-      ap₂ (λ (k i : ℕ). actions_hash ((31 * hash + k) % 4294967296) (actions_at t (n - 1) (at + i))) e ej ∙ ap (actions_hash hash) (sym (actions-cons t n at h))
+  hash-more n m at p hash w en ep e =
+      ap (λ (k : ℕ). actions_hash ((31 * hash + k) % 4294967296) (actions_at t m p)) e ∙ ap (actions_hash hash) (sym (actions-cons t n m at p en ep))
 
   pub hash-none : (n at hash : ℕ) → n ≤ 0 → actions_hash hash (actions_at t n at) ≡ hash
   unfolding actions_hash
   hash-none n at hash h = ap (actions_hash hash) (actions-none t n at h)
 
-  pub hash-all : (at n : ℕ) → n ≡ u32_at t at → actions_hash n (actions_at t n (at + 4)) ≡ list_hash (list_at t at)
+  pub hash-all : (at n k p : ℕ) → n ≡ u32_at t at → k ≡ n → p ≡ at + 4 → actions_hash n (actions_at t k p) ≡ list_hash (list_at t at)
   unfolding list_at
-  hash-all at n e = ap₂ actions_hash (e ∙ sym (list_length t at)) (ap (λ (m : ℕ). actions_at t m (at + 4)) e)
+  hash-all at n k p e f g = ap₂ actions_hash (e ∙ sym (list_length t at)) (ap₂ (λ (m q : ℕ). actions_at t m q) (f ∙ e) g)

@@ -1,22 +1,22 @@
 -- The words of an action list tell it, and which of two actions comes earlier is told by their first fields that differ.
-use Prim.Native.Nat.{ℕ, ◌+◌}
-use mathlib.Core.Path.{◌≡◌, sym, ap, ◌∙◌}
-use mathlib.Core.Bool.{Bool}
-use mathlib.Core.List.{List, [], ◌∷◌, head-eq_of_cons-eq, tail-eq_of_cons-eq}
+use Prim.Native.Nat.{ℕ, ◌+◌, ◌≤◌, ◌<◌}
+use native.Mathlib.Omega.{arith}
+use mathlib.Core.Path.{◌≡◌, refl, sym, ap, ◌∙◌, subst}
+use mathlib.Core.Bool.{Bool, true, false}
+use mathlib.Core.List.{List, ◌∷◌, ◌++◌, head-eq_of_cons-eq, tail-eq_of_cons-eq}
 use lib.Dec.{ltb}
-use lib.ListN.{length}
+use lib.ListN.{length, length-append}
+use Rattle.std.proofs.lemmas.Bool.{ltb-true, ltb-false, lt-ltb, le-ltb}
 use Rattle.fields.specs.Field.{u16_at}
 use Rattle.encoding.specs.Codes.{many}
 use Rattle.encoding.specs.Dictionary.{Before, listed, Free}
 use Rattle.encoding.specs.Sections.{byte}
-use Rattle.encoding.specs.Upto.{from}
 use Rattle.encoding.specs.Tests.{Says}
-use Rattle.encoding.proofs.SectionLaws.{byte-free}
+use Rattle.encoding.proofs.SectionLaws.{byte-free, many-byte}
 use Rattle.encoding.proofs.DictionaryLaws.{listed_free, words_same, shared-tells, told_of, number-skipped, number-tells}
 use Rattle.meaning.specs.Meaning.{Action}
-use Rattle.actions.specs.Actions.{bytes_at, content_at, action_at}
+use Rattle.actions.specs.Actions.{content_at, action_at}
 use Rattle.write_list.specs.Words.{action_words, list_words}
-use Rattle.write_list.proofs.Laws.{content-5, content-plain}
 
 pub action-free : Free action_words
 action-free a b s t p q e =
@@ -28,22 +28,35 @@ pub list-words-same : (x y : List Action) → list_words x ≡ list_words y → 
 unfolding list_words
 list-words-same x y e = words_same (listed action_words) (listed_free action_words action-free) x y e
 
--- the data of two actions of one type
-module _ (t : List ℕ) (r : Bool) (a b k : ℕ) where
-  pub told-5 : k ≡ 5 → Says r (Before (many byte (bytes_at t (a + 10) 2)) (many byte (bytes_at t (b + 10) 2)))
-      → Says r (Before (listed byte (content_at t a k)) (listed byte (content_at t b k)))
-  unfolding bytes_at from
-  told-5 e s =
-      told_of (listed byte) r (sym (content-5 t a k e)) (sym (content-5 t b k e))
-      (shared-tells r (4 ∷ 0 ∷ 0 ∷ []) (many byte (bytes_at t (a + 10) 2)) (many byte (bytes_at t (b + 10) 2)) s)
+-- the same number more on both sides
+ltb-more : (z m n : ℕ) → ltb (z + m) (z + n) ≡ ltb m n
+ltb-more z m n = go (ltb m n) refl
+  where
+    go : (r : Bool) → ltb m n ≡ r → ltb (z + m) (z + n) ≡ r
+    go true e = let h : m < n = ltb-true m n e in lt-ltb (z + m) (z + n) (omega arith)
+    go false e = let h : n ≤ m = ltb-false m n e in le-ltb (z + m) (z + n) (omega arith)
 
-  -- lengths that were read as m and n
-  pub told-plain : {m n : ℕ} → (k ≡ 5 → ⊥) → m ≡ length (content_at t a k) → n ≡ length (content_at t b k) → m ≡ n
-      → Says r (Before (many byte (bytes_at t (a + 8) m)) (many byte (bytes_at t (b + 8) m)))
-      → Says r (Before (listed byte (content_at t a k)) (listed byte (content_at t b k)))
-  told-plain z e f h s =
-      number-skipped e f (many byte (content_at t a k)) (many byte (content_at t b k)) r h
-      (told_of (many byte) r (ap (bytes_at t (a + 8)) e ∙ sym (content-plain t a k z)) (ap (bytes_at t (b + 8)) (h ∙ f) ∙ sym (content-plain t b k z)) s)
+-- the data of two actions of one type, of which the same is left out
+module _ {cs ds : List ℕ} (z xs ys : List ℕ) (e : cs ≡ z ++ xs) (f : ds ≡ z ++ ys) where
+  -- the lengths of what is kept were read as m and n
+  module _ {m n : ℕ} (em : m ≡ length xs) (en : n ≡ length ys) where
+    whole : length z + m ≡ length cs
+    whole = omega (arith, em, ap length e, length-append z xs)
+
+    whole' : length z + n ≡ length ds
+    whole' = omega (arith, en, ap length f, length-append z ys)
+
+    pub sizes-tell : (m ≡ n → ⊥) → Says (ltb m n) (Before (listed byte cs) (listed byte ds))
+    sizes-tell h =
+        subst (λ (r : Bool). Says r (Before (listed byte cs) (listed byte ds))) (ltb-more (length z) m n)
+        (number-tells whole whole' (many byte cs) (many byte ds) (λ g. h (omega arith)))
+
+    pub kept-tells : (r : Bool) → m ≡ n → Says r (Before (many byte xs) (many byte ys)) → Says r (Before (listed byte cs) (listed byte ds))
+    kept-tells r h s =
+        number-skipped whole whole' (many byte cs) (many byte ds) r (ap (λ (k : ℕ). length z + k) h)
+        (told_of (many byte) r (sym e) (sym f)
+        (told_of (λ (l : List ℕ). l) r (sym (many-byte (z ++ xs))) (sym (many-byte (z ++ ys)))
+        (shared-tells r z xs ys (told_of (λ (l : List ℕ). l) r (many-byte xs) (many-byte ys) s))))
 
 -- what an action has after its class and its type
 abbrev kept : List ℕ → ℕ → List ℕ

@@ -8,9 +8,9 @@ use native.Mathlib.Nat.{mul-le-mul}
 use lib.ListN.{length, get_or, replicate, length-append}
 use native.Mathlib.Decide.{ℕ_discrete, dec_lt}
 use borrow.Author.Tests.{eq-eqb, ne_eqb, le-leb, lt-leb, lt-ltb, le-ltb}
-use Rattle.fields.specs.declared.Fault.TheVariants.{Clear}
+use Rattle.fields.specs.Faults.{Clear}
 use Rattle.fields.specs.Field.{u16_at, be32}
-use Rattle.encoding.specs.Runs.{runs}
+use Rattle.encoding.specs.Runs.{Run, runs}
 use Rattle.encoding.specs.Upto.{from, upto}
 use Rattle.encoding.proofs.UptoLaws.{length_from, get_or-from}
 use Rattle.encoding.specs.Sections.{run_section, distinct_section, number_section, numbered}
@@ -18,7 +18,10 @@ use Rattle.meaning.specs.Discrete.{Entry-discrete}
 use Rattle.meaning.specs.Sheet.{entry_code}
 use Rattle.machine.specs.Cells.{class_count, class_table, class_at, state_array, entry_at}
 use Rattle.machine.specs.Rows.{row_count}
+use Rattle.machine.specs.Classes.{ClassesAt}
+use Rattle.machine.specs.declared.ClassTable.{ClassTable}
 use Rattle.machine.specs.Machine.{machine_fault}
+use Rattle.machine.proofs.Laws.{rows-most, classes-most, classes-least}
 use Rattle.table.specs.Means.{cell_by, machine_at, machine_of}
 use Rattle.table.specs.Table.{machine_part}
 use Rattle.table.proofs.Laws.{present-some}
@@ -28,8 +31,16 @@ use Rattle.write_runs.proofs.Stretch.{from-stretch}
 use Rattle.write_entries.specs.Entries.{stored_at, stored_entries, entry_bytes}
 use Rattle.write_machine.specs.Parts.{machine_parts, machine_bytes, OneClass}
 
-pub few-cells : (rows classes : ℕ) → rows ≤ 256 → classes ≤ 255 → rows * classes < 2 ^ 16
+few-cells : (rows classes : ℕ) → rows ≤ 256 → classes ≤ 255 → rows * classes < 2 ^ 16
 few-cells rows classes h k = omega (arith, mul-le-mul {n₁ = rows} {m₁ = classes} {n₂ = 256} {m₂ = 255} h k)
+
+-- a machine without fault has few rows, classes and cells
+pub few-of : (t : List ℕ) (n here rows classes : ℕ) → machine_fault t n here ≡ Clear → rows ≡ row_count t here → classes ≡ class_count t here
+    → (rows < 2 ^ 32) × (0 < classes) × (rows * classes < 2 ^ 16)
+few-of t n here rows classes h er ec =
+    let r = rows-most t n here h in
+    let c = classes-most t n here h in
+    (omega arith, omega (arith, classes-least t n here h), few-cells rows classes (omega arith) (omega arith))
 
 -- ---- none
 
@@ -80,36 +91,41 @@ module _ (t : List ℕ) (n offset : ℕ) where
   unfolding machine_part
   machine-clear e f = sym (present-some offset (machine_fault t n (offset + 8)) e) ∙ f
 
+pub ruleset by_offset = (bytes-none, bytes-some, machine-clear)
+
 -- ---- the classes of glyphs in a row
 
-module _ (t : List ℕ) (here at first past : ℕ) (ea : at ≡ class_table t here) (ef : first ≡ u16_at t at) (ep : past ≡ first + u16_at t (at + 2)) where
-  class-in : (g : ℕ) → first ≤ g → g < past → class_at t here g ≡ get_or t (at + 4 + (g - first)) 0
+module _ (t : List ℕ) (here : ℕ) (c : ClassTable) (w : ClassesAt t here c) where
+  abbrev first : ℕ
+  first = c.first
+
+  abbrev past : ℕ
+  past = c.first + c.count
+
+  first-is : first ≡ u16_at t (class_table t here)
+  first-is = w.first
+
+  past-is : past ≡ u16_at t (class_table t here) + u16_at t (class_table t here + 2)
+  past-is = ap₂ (λ (x y : ℕ). x + y) w.first w.count
+
+  class-in : (g : ℕ) → first ≤ g → g < past → class_at t here g ≡ get_or t (c.at + 4 + (g - first)) 0
   unfolding class_at
   class-in g a b =
-      let f : first ≡ u16_at t (class_table t here) = ef ∙ ap (u16_at t) ea in
-      let p : past ≡ u16_at t (class_table t here) + u16_at t (class_table t here + 2) = ep ∙ ap₂ (λ (x y : ℕ). x + u16_at t (y + 2)) f ea in
-      simp (le-leb (u16_at t (class_table t here)) g (omega (arith, f, a)), lt-ltb g (u16_at t (class_table t here) + u16_at t (class_table t here + 2)) (omega (arith, p, b)))
-      (ap₂ (λ (x y : ℕ). get_or t (x + 4 + (g - y)) 0) (sym ea) (sym f))
+      simp (le-leb (u16_at t (class_table t here)) g (omega (arith, first-is, a)), lt-ltb g (u16_at t (class_table t here) + u16_at t (class_table t here + 2)) (omega (arith, past-is, b)))
+      (ap₂ (λ (x y : ℕ). get_or t (x + 4 + (g - y)) 0) (sym w.at) (sym first-is))
 
   class-out : (g : ℕ) → (first ≤ g → g < past → ⊥) → class_at t here g ≡ 1
   unfolding class_at
-  class-out g n =
-      let f : first ≡ u16_at t (class_table t here) = ef ∙ ap (u16_at t) ea in
-      let p : past ≡ u16_at t (class_table t here) + u16_at t (class_table t here + 2) = ep ∙ ap₂ (λ (x y : ℕ). x + u16_at t (y + 2)) f ea in
-      go f p (dec_lt g (u16_at t (class_table t here)))
+  class-out g n = go (dec_lt g (u16_at t (class_table t here)))
     where
-      go : first ≡ u16_at t (class_table t here) → past ≡ u16_at t (class_table t here) + u16_at t (class_table t here + 2) → Dec (g < u16_at t (class_table t here))
-          → class_at t here g ≡ 1
-      go f p (yes l) = simp (lt-leb (u16_at t (class_table t here)) g l)
-      go f p (no l) =
-          simp (le-leb (u16_at t (class_table t here)) g (omega (arith, l)), le-ltb g (u16_at t (class_table t here) + u16_at t (class_table t here + 2)) (omega (arith, p, f, l, past-le f l)))
+      go : Dec (g < u16_at t (class_table t here)) → class_at t here g ≡ 1
+      go (yes l) = simp (lt-leb (u16_at t (class_table t here)) g l)
+      go (no l) =
+          simp (le-leb (u16_at t (class_table t here)) g (omega (arith, l)), le-ltb g (u16_at t (class_table t here) + u16_at t (class_table t here + 2)) (omega (arith, past-is, past_le (dec_lt g past))))
         where
-          past-le : first ≡ u16_at t (class_table t here) → (g < u16_at t (class_table t here) → ⊥) → past ≤ g
-          past-le f l = not-lt (dec_lt g past)
-            where
-              not-lt : Dec (g < past) → past ≤ g
-              not-lt (yes q) = absurd (n (omega (arith, f, l)) q)
-              not-lt (no q) = omega (arith, q)
+          past_le : Dec (g < past) → past ≤ g
+          past_le (yes q) = absurd (n (omega (arith, first-is, l)) q)
+          past_le (no q) = omega (arith, q)
 
   module _ (n glyph : ℕ) (h : glyph < n) where
     pub class-after : past ≤ glyph → OneClass t n here glyph n
@@ -131,38 +147,28 @@ module _ (t : List ℕ) (here at first past : ℕ) (ea : at ≡ class_table t he
         }
 
     pub class-within : (r : ℕ) → first ≤ glyph → glyph < past → 0 < r → r ≤ min past n - glyph
-        → ((k : ℕ) → k < r → get_or t (at + 4 + (glyph - first) + k) 0 ≡ get_or t (at + 4 + (glyph - first)) 0)
-        → (r < min past n - glyph → get_or t (at + 4 + (glyph - first) + r) 0 ≡ get_or t (at + 4 + (glyph - first)) 0 → ⊥) → OneClass t n here glyph (glyph + r)
-    class-within r a b c d e f =
+        → ((k : ℕ) → k < r → get_or t (c.at + 4 + (glyph - first) + k) 0 ≡ get_or t (c.at + 4 + (glyph - first)) 0)
+        → (r < min past n - glyph → get_or t (c.at + 4 + (glyph - first) + r) 0 ≡ get_or t (c.at + 4 + (glyph - first)) 0 → ⊥) → OneClass t n here glyph (glyph + r)
+    class-within r a b d l e f =
         record {
           more = omega arith;
           most = omega arith;
           same = λ g p q.
-              let s : at + 4 + (glyph - first) + (g - glyph) ≡ at + 4 + (g - first) = omega arith in
+              let s : c.at + 4 + (glyph - first) + (g - glyph) ≡ c.at + 4 + (g - first) = omega arith in
               class-in g (omega arith) (omega arith) ∙ ap (λ (x : ℕ). get_or t x 0) (sym s) ∙ e (g - glyph) (omega arith) ∙ sym (class-in glyph a b);
           other = λ k l q. ends k l q (dec_lt (glyph + r) past);
         }
       where
         ends : (class_at t here glyph ≡ 1 → ⊥) → glyph + r < n → class_at t here (glyph + r) ≡ class_at t here glyph → Dec (glyph + r < past) → ⊥
         ends k l q (yes z) =
-            let s : at + 4 + (glyph - first) + r ≡ at + 4 + (glyph + r - first) = omega arith in
+            let s : c.at + 4 + (glyph - first) + r ≡ c.at + 4 + (glyph + r - first) = omega arith in
             f (omega arith) (ap (λ (x : ℕ). get_or t x 0) s ∙ sym (class-in (glyph + r) (omega arith) z) ∙ q ∙ class-in glyph a b)
         ends k l q (no z) = k (sym q ∙ class-out (glyph + r) (λ x y. z y))
 
--- ---- bytes that are the same
-
-pub one_byte : (t : List ℕ) (at k : ℕ) → k < 1 → get_or t (at + k) 0 ≡ get_or t at 0
-one_byte t at k h = let e : at + k ≡ at = omega arith in ap (λ (x : ℕ). get_or t x 0) e
-
-pub more_bytes : (t : List ℕ) (at n : ℕ) → get_or t (at + n) 0 ≡ get_or t at 0 → ((k : ℕ) → k < n → get_or t (at + k) 0 ≡ get_or t at 0)
-    → (k : ℕ) → k < n + 1 → get_or t (at + k) 0 ≡ get_or t at 0
-more_bytes t at n e f k h = go (dec_lt k n)
-  where
-    go : Dec (k < n) → get_or t (at + k) 0 ≡ get_or t at 0
-    go (yes l) = f k l
-    go (no l) = let s : at + k ≡ at + n = omega (arith, l) in ap (λ (x : ℕ). get_or t x 0) s ∙ e
-
 -- ---- the runs from a glyph on
+
+abbrev pub runs_from : List ℕ → ℕ → ℕ → ℕ → List (Run ℕ)
+runs_from t n here glyph = runs ℕ_discrete 1 glyph (from (class_at t here) (n - glyph) glyph)
 
 module _ (t : List ℕ) (n here glyph end : ℕ) (w : OneClass t n here glyph end) where
   abbrev rest : List ℕ
@@ -171,14 +177,12 @@ module _ (t : List ℕ) (n here glyph end : ℕ) (w : OneClass t n here glyph en
   stretch : from (class_at t here) (n - glyph) glyph ≡ replicate (end - glyph) (class_at t here glyph) ++ rest
   stretch = from-stretch (class_at t here) n glyph end (class_at t here glyph) (omega (arith, w.more)) w.most w.same
 
-  pub class-skipped : class_at t here glyph ≡ 1
-      → runs ℕ_discrete 1 glyph (from (class_at t here) (n - glyph) glyph) ≡ runs ℕ_discrete 1 end rest
+  pub class-skipped : class_at t here glyph ≡ 1 → runs_from t n here glyph ≡ runs_from t n here end
   class-skipped e =
       ap (runs ℕ_discrete 1 glyph) (stretch ∙ ap (λ (v : ℕ). replicate (end - glyph) v ++ rest) e) ∙ runs-pass 1 glyph end rest w.more
 
   pub class-taken : (class_at t here glyph ≡ 1 → ⊥)
-      → runs ℕ_discrete 1 glyph (from (class_at t here) (n - glyph) glyph)
-      ≡ record { first = glyph; last = end - 1; value = class_at t here glyph } ∷ runs ℕ_discrete 1 end rest
+      → runs_from t n here glyph ≡ record { first = glyph; last = end - 1; value = class_at t here glyph } ∷ runs_from t n here end
   class-taken h =
       ap (runs ℕ_discrete 1 glyph) stretch
       ∙ runs-first 1 glyph end (class_at t here glyph) rest w.more h
@@ -187,10 +191,6 @@ module _ (t : List ℕ) (n here glyph end : ℕ) (w : OneClass t n here glyph en
       let q : end + 0 ≡ end = omega arith in
       w.other h l (sym (get_or-from (class_at t here) (n - end) end 0 0 (omega arith) ∙ ap (class_at t here) q) ∙ e))
 
-pub class-done : (t : List ℕ) (n here glyph : ℕ) → n ≤ glyph → runs ℕ_discrete 1 glyph (from (class_at t here) (n - glyph) glyph) ≡ []
+pub class-done : (t : List ℕ) (n here glyph : ℕ) → n ≤ glyph → runs_from t n here glyph ≡ []
 unfolding from
 class-done t n here glyph h = let z : n - glyph ≡ 0 = omega arith in ap (λ (k : ℕ). runs ℕ_discrete 1 glyph (from (class_at t here) k glyph)) z
-
--- at first all glyphs are left
-pub class-all : (t : List ℕ) (n here : ℕ) → runs ℕ_discrete 1 0 (from (class_at t here) (n - 0) 0) ≡ runs ℕ_discrete 1 0 (upto (class_at t here) n)
-class-all t n here = let z : n - 0 ≡ n = omega arith in ap (λ (k : ℕ). runs ℕ_discrete 1 0 (from (class_at t here) k 0)) z

@@ -1,16 +1,14 @@
 -- The search by halves for the items that come before x, of those listed in `others`.
 use Prim.Native.Nat.{ℕ, ◌+◌, ◌≤◌, ◌<◌}
 use mathlib.Core.Path.{◌≡◌, subst}
-use mathlib.Core.Bool.{Bool, true, false}
 use mathlib.Core.List.{List}
 use native.Mathlib.Decide.{ℕ_discrete, dec_lt}
 use native.Mathlib.Omega.{arith}
 use lib.ListN.{get_or}
-use Rattle.encoding.specs.Tests.{Says}
 use Rattle.lookup_targets.specs.declared.Kind.{Kind}
 use Rattle.write_item.specs.Items.{Item, Earlier}
 use Rattle.write_item.proofs.Earlier.{earlier-trans}
-use Rattle.write_numbers.specs.Numbered.{other_of, SortedOthers, Ranked}
+use Rattle.write_numbers.specs.Numbered.{other_of, SortedOthers}
 
 -- where the search stands: the first `low` come before x, and none from `high` on
 pub record Halves (kind : Kind) (t firsts others : List ℕ) (x : Item kind) (low high : ℕ) : Type 0 where
@@ -22,23 +20,6 @@ pub record Halves (kind : Kind) (t firsts others : List ℕ) (x : Item kind) (lo
 module _ (kind : Kind) (t firsts others : List ℕ) (x : Item kind) where
   abbrev other : ℕ → Item kind
   other = other_of kind t firsts others
-
-  pub halves-first : Halves kind t firsts others x 0 (get_or others 0 0)
-  halves-first =
-      record {
-        least = omega arith;
-        most = omega arith;
-        before = λ s l. absurd (omega arith);
-        after = λ s l h. absurd (omega arith);
-      }
-
-  pub halves-last : (low high : ℕ) → high ≤ low → Halves kind t firsts others x low high → Ranked kind t firsts others x low
-  halves-last low high l h =
-      record {
-        most = omega (arith, h.least, h.most);
-        before = h.before;
-        after = λ s a. h.after s (omega (arith, h.least));
-      }
 
   module _ (k low high middle : ℕ) (lm : low ≤ middle) (mh : middle < high) (sorted : SortedOthers kind t firsts others k) (h : Halves kind t firsts others x low high) where
     pub halves-lower : (Earlier kind (other middle) x → ⊥) → Halves kind t firsts others x low middle
@@ -55,8 +36,3 @@ module _ (kind : Kind) (t firsts others : List ℕ) (x : Item kind) where
         go : (s : ℕ) → s < middle + 1 → Dec (s < middle) → Earlier kind (other s) x
         go s l (yes b) = earlier-trans kind (other s) (other middle) x (sorted.rising s middle b (omega (arith, h.most))) e
         go s l (no b) = let q : middle ≡ s = omega (arith, b) in subst (λ (i : ℕ). Earlier kind (other i) x) q e
-
--- a test after one that held
-pub says_both : (b : Bool) (P Q : Type 0) → P → Says b Q → Says b (P × Q)
-says_both true P Q p q = (p, q)
-says_both false P Q p q = λ w. q w.1

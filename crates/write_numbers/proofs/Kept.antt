@@ -32,11 +32,6 @@ kept-none kind t firsts others slots bo bs =
       found = λ j l. absurd (omega arith);
     }
 
--- the same listed ones, among more
-pub sorted-wider : (kind : Kind) (t firsts others : List ℕ) (k n : ℕ) → k ≤ n → SortedOthers kind t firsts others k → SortedOthers kind t firsts others n
-sorted-wider kind t firsts others k n l s =
-    record { few = omega (arith, s.few); within = λ i h. omega (arith, s.within i h); rising = s.rising }
-
 -- ---- the index of an item
 
 module _ (kind : Kind) (t firsts : List ℕ) (k : ℕ) (x : Item kind) (l : k ≤ length firsts) where

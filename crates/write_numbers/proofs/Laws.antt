@@ -7,7 +7,7 @@ use native.Mathlib.Decide.{ℕ_discrete, dec_lt}
 use native.Mathlib.Omega.{arith}
 use native.Mathlib.Numerals.{add-one}
 use lib.ListN.{length, get_or, take, drop, set, replicate, length-append, length-set, drop_of_length-le, get_or-eq_default}
-use lib.Seq.{drop-cons, take-suc-set, get_or-set_same, get_or-set_other, length-take-le, take_all}
+use lib.Seq.{drop-cons, take-suc-set, get_or-set_same, get_or-set_other, length-take-le}
 use Rattle.write_numbers.specs.Numbered.{KnownNumbers}
 use Rattle.encoding.specs.Distinct.{index, distinct, numbers}
 use Rattle.encoding.proofs.DistinctLaws.{index-append, index-new, index_kept, index-added}
@@ -27,18 +27,6 @@ map_more f fs k p h =
     ap (map f) e ∙ map-append f (take k fs) (p ∷ [])
 
 module _ {A : Type 0} (eq : Discrete A) (f : ℕ → A) where
-  -- ---- the search for a position's index
-
-  pub index-hit : (fs : List ℕ) (i : ℕ) (x : A) → i < length fs → f (get_or fs i 0) ≡ x → index eq x (map f (drop i fs)) ≡ 0
-  index-hit fs i x h e = ap (index eq x) (map-drop f fs i h) ∙ if_pos (eq (f (get_or fs i 0)) x) e _ _
-
-  pub index-miss : (fs : List ℕ) (i : ℕ) (x : A) → i < length fs → (f (get_or fs i 0) ≡ x → ⊥)
-      → index eq x (map f (drop i fs)) ≡ suc (index eq x (map f (drop (i + 1) fs)))
-  index-miss fs i x h e = ap (index eq x) (map-drop f fs i h) ∙ if_neg (eq (f (get_or fs i 0)) x) e _ _
-
-  pub index-out : (fs : List ℕ) (i : ℕ) (x : A) → length fs ≤ i → index eq x (map f (drop i fs)) ≡ 0
-  index-out fs i x h = ap (λ (l : List ℕ). index eq x (map f l)) (drop_of_length-le fs h)
-
   -- ---- one turn
 
   -- one more of what was seen, or one that is new: what is added to the distinct ones, and its number among them
@@ -112,19 +100,7 @@ module _ {A : Type 0} (eq : Discrete A) (f : ℕ → A) where
           let w = k q (λ v. u (g ∙ v)) in
           (index-append eq (f q) S (f p ∷ []) (omega (arith, w.0, w.1)) ∙ w.0 ∙ sym g, omega (arith, w.1, len))
 
--- ---- a list filled with one value
-
-more : {A : Type 0} (i : ℕ) (v : A) → replicate i v ++ (v ∷ []) ≡ replicate (suc i) v
-more zero v = refl
-more (suc i) v = ap (λ (l : List _). v ∷ l) (more i v)
-
-pub fill_step : (l : List ℕ) (i v : ℕ) → i < length l → take i l ≡ replicate i v → take (i + 1) (set l i v) ≡ replicate (i + 1) v
-fill_step l i v h e =
-    let a : take (i + 1) (set l i v) ≡ take i l ++ (v ∷ []) = rw add-one (take-suc-set l i v h) in
-    a ∙ ap (λ (x : List ℕ). x ++ (v ∷ [])) e ∙ more i v ∙ ap (λ (k : ℕ). replicate k v) (sym (add-one i))
-
-pub fill_end : (l : List ℕ) (i n v : ℕ) → length l ≡ n → i ≡ n → take i l ≡ replicate i v → l ≡ replicate n v
-fill_end l i n v h e f = sym (take_all i l (omega arith)) ∙ f ∙ ap (λ (k : ℕ). replicate k v) e
+-- ---- a blank list
 
 pub get_or-zeros : (n q : ℕ) → get_or (replicate {A = ℕ} n 0) q 0 ≡ 0
 get_or-zeros zero q = refl

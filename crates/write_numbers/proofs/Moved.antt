@@ -1,8 +1,7 @@
 -- An index joins those listed in `others`: the later ones move up, the last one first.
-use Prim.Native.Nat.{ℕ, ◌+◌, ◌-◌, ◌≤◌, ◌<◌}
-use mathlib.Core.Path.{◌≡◌, refl, sym, ap, ◌∙◌}
+use Prim.Native.Nat.{ℕ, ◌+◌, ◌≤◌, ◌<◌}
+use mathlib.Core.Path.{◌≡◌, ap, ◌∙◌}
 use mathlib.Core.List.{List}
-use native.Mathlib.Decide.{ℕ_discrete}
 use native.Mathlib.Omega.{arith}
 use lib.ListN.{length, get_or, set, length-set}
 use lib.Seq.{get_or-set_same, get_or-set_other}
@@ -13,25 +12,6 @@ pub record Moved (others₀ others : List ℕ) (i : ℕ) : Type 0 where
   pub size : length others ≡ length others₀
   pub before : (s : ℕ) → s < i → get_or others s 0 ≡ get_or others₀ s 0
   pub after : (s : ℕ) → i ≤ s → s ≤ get_or others₀ 0 0 → get_or others (s + 1) 0 ≡ get_or others₀ s 0
-
-pub moved_none : (others : List ℕ) → Moved others others (get_or others 0 0 + 1)
-moved_none others = record { size = refl; before = λ s l. refl; after = λ s l h. absurd (omega arith) }
-
-pub moved-next : (others₀ others : List ℕ) (i : ℕ) → 0 < i → i < length others₀ → Moved others₀ others i
-    → Moved others₀ (set others i (get_or others (i - 1) 0)) (i - 1)
-moved-next others₀ others i p l m =
-    record {
-      size = length-set others i _ ∙ m.size;
-      before = λ s h. get_or-set_other others i s _ 0 (λ e. omega arith) ∙ m.before s (omega arith);
-      after = λ s h b. go s h b (ℕ_discrete s (i - 1));
-    }
-  where
-    go : (s : ℕ) → i - 1 ≤ s → s ≤ get_or others₀ 0 0 → Dec (s ≡ i - 1) → get_or (set others i (get_or others (i - 1) 0)) (s + 1) 0 ≡ get_or others₀ s 0
-    go s h b (yes e) =
-        let q : s + 1 ≡ i = omega arith in
-        ap (λ (j : ℕ). get_or (set others i (get_or others (i - 1) 0)) j 0) q ∙ get_or-set_same others i _ 0 (omega (arith, m.size))
-        ∙ m.before (i - 1) (omega arith) ∙ ap (λ (j : ℕ). get_or others₀ j 0) (sym e)
-    go s h b (no e) = get_or-set_other others i (s + 1) _ 0 (λ q. omega (arith, e, q)) ∙ m.after s (omega (arith, e)) b
 
 pub moved-stored : (others₀ others : List ℕ) (n index : ℕ) → n ≤ get_or others₀ 0 0 → n + 1 < length others₀ → Moved others₀ others (n + 1)
     → Inserted others₀ (set (set others (n + 1) index) 0 (get_or others₀ 0 0 + 1)) n index

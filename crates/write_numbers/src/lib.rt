@@ -3,9 +3,10 @@
 // The item at a position that is seen for the first time is looked for in a slot that its hash tells: `slots` has the number
 // of the first item whose slot it is. Those that find their slot taken are listed in `others`, which has how many they are and then
 // their indices, sorted as words in a dictionary, and searched by halves: many items of one slot cost little more.
+// In `slots` and `seen` 0 is for none: an Option of 16 bits would take twice the memory, which is fixed and blanked for each table.
 #![tactic(auto)]
 
-ghost use Rattle.std.specs.Prelude.{◌≡◌, ◌+◌, ◌%◌, ◌≤◌, ◌<◌, ◌^◌, max, length, get_or, set, replicate};
+ghost use Rattle.std.specs.Prelude.{◌≡◌, ◌+◌, ◌%◌, ◌≤◌, ◌<◌, ◌^◌, max, length, get_or, set};
 ghost use Rattle.fields.specs.Field.{u32_at};
 ghost use Rattle.encoding.specs.Tests.{Says};
 ghost use Rattle.write_item.specs.Items.{item_at, item_hash};
@@ -13,56 +14,54 @@ ghost use Rattle.write_numbers.specs.Numbered.{other_of, SortedOthers, Ranked, I
 
 use lookup_targets::Kind;
 
-// Sets every element.
-pub fn set_each(list: &mut [u16], value: u16)
-    ensures { list.new ≡ replicate (length list.old) value }
-{
-    let mut i: usize = 0;
-    while i < list.len() {
-        list[i] = value;
-        i += 1;
+// The items that found their slot taken: the places of all items, and the indices of those that are listed, after how many they are.
+#[derive(Clone, Copy)]
+struct Others<'a> {
+    table: &'a [u8],
+    kind: Kind,
+    firsts: &'a [u16],
+    list: &'a [u16],
+    ghost short: { length table.now ≤ 2 ^ 15 },
+    ghost counted: { get_or list.now 0 0 < length list.now },
+}
+
+impl Others<'_> {
+    // The `s`-th place, counted from 0, of those listed.
+    fn place(&self, s: usize) -> u16
+        requires { (s < get_or self.now.list.now 0 0) × (get_or self.now.list.now (s + 1) 0 < length self.now.firsts.now) }
+        ensures { result ≡ get_or self.now.firsts.now (get_or self.now.list.now (s + 1) 0) 0 }
+    {
+        let index = self.list[s + 1] as usize;
+        self.firsts[index]
     }
-}
 
-// The `s`-th place, counted from 0, of those listed in `others`.
-fn other_place(firsts: &[u16], others: &[u16], s: usize) -> u16
-    requires { (s + 1 < length others.now) × (get_or others.now (s + 1) 0 < length firsts.now) }
-    ensures { result ≡ get_or firsts.now (get_or others.now (s + 1) 0) 0 }
-{
-    let index = others[s + 1] as usize;
-    firsts[index]
-}
-
-// How many of the items listed in `others` come before the item at `place`, found by halves.
-fn earlier_count(table: &[u8], kind: Kind, firsts: &[u16], others: &[u16], place: u16) -> usize
-    requires table_len_bound { (length table.now ≤ 2 ^ 15) × (get_or others.now 0 0 < length others.now) }
-    requires sorted_others { SortedOthers kind table.now firsts.now others.now (length firsts.now) }
-    ensures { Ranked kind table.now firsts.now others.now (item_at kind table.now place) result }
-{
-    let mut low: usize = 0;
-    let mut high = others[0] as usize;
-    while low < high {
-        let middle = low + (high - low) / 2;
-        let other = other_place(firsts, others, middle);
-        if write_item::is_earlier(table, kind, other, place) {
-            low = middle + 1;
-        } else {
-            high = middle;
+    // How many of the items listed come before the item at `place`, found by halves.
+    fn earlier_count(&self, place: u16) -> usize
+        requires sorted { SortedOthers self.now.kind self.now.table.now self.now.firsts.now self.now.list.now (length self.now.firsts.now) }
+        ensures { Ranked self.now.kind self.now.table.now self.now.firsts.now self.now.list.now (item_at self.now.kind self.now.table.now place) result }
+    {
+        let mut low: usize = 0;
+        let mut high = self.list[0] as usize;
+        // A search by halves: either end moves, and neither counts.
+        while low < high {
+            let middle = low + (high - low) / 2;
+            if write_item::is_earlier(self.table, self.kind, self.place(middle), place) {
+                low = middle + 1;
+            } else {
+                high = middle;
+            }
         }
+        low
     }
-    low
-}
 
-// Whether more than `s` items are listed in `others`, and the `s`-th, counted from 0, is the item at `place`.
-fn is_other(table: &[u8], kind: Kind, firsts: &[u16], others: &[u16], s: usize, place: u16) -> bool
-    requires table_len_bound { (length table.now ≤ 2 ^ 15) × (get_or others.now 0 0 < length others.now) }
-    requires sorted_others { SortedOthers kind table.now firsts.now others.now (length firsts.now) }
-    ensures { Says result ((s < get_or others.now 0 0) × (other_of kind table.now firsts.now others.now s ≡ item_at kind table.now place)) }
-{
-    if others[0] as usize <= s {
-        return false;
+    // Whether more than `s` items are listed, and the `s`-th, counted from 0, is the item at `place`.
+    fn has_at(&self, s: usize, place: u16) -> bool
+        requires sorted { SortedOthers self.now.kind self.now.table.now self.now.firsts.now self.now.list.now (length self.now.firsts.now) }
+        ensures { Says result ((s < get_or self.now.list.now 0 0) × (other_of self.now.kind self.now.table.now self.now.firsts.now self.now.list.now s ≡ item_at self.now.kind self.now.table.now place)) }
+    {
+        s < usize::from(self.list[0])
+            && write_item::same_item(self.table, self.kind, self.place(s), place)
     }
-    write_item::same_item(table, kind, other_place(firsts, others, s), place)
 }
 
 // Lists an index in `others` after the first `n`; the later ones move up.
@@ -70,15 +69,12 @@ fn insert(others: &mut [u16], n: usize, index: u16)
     requires { (n ≤ get_or others.old 0 0) × ((get_or others.old 0 0 + 1 < length others.old) × (get_or others.old 0 0 < 65535)) }
     ensures { Inserted others.old others.new n index }
 {
-    let count = others[0] as usize + 1;
-    let at = n + 1;
-    let mut i = count;
-    while at < i {
-        others[i] = others[i - 1];
-        i -= 1;
+    let count = others[0];
+    for i in (n + 1..count as usize + 1).rev() {
+        others[i + 1] = others[i];
     }
-    others[at] = index;
-    others[0] = count as u16;
+    others[n + 1] = index;
+    others[0] = count + 1;
 }
 
 // The slot of the item at `place`, of `count` slots.
@@ -100,22 +96,28 @@ fn enter(
     k: usize,
     place: u16,
 ) -> usize
-    requires table_len_bound { (length table.now ≤ 2 ^ 15) × ((u32_at table.now place ≡ 0 → ⊥) × Kept kind table.now firsts.old others.old slots.old k) }
-    requires k_bound { (k < 65535) × ((k < length firsts.old) × ((k < length others.old) × (0 < length slots.old))) }
+    requires kept { (length table.now ≤ 2 ^ 15) × ((u32_at table.now place ≡ 0 → ⊥) × Kept kind table.now firsts.old others.old slots.old k) }
+    requires room { (k < 65535) × ((k < length firsts.old) × ((k < length others.old) × (0 < length slots.old))) }
     ensures { Entered kind table.now firsts.old firsts.new others.new slots.new k place result }
 {
     let at = slot_of(table, kind, slots.len(), place);
-    let slot = slots[at] as usize;
-    if slot == 0 {
+    let Some(held) = slots[at].checked_sub(1) else {
         firsts[k] = place;
         slots[at] = (k + 1) as u16;
         return k + 1;
+    };
+    let held = held as usize;
+    if write_item::same_item(table, kind, firsts[held], place) {
+        return held + 1;
     }
-    if write_item::same_item(table, kind, firsts[slot - 1], place) {
-        return slot;
-    }
-    let n = earlier_count(table, kind, firsts, others, place);
-    if is_other(table, kind, firsts, others, n, place) {
+    let listed = Others {
+        table,
+        kind,
+        firsts,
+        list: others,
+    };
+    let n = listed.earlier_count(place);
+    if listed.has_at(n, place) {
         return others[n + 1] as usize + 1;
     }
     insert(others, n, k as u16);
@@ -127,8 +129,7 @@ fn enter(
 fn known_at(seen: &[u16], place: u16) -> u16
     ensures { result ≡ get_or seen.now place 0 }
 {
-    let at = place as usize;
-    if at < seen.len() { seen[at] } else { 0 }
+    seen.get(place as usize).copied().unwrap_or(0)
 }
 
 // Notes a place's number; nothing past the end.
@@ -145,13 +146,7 @@ fn note_number(seen: &mut [u16], place: u16, number: u16)
 pub fn is_known(table: &[u8], seen: &[u16], place: u16, number: u16) -> bool
     ensures { Says result (KnownAs table.now seen.now place number) }
 {
-    if known_at(seen, place) != number {
-        return false;
-    }
-    if number != 0 {
-        return true;
-    }
-    fields::u32_at(table, place as usize) == 0
+    known_at(seen, place) == number && (number != 0 || fields::u32_at(table, place as usize) == 0)
 }
 
 // The number of the item at `place` among those at the first `k` of `firsts`, none having 0; an item that is not there
@@ -166,8 +161,8 @@ pub fn item_number(
     k: usize,
     place: u16,
 ) -> usize
-    requires table_len_bound { (length table.now ≤ 2 ^ 15) × (Kept kind table.now firsts.old others.old slots.old k × Seen kind table.now firsts.old seen.old k) }
-    requires k_bound { (k < 65535) × ((k < length firsts.old) × ((k < length others.old) × (0 < length slots.old))) }
+    requires kept { (length table.now ≤ 2 ^ 15) × (Kept kind table.now firsts.old others.old slots.old k × Seen kind table.now firsts.old seen.old k) }
+    requires room { (k < 65535) × ((k < length firsts.old) × ((k < length others.old) × (0 < length slots.old))) }
     ensures { Entered kind table.now firsts.old firsts.new others.new slots.new k place result
         × Seen kind table.now firsts.new seen.new (max k result) × (result ≤ k + 1) }
 {

@@ -1,11 +1,14 @@
 -- The bytes of the two sections, and what holds of the distinct items.
+use Rattle.lookup_targets.specs.Values.{from_lookup}
+use Rattle.std.specs.Prelude.{Option}
 use Prim.Native.Nat.{ℕ, zero, suc, ◌+◌, ◌≤◌, ◌<◌, ◌^◌}
 use mathlib.Core.Path.{◌≡◌, refl, sym, ap, ap₂, ◌∙◌, subst}
 use mathlib.Core.Logic.{ite, if_neg}
 use mathlib.Core.List.{List, [], ◌∷◌, ◌++◌, map, append-nil}
-use native.Mathlib.Decide.{ℕ_discrete, dec_lt}
+use Rattle.std.specs.Prelude.{Some, None}
+use native.Mathlib.Decide.{ℕ_discrete}
 use native.Mathlib.Omega.{arith}
-use lib.ListN.{length, get_or, drop, take, replicate, length-append, length-replicate, drop_of_length-le}
+use lib.ListN.{length, get_or, drop, take, replicate, length-append, drop_of_length-le}
 use lib.Seq.{sets, length-take-le}
 use Rattle.fields.specs.Field.{be32}
 use Rattle.encoding.specs.Codes.{All, many, counted}
@@ -22,9 +25,8 @@ use Rattle.write_numbers.specs.Numbered.{placed, distinct_of}
 use Rattle.write_numbers.proofs.Laws.{map-length, map-drop}
 use Rattle.write_glyphs.specs.declared.Pass.{Pass}
 use Rattle.lookup_targets.specs.declared.Source.{Source}
-use Rattle.lookup_targets.specs.declared.Source.TheVariants.{Lookup, Absent}
-use Rattle.write_glyphs.specs.Places.{items_from, PassRooms, PassedOver}
-use Rattle.write_runs.specs.Spread.{spread, Stretches}
+use Rattle.write_glyphs.specs.Places.{items_from, PassedOver}
+use Rattle.write_runs.specs.Spread.{spread}
 use Rattle.write_runs.proofs.Spread.{rise-few}
 use Rattle.write_pool.specs.Pool.{pool_bytes, sections, Short, PlacedSections, Tried}
 
@@ -88,29 +90,20 @@ none-short Lists = omega arith
 
 -- the stretches of glyphs and the numbers of what they have, once the pass has come to the last glyph
 module _ (kind : Kind) (t : List ℕ) (n at base : ℕ) (ends nums firsts : List ℕ) (pass : Pass) (few : n < 2 ^ 16)
-    (short : All (Short kind) (items_from kind t n (Lookup at base))) (p : PassedOver kind t n at base ends nums firsts pass) (all : n ≤ pass.glyph) where
+    (short : All (Short kind) (items_from kind t n (from_lookup at base))) (p : PassedOver kind t n at base ends nums firsts pass) (all : n ≤ pass.glyph) where
   pub pass-few : pass.stretches < 2 ^ 16
   pass-few = omega (arith, p.most, rise-few (take pass.stretches ends) 0 pass.glyph p.rise, length-take-le pass.stretches ends p.fits)
 
-  pub pass-stretches : length ends ≤ length nums → Stretches (take pass.stretches ends) (take pass.stretches nums)
-  pass-stretches h =
-      record {
-        last = pass.glyph;
-        few = omega (arith, p.most);
-        rise = p.rise;
-        each = length-take-le pass.stretches nums (omega (arith, p.fits)) ∙ sym (length-take-le pass.stretches ends p.fits);
-      }
-
-  found : distinct (item-discrete kind) (no_item kind ∷ []) (items_from kind t n (Lookup at base)) ≡ no_item kind ∷ placed kind t (take pass.items firsts)
+  found : distinct (item-discrete kind) (no_item kind ∷ []) (items_from kind t n (from_lookup at base)) ≡ no_item kind ∷ placed kind t (take pass.items firsts)
   unfolding distinct_of
   found = (p.numbered all).found
 
-  numbered : numbers (item-discrete kind) (distinct (item-discrete kind) (no_item kind ∷ []) (items_from kind t n (Lookup at base))) (items_from kind t n (Lookup at base))
+  numbered : numbers (item-discrete kind) (distinct (item-discrete kind) (no_item kind ∷ []) (items_from kind t n (from_lookup at base))) (items_from kind t n (from_lookup at base))
       ≡ spread 0 (take pass.stretches ends) (take pass.stretches nums)
   unfolding distinct_of
   numbered = sym (p.numbered all).numbered
 
-  pub pass-sections : sections kind t (take pass.items firsts) (take pass.stretches ends) (take pass.stretches nums) ≡ pool_bytes kind t n (Lookup at base)
+  pub pass-sections : sections kind t (take pass.items firsts) (take pass.stretches ends) (take pass.stretches nums) ≡ pool_bytes kind t n (from_lookup at base)
   unfolding sections pool_bytes
   pass-sections =
       ap₂ (λ (ys : List (Item kind)) (ns : List ℕ). counted (item_code kind) ys ++ number_run_section ns) (ap (drop 1) (sym found)) (sym numbered)
@@ -118,7 +111,7 @@ module _ (kind : Kind) (t : List ℕ) (n at base : ℕ) (ends nums firsts : List
   pub pass-short : All (Short kind) (placed kind t (take pass.items firsts))
   pass-short =
       (subst (All (Short kind)) found
-      (all-distinct (item-discrete kind) (Short kind) (items_from kind t n (Lookup at base)) (no_item kind ∷ []) (none-short kind, tt) short)).1
+      (all-distinct (item-discrete kind) (Short kind) (items_from kind t n (from_lookup at base)) (no_item kind ∷ []) (none-short kind, tt) short)).1
 
 -- ---- without a lookup
 
@@ -136,7 +129,7 @@ module _ {A : Type 0} (eq : Discrete A) (z : A) where
 none_runs : (n : ℕ) → runs ℕ_discrete 0 0 (replicate n 0) ≡ []
 none_runs n = ap (runs ℕ_discrete 0 0) (sym (append-nil (replicate n 0))) ∙ runs-skips ℕ_discrete 0 n 0 []
 
-pub absent-bytes : (kind : Kind) (t : List ℕ) (n : ℕ) → pool_bytes kind t n Absent ≡ be32 0 ++ be32 0
+pub absent-bytes : (kind : Kind) (t : List ℕ) (n : ℕ) → pool_bytes kind t n None ≡ be32 0 ++ be32 0
 unfolding pool_bytes items_from
 absent-bytes kind t n =
     let eq = item-discrete kind in
@@ -145,7 +138,7 @@ absent-bytes kind t n =
     ∙ ap (λ (l : List ℕ). counted (item_code kind) [] ++ number_run_section l) (none-numbers eq (no_item kind) n)
     ∙ ap (λ (l : List (Run ℕ)). counted (item_code kind) [] ++ counted run_less_code l) (none_runs n)
 
-pub absent-placed : (kind : Kind) (t : List ℕ) (n : ℕ) (source : Source) (out₀ out : List ℕ) (to : ℕ) → source ≡ Absent → out ≡ sets out₀ to (be32 0 ++ be32 0)
+pub absent-placed : (kind : Kind) (t : List ℕ) (n : ℕ) (source : Option Source) (out₀ out : List ℕ) (to : ℕ) → source ≡ None → out ≡ sets out₀ to (be32 0 ++ be32 0)
     → PlacedSections kind t n source out₀ out to (to + 8)
 absent-placed kind t n source out₀ out to e b =
     let p : pool_bytes kind t n source ≡ be32 0 ++ be32 0 = ap (pool_bytes kind t n) e ∙ absent-bytes kind t n in
@@ -153,40 +146,22 @@ absent-placed kind t n source out₀ out to e b =
 
 -- ---- rooms
 
--- where rooms for 65,536 stretches were lent
-pub tried-all : (kind : Kind) (t : List ℕ) (n : ℕ) (source : Source) (out₀ out : List ℕ) (to r : ℕ) → n < 2 ^ 16 → Tried kind t n source 65536 out₀ out to r
-    → PlacedSections kind t n source out₀ out to r
-tried-all kind t n source out₀ out to r h w = go (dec_lt 0 r)
-  where
-    go : Dec (0 < r) → PlacedSections kind t n source out₀ out to r
-    go (yes l) = w.done l
-    go (no l) = absurd (omega (arith, (w.full (omega (arith, l))).1))
-
--- rooms that did not do left the bytes as they were
-pub tried-again : (kind : Kind) (t : List ℕ) (n : ℕ) (source : Source) (room : ℕ) (out₀ out₁ out₂ : List ℕ) (to q r : ℕ) → q ≤ 0
-    → Tried kind t n source room out₀ out₁ to q → PlacedSections kind t n source out₁ out₂ to r → PlacedSections kind t n source out₀ out₂ to r
-tried-again kind t n source room out₀ out₁ out₂ to q r h w p =
-    subst (λ (l : List ℕ). PlacedSections kind t n source l out₂ to r) (w.full (omega arith)).0 p
-
 -- the pass did not come to the last glyph
 pub tried-full : (kind : Kind) (t : List ℕ) (n at base : ℕ) (ends nums firsts : List ℕ) (pass : Pass) (room : ℕ) (out₀ out : List ℕ) (to : ℕ)
-    → PassedOver kind t n at base ends nums firsts pass → pass.glyph < n → length ends ≡ room → out ≡ out₀ → Tried kind t n (Lookup at base) room out₀ out to 0
+    → PassedOver kind t n at base ends nums firsts pass → pass.glyph < n → length ends ≡ room → out ≡ out₀ → Tried kind t n (from_lookup at base) room out₀ out to None
 tried-full kind t n at base ends nums firsts pass room out₀ out to p h l e =
     record {
       full = λ z. (e, omega (arith, p.stops h, l, rise-few (take pass.stretches ends) 0 pass.glyph p.rise, length-take-le pass.stretches ends p.fits));
-      done = λ z. absurd (omega arith);
+      done = λ end z. cc;
     }
 
-pub tried-done : (kind : Kind) (t : List ℕ) (n : ℕ) (source : Source) (room : ℕ) (out₀ out : List ℕ) (to r : ℕ) (firsts ends nums : List ℕ)
+pub tried-done : (kind : Kind) (t : List ℕ) (n : ℕ) (source : Option Source) (room : ℕ) (out₀ out : List ℕ) (to r : ℕ) (firsts ends nums : List ℕ)
     → sections kind t firsts ends nums ≡ pool_bytes kind t n source → r ≡ to + length (sections kind t firsts ends nums) → r < to + 2 ^ 29
-    → out ≡ sets out₀ to (sections kind t firsts ends nums) → Tried kind t n source room out₀ out to r
+    → out ≡ sets out₀ to (sections kind t firsts ends nums) → Tried kind t n source room out₀ out to (Some r)
 tried-done kind t n source room out₀ out to r firsts ends nums e a b c =
     record {
-      full = λ z. absurd (omega (arith, z, a, sections-length kind t firsts ends nums));
-      done = λ z. record { end = a ∙ ap (λ (l : List ℕ). to + length l) e; near = b; bytes = c ∙ ap (sets out₀ to) e };
+      full = λ z. cc;
+      done = λ end z.
+          let q : r ≡ end = cc in
+          record { end = sym q ∙ a ∙ ap (λ (l : List ℕ). to + length l) e; near = omega arith; bytes = c ∙ ap (sets out₀ to) e };
     }
-
--- fresh rooms for m stretches, with s slots
-pub fresh : (m s : ℕ) → 0 < s → PassRooms (length (replicate {A = ℕ} m 0)) (length (replicate {A = ℕ} m 0)) (length (replicate {A = ℕ} m 0)) (length (replicate {A = ℕ} m 0))
-    (length (replicate {A = ℕ} s 0))
-fresh m s h = record { each = omega arith; distinct = omega arith; listed = omega arith; hashes = omega (arith, length-replicate {A = ℕ} s 0) }

@@ -10,211 +10,140 @@ ghost use Rattle.encoding.specs.Codes.{All, many};
 ghost use Rattle.encoding.specs.Tests.{Says};
 ghost use Rattle.write_item.specs.Items.{item_code};
 ghost use Rattle.write_numbers.specs.Numbered.{placed, Blank};
-ghost use Rattle.write_glyphs.specs.Places.{PassRooms};
 ghost use Rattle.write_runs.specs.Spread.{Stretches};
-ghost use Rattle.write_pool.specs.Pool.{sections, Short, Numberable, PlacedSections, Tried};
+ghost use Rattle.write_pool.specs.Pool.{sections, Short, Short-prop, items_by, Numberable, PlacedSections, PlacedBy, TriedBy};
 
 use lookup_targets::{Kind, Source};
+use write_glyphs::{GlyphLookup, Rooms};
 
-// Stores the items at these places, and answers where they end.
-fn put_items(table: &[u8], kind: Kind, firsts: &[u16], out: &mut [u8], to: usize) -> usize
-    requires table_len_bound { (length table.now ≤ 2 ^ 15) × ((length firsts.now < 2 ^ 16) × All (Short kind) (placed kind table.now firsts.now)) }
-    requires to_bound { to < 2 ^ 39 }
-    ensures { (result ≡ to + length (many (item_code kind) (placed kind table.now firsts.now))) × (result ≤ to + 5380 * length firsts.now)
-        × (out.new ≡ sets out.old to (many (item_code kind) (placed kind table.now firsts.now))) }
-{
-    let mut i: usize = 0;
-    let mut end = to;
-    while i < firsts.len() {
-        let place = firsts[i];
-        write_item::put_item(table, kind, place, out, end);
-        end += write_item::item_size(table, kind, place);
-        i += 1;
-    }
-    end
-}
-
-// Stores the two sections, from a numbering, and answers where they end.
-fn put_sections(
-    table: &[u8],
-    kind: Kind,
-    firsts: &[u16],
-    ends: &[u16],
-    nums: &[u16],
-    out: &mut [u8],
-    to: usize,
-) -> usize
-    requires table_len_bound { (length table.now ≤ 2 ^ 15) × ((length firsts.now < 2 ^ 16) × All (Short kind) (placed kind table.now firsts.now)) }
-    requires stretches { Stretches ends.now nums.now × (to < 2 ^ 38) }
-    ensures { (result ≡ to + length (sections kind table.now firsts.now ends.now nums.now)) × (result < to + 2 ^ 29)
-        × (out.new ≡ sets out.old to (sections kind table.now firsts.now ends.now nums.now)) }
-{
-    fields::put_u32(out, to, firsts.len() as u32);
-    let end = put_items(table, kind, firsts, out, to + 4);
-    write_runs::put_runs(ends, nums, out, end)
-}
-
-// What is stored: the sections of a kind for `glyphs` glyphs, by the lookup at `at` whose values are offsets from `base`; and
-// from where on.
+// What is stored: the sections of what a lookup gives the glyphs, and from where on.
 #[derive(Clone, Copy)]
-struct Pool {
-    glyphs: usize,
-    kind: Kind,
-    at: usize,
-    base: usize,
+struct Pool<'a> {
+    lookup: GlyphLookup<'a>,
     to: usize,
+    ghost near: { to < 2 ^ 38 },
+    ghost short: { All (Short lookup.kind) (items_by lookup) } by { Short-prop lookup.kind (items_by lookup) },
 }
 
-// Stores the two sections, and answers where they end; or, where the rooms do not hold all stretches of glyphs that have the
-// same, stores nothing and answers 0. The first four rooms have an element for each stretch, `slots` for each hash, `seen` and
-// `alike` for each position.
-fn put_with(
-    table: &[u8],
-    pool: Pool,
-    ends: &mut [u16],
-    nums: &mut [u16],
-    firsts: &mut [u16],
-    others: &mut [u16],
-    slots: &mut [u16],
-    seen: &mut [u16],
-    alike: &mut [u8],
-    out: &mut [u8],
-) -> usize
-    requires numberable { Numberable pool.kind table.now pool.glyphs (Source.Lookup pool.at pool.base) × (pool.to < 2 ^ 38) }
-    requires pass_rooms { PassRooms (length ends.old) (length nums.old) (length firsts.old) (length others.old) (length slots.old) × (Blank others.old × (Blank slots.old × (Blank seen.old × Blank alike.old))) }
-    ensures { Tried pool.kind table.now pool.glyphs (Source.Lookup pool.at pool.base) (length ends.old) out.old out.new pool.to result }
-{
-    let kind = pool.kind;
-    let pass = write_glyphs::number_glyphs(
-        table,
-        pool.glyphs,
-        kind,
-        pool.at,
-        pool.base,
-        ends,
-        nums,
-        firsts,
-        others,
-        slots,
-        seen,
-        alike,
-    );
-    if pass.glyph < pool.glyphs {
-        return 0;
+impl Pool<'_> {
+    // Stores the items at these places, and answers where they end.
+    fn put_items(&self, firsts: &[u16], out: &mut [u8], to: usize) -> usize
+        requires short { (length firsts.now < 2 ^ 16) × All (Short self.now.lookup.kind) (placed self.now.lookup.kind self.now.lookup.table.now firsts.now) }
+        requires near { to < 2 ^ 39 }
+        ensures { (result ≡ to + length (many (item_code self.now.lookup.kind) (placed self.now.lookup.kind self.now.lookup.table.now firsts.now))) × (result ≤ to + 5380 * length firsts.now)
+            × (out.new ≡ sets out.old to (many (item_code self.now.lookup.kind) (placed self.now.lookup.kind self.now.lookup.table.now firsts.now))) }
+    {
+        let table = self.lookup.table;
+        let kind = self.lookup.kind;
+        let mut end = to;
+        for place in firsts {
+            write_item::put_item(table, kind, *place, out, end);
+            end += write_item::item_size(table, kind, *place);
+        }
+        end
     }
-    let k = pass.items;
-    let m = pass.stretches;
-    put_sections(
-        table,
-        kind,
-        &firsts[..k],
-        &ends[..m],
-        &nums[..m],
-        out,
-        pool.to,
-    )
-}
 
-// The same with rooms for 4,096 stretches, and for any table.
-fn put_medium(table: &[u8], pool: Pool, alike: &mut [u8], out: &mut [u8]) -> usize
-    requires numberable { Numberable pool.kind table.now pool.glyphs (Source.Lookup pool.at pool.base) × (pool.to < 2 ^ 38) }
-    requires blank { Blank alike.old }
-    ensures { Tried pool.kind table.now pool.glyphs (Source.Lookup pool.at pool.base) 4096 out.old out.new pool.to result }
-{
-    put_with(
-        table,
-        pool,
-        &mut [0u16; 4096],
-        &mut [0u16; 4096],
-        &mut [0u16; 4096],
-        &mut [0u16; 4096],
-        &mut [0u16; 8191],
-        &mut [0u16; 32768],
-        alike,
-        out,
-    )
-}
+    // Stores the two sections, from a numbering, and answers where they end.
+    fn put_sections(&self, firsts: &[u16], ends: &[u16], nums: &[u16], out: &mut [u8]) -> usize
+        requires short { (length firsts.now < 2 ^ 16) × All (Short self.now.lookup.kind) (placed self.now.lookup.kind self.now.lookup.table.now firsts.now) }
+        requires stretches { Stretches ends.now nums.now }
+        ensures { (result ≡ self.now.to + length (sections self.now.lookup.kind self.now.lookup.table.now firsts.now ends.now nums.now)) × (result < self.now.to + 2 ^ 29)
+            × (out.new ≡ sets out.old self.now.to (sections self.now.lookup.kind self.now.lookup.table.now firsts.now ends.now nums.now)) }
+    {
+        fields::put_u32(out, self.to, firsts.len() as u32);
+        let end = self.put_items(firsts, out, self.to + 4);
+        write_runs::put_runs(ends, nums, out, end)
+    }
 
-// With medium rooms. Only units of format 4 can share values, of which is noted what they have in common.
-fn put_by_format(table: &[u8], pool: Pool, out: &mut [u8]) -> usize
-    requires { Numberable pool.kind table.now pool.glyphs (Source.Lookup pool.at pool.base) × (pool.to < 2 ^ 38) }
-    ensures { Tried pool.kind table.now pool.glyphs (Source.Lookup pool.at pool.base) 4096 out.old out.new pool.to result }
-{
-    if fields::u16_at(table, pool.at) == 4 {
-        return put_medium(table, pool, &mut [0u8; 32768], out);
+    // Stores the two sections, and answers where they end; or, where the rooms do not hold all stretches of glyphs that have the
+    // same, stores nothing.
+    fn put_with(&self, rooms: &mut Rooms, out: &mut [u8]) -> Option<usize>
+        requires { Blank rooms.old.others.now × (Blank rooms.old.slots.now × (Blank rooms.old.seen.now × Blank rooms.old.alike.now)) }
+        ensures { TriedBy self.now.lookup (length rooms.old.ends.now) out.old out.new self.now.to result }
+    {
+        let pass = self.lookup.number_glyphs(rooms);
+        if pass.glyph < self.lookup.glyphs {
+            return None;
+        }
+        let firsts = &rooms.firsts[..pass.items];
+        let ends = &rooms.ends[..pass.stretches];
+        let nums = &rooms.nums[..pass.stretches];
+        Some(self.put_sections(firsts, ends, nums, out))
     }
-    put_medium(table, pool, &mut [0u8; 0], out)
-}
 
-// With rooms for a stretch of each glyph.
-fn put_large(table: &[u8], pool: Pool, out: &mut [u8]) -> usize
-    requires { Numberable pool.kind table.now pool.glyphs (Source.Lookup pool.at pool.base) × (pool.to < 2 ^ 38) }
-    ensures { Tried pool.kind table.now pool.glyphs (Source.Lookup pool.at pool.base) 65536 out.old out.new pool.to result }
-{
-    put_with(
-        table,
-        pool,
-        &mut [0u16; 65536],
-        &mut [0u16; 65536],
-        &mut [0u16; 65536],
-        &mut [0u16; 65536],
-        &mut [0u16; 8191],
-        &mut [0u16; 32768],
-        &mut [0u8; 32768],
-        out,
-    )
-}
+    // The same with rooms for this many stretches, and as many slots, places and notes of shared values as are asked for. Rooms
+    // of one size have a function of their own, so that the small ones are not held up by the memory of the large ones.
+    #[inline(never)]
+    fn put_sized<
+        const STRETCHES: usize,
+        const SLOTS: usize,
+        const PLACES: usize,
+        const NOTES: usize,
+    >(&self, out: &mut [u8]) -> Option<usize>
+        requires { (STRETCHES ≤ 2 ^ 16) × ((0 < SLOTS) × ((SLOTS ≤ 2 ^ 16) × ((PLACES ≤ 2 ^ 16) × (NOTES ≤ 2 ^ 16)))) }
+        ensures { TriedBy self.now.lookup STRETCHES out.old out.new self.now.to result }
+    {
+        let mut rooms = Rooms {
+            ends: &mut [0u16; STRETCHES],
+            nums: &mut [0u16; STRETCHES],
+            firsts: &mut [0u16; STRETCHES],
+            others: &mut [0u16; STRETCHES],
+            slots: &mut [0u16; SLOTS],
+            seen: &mut [0u16; PLACES],
+            alike: &mut [0u8; NOTES],
+        };
+        self.put_with(&mut rooms, out)
+    }
 
-// Whether the lookup at `at`, of format 2 or 6, has so many units that medium rooms seldom hold their stretches, two for each.
-fn has_many_units(table: &[u8], at: usize) -> bool
-    requires { at < 2 ^ 32 }
-    ensures { Says result ((u16_at table.now at % 4 ≡ 2) × (2040 < u16_at table.now (at + 4))) }
-{
-    if fields::u16_at(table, at) % 4 != 2 {
-        return false;
+    // With rooms for a stretch of each glyph.
+    fn put_large(&self, out: &mut [u8]) -> usize
+        ensures { PlacedBy self.now.lookup out.old out.new self.now.to result }
+    {
+        self.put_sized::<65536, 8191, 32768, 32768>(out).unwrap()
     }
-    if fields::u16_at(table, at + 4) <= 2040 {
-        return false;
-    }
-    true
-}
 
-// With medium rooms if they are large enough.
-fn put_looked(table: &[u8], pool: Pool, out: &mut [u8]) -> usize
-    requires { Numberable pool.kind table.now pool.glyphs (Source.Lookup pool.at pool.base) × (pool.to < 2 ^ 38) }
-    ensures { PlacedSections pool.kind table.now pool.glyphs (Source.Lookup pool.at pool.base) out.old out.new pool.to result }
-{
-    if has_many_units(table, pool.at) {
-        return put_large(table, pool, out);
+    // With rooms for 4,096 stretches. Only units of format 4 can share values, of which is noted what they have in common.
+    fn put_medium(&self, out: &mut [u8]) -> Option<usize>
+        ensures { TriedBy self.now.lookup 4096 out.old out.new self.now.to result }
+    {
+        if self.lookup.format == 4 {
+            return self.put_sized::<4096, 8191, 32768, 32768>(out);
+        }
+        self.put_sized::<4096, 8191, 32768, 0>(out)
     }
-    let end = put_by_format(table, pool, out);
-    if 0 < end {
-        return end;
-    }
-    put_large(table, pool, out)
-}
 
-// With rooms for few stretches, and for a table of at most 512 bytes, if they are large enough.
-fn put_lookup(table: &[u8], pool: Pool, out: &mut [u8]) -> usize
-    requires { Numberable pool.kind table.now pool.glyphs (Source.Lookup pool.at pool.base) × (pool.to < 2 ^ 38) }
-    ensures { PlacedSections pool.kind table.now pool.glyphs (Source.Lookup pool.at pool.base) out.old out.new pool.to result }
-{
-    let end = put_with(
-        table,
-        pool,
-        &mut [0u16; 128],
-        &mut [0u16; 128],
-        &mut [0u16; 128],
-        &mut [0u16; 128],
-        &mut [0u16; 251],
-        &mut [0u16; 512],
-        &mut [0u8; 512],
-        out,
-    );
-    if 0 < end {
-        return end;
+    // Whether the lookup, of format 2 or 6, has so many units that medium rooms seldom hold their stretches, two for each.
+    fn has_many_units(&self) -> bool
+        ensures { Says result ((u16_at self.now.lookup.table.now self.now.lookup.at % 4 ≡ 2) × (2040 < u16_at self.now.lookup.table.now (self.now.lookup.at + 4))) }
+    {
+        if self.lookup.format % 4 != 2 {
+            return false;
+        }
+        2040 < fields::u16_at(self.lookup.table, self.lookup.at + 4)
     }
-    put_looked(table, pool, out)
+
+    // With medium rooms if they are large enough.
+    fn put_looked(&self, out: &mut [u8]) -> usize
+        ensures { PlacedBy self.now.lookup out.old out.new self.now.to result }
+    {
+        if self.has_many_units() {
+            return self.put_large(out);
+        }
+        if let Some(end) = self.put_medium(out) {
+            return end;
+        }
+        self.put_large(out)
+    }
+
+    // With rooms for few stretches, and for a table of at most 512 bytes, if they are large enough.
+    fn put_lookup(&self, out: &mut [u8]) -> usize
+        ensures { PlacedBy self.now.lookup out.old out.new self.now.to result }
+    {
+        if let Some(end) = self.put_sized::<128, 251, 512, 512>(out) {
+            return end;
+        }
+        self.put_looked(out)
+    }
 }
 
 // Stores two counts of 0.
@@ -231,26 +160,28 @@ pub fn put_pool(
     table: &[u8],
     glyphs: usize,
     kind: Kind,
-    source: Source,
+    source: Option<Source>,
     out: &mut [u8],
     to: usize,
 ) -> usize
     requires { Numberable kind table.now glyphs source × (to < 2 ^ 38) }
     ensures { PlacedSections kind table.now glyphs source out.old out.new to result }
 {
-    let Source::Lookup { at, base } = source else {
+    let Some(Source { at, base }) = source else {
         put_none(out, to);
         return to + 8;
     };
-    let pool = Pool {
+    let lookup = GlyphLookup {
+        table,
         glyphs,
         kind,
         at,
         base,
-        to,
+        format: fields::u16_at(table, at),
     };
+    let pool = Pool { lookup, to };
     if 512 < table.len() {
-        return put_looked(table, pool, out);
+        return pool.put_looked(out);
     }
-    put_lookup(table, pool, out)
+    pool.put_lookup(out)
 }

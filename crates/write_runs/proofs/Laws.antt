@@ -23,13 +23,7 @@ more : {A : Type 0} (k : ℕ) (v : A) (ys : List A) → replicate k v ++ (v ∷ 
 more zero v ys = refl
 more (suc k) v ys = ap (λ (l : List _). v ∷ l) (more k v ys)
 
--- the loop's start and its turn
-pub stretch-one : (xs : List ℕ) (i j v : ℕ) → i < length xs → v ≡ get_or xs i 0 → j ≡ i + 1 → drop i xs ≡ replicate (j - i) v ++ drop j xs
-stretch-one xs i j v h ev e =
-    let k : j - i ≡ 1 = omega arith in
-    let f : suc i ≡ j = omega arith in
-    drop-cons xs i 0 h ∙ ap₂ (λ (x m : ℕ). x ∷ drop m xs) (sym ev) f ∙ ap (λ (m : ℕ). replicate m v ++ drop j xs) (sym k)
-
+-- the loop's turn
 pub stretch-more : (xs : List ℕ) (i j v : ℕ) → i < j → j < length xs → get_or xs j 0 ≡ v → drop i xs ≡ replicate (j - i) v ++ drop j xs
     → drop i xs ≡ replicate (j + 1 - i) v ++ drop (j + 1) xs
 stretch-more xs i j v hi h ev e =

@@ -1,16 +1,12 @@
 -- A stretch of a function's values that are the same; a stretch that is added, and one that grows.
 use Prim.Native.Nat.{ℕ, zero, suc, ◌+◌, ◌-◌, ◌≤◌, ◌<◌}
-use mathlib.Core.Path.{◌≡◌, refl, sym, ap, ap₂, ◌∙◌, subst}
+use mathlib.Core.Path.{◌≡◌, sym, ap, ap₂, ◌∙◌, subst}
 use mathlib.Core.List.{List, [], ◌∷◌, ◌++◌}
 use native.Mathlib.Omega.{arith}
 use native.Mathlib.Numerals.{add-one}
-use mathlib.Core.Bool.{Bool, true, false}
-use lib.Dec.{eqb}
-use borrow.Author.Tests.{eqb-true, eqb-false}
 use lib.ListN.{length, get_or, take, set, replicate}
 use lib.Seq.{take-suc, take-suc-set, length-take-le, get_or-set_same}
 use Rattle.encoding.specs.Upto.{from}
-use Rattle.encoding.specs.Tests.{Says}
 use Rattle.write_runs.specs.Spread.{spread, Rise, Extended}
 use Rattle.write_runs.proofs.Spread.{rise-more, spread-more, spread-grows}
 
@@ -35,13 +31,6 @@ from-stretch f n g e v h l same =
     let k : n - g ≡ (e - g) + (n - e) = omega arith in
     let q : g + (e - g) ≡ e = omega arith in
     ap (λ (m : ℕ). from f m g) k ∙ from-same f (e - g) (n - e) g v (λ x a b. same x a (omega arith)) ∙ ap (λ (y : ℕ). replicate (e - g) v ++ from f (n - e) y) q
-
-pub goes_on : (m x number : ℕ) → 0 < m → Says (eqb x number) ((0 < m) × (x ≡ number))
-goes_on m x number h = go (eqb x number) refl
-  where
-    go : (b : Bool) → eqb x number ≡ b → Says b ((0 < m) × (x ≡ number))
-    go true e = (h, eqb-true x number e)
-    go false e = λ w. eqb-false x number e w.1
 
 -- a number up to an end, in a stretch of its own or in the last one
 module _ (ends nums : List ℕ) (m g e number : ℕ) (he : m < length ends) (hn : length ends ≤ length nums) (rise : Rise 0 (take m ends) g) (h : g < e) where

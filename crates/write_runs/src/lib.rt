@@ -16,14 +16,12 @@ fn goes_on(nums: &[u16], m: usize, number: u16) -> bool
     requires { m ≤ length nums.now }
     ensures { Says result ((0 < m) × (get_or nums.now (m - 1) 0 ≡ number)) }
 {
-    if m == 0 {
-        return false;
-    }
-    nums[m - 1] == number
+    0 < m && nums[m - 1] == number
 }
 
 // What stands up to `end` has this number: the last of the first `m` stretches grows if it has the same, else one is
-// added. Answers how many there are then.
+// added. Answers how many there are then. Without a heap the two lists are lent rooms of a fixed size, of which the first `m`
+// places are taken.
 pub fn extend(ends: &mut [u16], nums: &mut [u16], m: usize, end: u16, number: u16) -> usize
     requires { (m < length ends.old) × (length ends.old ≤ length nums.old) }
     ensures { (g : ℕ) → Rise 0 (take m ends.old) g → g < end
@@ -44,15 +42,12 @@ fn run_end(xs: &[u16], first: usize) -> usize
     ensures { RunTo xs.now first result }
 {
     let value = xs[first];
-    let mut end = first + 1;
-    while end < xs.len() {
-        if xs[end] == value {
-            end += 1;
-        } else {
+    for end in first + 1..xs.len() {
+        if xs[end] != value {
             return end;
         }
     }
-    end
+    xs.len()
 }
 
 // Stores a run.
@@ -74,18 +69,17 @@ fn put_each(ends: &[u16], nums: &[u16], out: &mut [u8], to: usize) -> usize
     let mut i: usize = 0;
     let mut first: u16 = 0;
     let mut count: usize = 0;
+    // No index counts here: each turn takes a whole run, and how many runs there are is what is found out.
     while i < nums.len() {
         let end = run_end(nums, i);
         let value = nums[i];
+        let start = first;
         let past = ends[end - 1];
-        if value == 0 {
-            i = end;
-            first = past;
-        } else {
-            put_run(out, to + 6 * count, first, past - 1, value - 1);
+        i = end;
+        first = past;
+        if value != 0 {
+            put_run(out, to + 6 * count, start, past - 1, value - 1);
             count += 1;
-            i = end;
-            first = past;
         }
     }
     count

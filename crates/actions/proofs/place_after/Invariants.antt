@@ -1,11 +1,8 @@
 -- `actions::place_after` meets its contract.
-use mathlib.Core.Path.{◌≡◌}
-use Prim.Native.Nat.{◌+◌, ◌*◌, ◌^◌, ◌<◌}
+use Rattle.std.proofs.Common.{◌≡◌, ◌+◌, ◌-◌, ◌*◌, ◌^◌, ◌<◌}
 use Rattle.actions.specs.Actions.{place_after}
 use Rattle.actions.proofs.place_after.Given as goal
 
-abbrev pub invariant-loop-left : goal.invariant-loop-left
-invariant-loop-left l = (place_after l.table l.count l.first ≡ place_after l.table l.left l.at) × (l.at + 2 ^ 32 * l.left < 2 ^ 50)
-
-abbrev pub decreases-loop-left : goal.decreases-loop-left
-decreases-loop-left l = l.left
+abbrev pub invariant-loop : goal.invariant-loop
+invariant-loop l =
+    (place_after l.table l.count l.first ≡ place_after l.table (l.count - l.counter) l.at) × (l.at + 2 ^ 32 * (l.count - l.counter) < 2 ^ 50)

@@ -1,9 +1,7 @@
 -- `actions::step_through` meets its contract.
-use Rattle.actions.specs.Notes.{Passing}
+use Rattle.std.proofs.Common.{◌≡◌, ℕ, ◌+◌, ◌≤◌, ◌^◌, length}
 use Rattle.actions.specs.Faults.{actions_fault}
-use mathlib.Core.Path.{◌≡◌}
-use Prim.Native.Nat.{ℕ, ◌+◌, ◌-◌, ◌≤◌, ◌^◌}
-use lib.ListN.{length}
+use Rattle.actions.specs.Notes.{Passing}
 use Rattle.actions.proofs.step_through.Given as goal
 
 abbrev pub invariant-loop-passed : goal.invariant-loop-passed
@@ -11,8 +9,4 @@ invariant-loop-passed l =
     ((k : ℕ) → actions_fault l.table l.glyphs (l.passed + k) l.first ≡ actions_fault l.table l.glyphs k l.at)
     × (l.at ≤ length l.table + 2 ^ 32)
     × Passing l.table l.glyphs l.initial.judged l.judged
-    × (length l.judged ≡ length l.initial.judged)
     × (l.over ≤ l.passed)
-
-abbrev pub decreases-loop-passed : goal.decreases-loop-passed
-decreases-loop-passed l = l.most - l.passed

@@ -11,10 +11,10 @@ returns c =
     let a = c.args in
     let e = c.u8_at.ensures.0 in
     let q = c.u32_at-entry.ensures.0 in
-    let h = entry-fields a.table.now (a.entries + 4 * c.u8_at.result) (λ i. (c.shared_slice_known-1.given i).fits) in record {
-      base_value = (
+    let h = entry-fields a.table.now (a.entries + 4 * c.u8_at.result) (λ i. (c.type_inv.table i).fits) in record {
+      row = (
         ap (λ (x : ℕ). a.here + x) (ap (λ (x : ℕ). x / 65536) q ∙ h.0 ∙ ap (λ (x : ℕ). u16_at a.table.now (a.entries + 4 * x)) e),
         omega (arith, c.requires.0, c.u32_at-entry.ensures.1),
       );
-      flags_value = ap (λ (x : ℕ). x % 65536) q ∙ h.1 ∙ ap (λ (x : ℕ). u16_at a.table.now (a.entries + 4 * x + 2)) e;
+      flags = ap (λ (x : ℕ). x % 65536) q ∙ h.1 ∙ ap (λ (x : ℕ). u16_at a.table.now (a.entries + 4 * x + 2)) e;
     }

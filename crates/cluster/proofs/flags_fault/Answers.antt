@@ -1,7 +1,6 @@
 -- `cluster::flags_fault` meets its contract.
-use Rattle.cluster.specs.Faults.{flags_fault}
+use Rattle.fields.proofs.Laws.{inside-ok, on_ok_always}
 use Rattle.cluster.proofs.flags_fault.Goals as goal
 
-pub returns : goal.returns
-unfolding flags_fault
-returns c = cc
+pub returns-clause-inside : goal.returns-clause-inside
+returns-clause-inside c = on_ok_always _ (inside-ok _ _ _ c.in_ok-in_table.ensures)

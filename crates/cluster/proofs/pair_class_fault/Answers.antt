@@ -1,7 +1,6 @@
 -- `cluster::pair_class_fault` meets its contract.
-use Rattle.cluster.specs.Faults.{pair_class_fault}
+use Rattle.fields.proofs.Laws.{inside-ok, on_ok_always}
 use Rattle.cluster.proofs.pair_class_fault.Goals as goal
 
-pub returns : goal.returns
-unfolding pair_class_fault
-returns c = cc
+pub returns-clause-inside : goal.returns-clause-inside
+returns-clause-inside c = on_ok_always _ (inside-ok _ _ _ c.in_ok-in_table.ensures)

@@ -1,58 +1,28 @@
--- `diff_clusters::next_class` meets its contract.
-use Rattle.diff_clusters.proofs.Laws.{some_left, both_left, first-steps, second-steps, both-steps}
-use Prim.Native.Nat.{◌<◌}
-use native.Mathlib.Omega.{arith}
-use mathlib.Core.Path.{◌≡◌}
+use Rattle.std.proofs.Common.{rules}
+use Rattle.diff_clusters.proofs.Laws.{first-steps, second-steps, both-steps}
 use Rattle.diff_clusters.proofs.next_class.Goals as goal
 
-pub after-requires : goal.after-requires
-after-requires c =
+pub returns-in-None-Some-clause-step : goal.returns-in-None-Some-clause-step
+returns-in-None-Some-clause-step c =
     let x = c.args in
-    (some_left x.one.now x.ones c.first_class-class.result c.first_class-class.ensures (omega (arith, c.first_class-beside.ensures.most)), c.requires.0)
+    second-steps x.one.now x.other.now x.ones x.others _ _ c.in-None-Some.ensures.class (search rules) (search rules) c.only_second.ensures
 
-pub returns-then-class-beside : goal.returns-then-class-beside
-returns-then-class-beside c =
+pub returns-in-Some-None-clause-step : goal.returns-in-Some-None-clause-step
+returns-in-Some-None-clause-step c =
     let x = c.args in
-    let m = c.first_class-class in
-    let n = c.first_class-beside in
-    first-steps x.one.now x.other.now x.ones x.others m.result n.result m.ensures n.ensures c.after.result c.if-class-beside.true c.after.ensures
+    first-steps x.one.now x.other.now x.ones x.others _ _ c.in-Some-None.ensures.class (search rules) (search rules) c.only_first.ensures
 
-pub after-requires-then-beside-class : goal.after-requires-then-beside-class
-after-requires-then-beside-class c =
+pub returns-in-Some-Some-clause-step : goal.returns-in-Some-Some-clause-step
+returns-in-Some-Some-clause-step c =
     let x = c.args in
-    (some_left x.other.now x.others c.first_class-beside.result c.first_class-beside.ensures (omega (arith, c.first_class-class.ensures.most)), c.requires.1)
+    first-steps x.one.now x.other.now x.ones x.others _ _ c.in-Some-Some.ensures.class (search rules) (search rules) c.only_first-in-Some-Some.ensures
 
-pub returns-then-beside-class : goal.returns-then-beside-class
-returns-then-beside-class c =
+pub returns-in-Some-Some-2-clause-step : goal.returns-in-Some-Some-2-clause-step
+returns-in-Some-Some-2-clause-step c =
     let x = c.args in
-    let m = c.first_class-class in
-    let n = c.first_class-beside in
-    second-steps x.one.now x.other.now x.ones x.others m.result n.result m.ensures n.ensures c.after-then-beside-class.result c.if-beside-class.true c.after-then-beside-class.ensures
+    second-steps x.one.now x.other.now x.ones x.others _ _ c.in-Some-Some.ensures'.class (search rules) (search rules) c.only_second-in-Some-Some-2.ensures
 
-pub after-requires-2 : goal.after-requires-2
-after-requires-2 c =
+pub returns-in-Some-Some-3-clause-step : goal.returns-in-Some-Some-3-clause-step
+returns-in-Some-Some-3-clause-step c =
     let x = c.args in
-    let m = c.first_class-class in
-    let n = c.first_class-beside in
-    let e : m.result ≡ n.result = omega (arith, c.if-beside-class.false, c.if-class-beside.false) in
-    let l : m.result < 128 = both_left x.one.now x.other.now x.ones x.others m.result n.result m.ensures n.ensures e c.requires.2 in
-    (some_left x.one.now x.ones m.result m.ensures l, c.requires.0)
-
-pub after-requires-3 : goal.after-requires-3
-after-requires-3 c =
-    let x = c.args in
-    let m = c.first_class-class in
-    let n = c.first_class-beside in
-    let e : m.result ≡ n.result = omega (arith, c.if-beside-class.false, c.if-class-beside.false) in
-    let l : m.result < 128 = both_left x.one.now x.other.now x.ones x.others m.result n.result m.ensures n.ensures e c.requires.2 in
-    (some_left x.other.now x.others n.result n.ensures (omega arith), c.requires.1)
-
-pub returns : goal.returns
-returns c =
-    let x = c.args in
-    let m = c.first_class-class in
-    let n = c.first_class-beside in
-    let o = c.compare in
-    let e : m.result ≡ n.result = omega (arith, c.if-beside-class.false, c.if-class-beside.false) in
-    let l : m.result < 128 = both_left x.one.now x.other.now x.ones x.others m.result n.result m.ensures n.ensures e c.requires.2 in
-    both-steps x.one.now x.other.now x.ones x.others m.result n.result m.ensures n.ensures o.result c.after-2.result c.after-3.result e l o.ensures c.after-2.ensures c.after-3.ensures
+    both-steps x.one.now x.other.now x.ones x.others _ _ _ _ c.in-Some-Some.ensures.class (search rules) (search rules) (search rules) c.compare.ensures c.after.ensures c.after-in-Some-Some-3.ensures

@@ -1,6 +1,6 @@
-use Rattle.diff_glyphs.proofs.Laws.{holds-none, kept-blank, first-rises, second-rises, stretch-stored, glyphs-whole}
+use Rattle.diff_glyphs.proofs.Laws.{kept_none, first-rises, second-rises, stretch-stored, glyphs-whole}
 use Rattle.diff_glyphs.specs.Glyphs.{glyph_differs}
-use Rattle.diff_rule.proofs.Filled.{filled_none, filled_more, filled-all, filled-length}
+use Rattle.diff_rule.proofs.Filled.{filled_none, filled_more, filled-all}
 use Rattle.diff_rule.specs.declared.Difference.{Difference}
 use Prim.Native.Nat.{ℕ, ◌+◌}
 use lib.Seq.{sets}
@@ -10,9 +10,6 @@ use mathlib.Core.List.{List}
 use mathlib.Core.Path.{◌≡◌, refl, ap, ◌∙◌}
 use Rattle.diff_glyphs.proofs.put_by.Goals as goal
 
-pub begin_both-runs-requires : goal.begin_both-runs-requires
-begin_both-runs-requires c = c.requires.0.sound
-
 pub loop-glyph-init : goal.loop-glyph-init
 loop-glyph-init c =
     let a = c.args in
@@ -21,19 +18,16 @@ loop-glyph-init c =
     let k = a.sources.kind in (
       omega arith,
       c.begin_both-runs.ensures,
-      holds-none k a.direction a.one.now a.other.now c.nowhere-last.result a.block.now p.1 w.short w.beside c.nowhere-last.ensures,
-      kept-blank k a.direction a.one.now a.other.now a.same.now p.2 w.short w.beside,
+      tt,
+      kept_none k a.direction a.one.now a.other.now a.same.now p.2,
       omega arith,
       filled_none (glyph_differs a.direction a.one.now a.other.now a.sources) a.list.now a.to 0,
       refl,
       refl,
     )
 
-pub next_stretch-next-requires : goal.next_stretch-next-requires
-next_stretch-next-requires c = (c.requires.0.sound, c.loop-glyph.invariant.1, c.loop-glyph-test.true)
-
-pub compare_places-last-requires : goal.compare_places-last-requires
-compare_places-last-requires c =
+pub compare_places-compared-requires : goal.compare_places-compared-requires
+compare_places-compared-requires c =
     let a = c.args in
     let p = c.requires in
     let l = c.loop-glyph in
@@ -42,27 +36,17 @@ compare_places-last-requires c =
       p.0.sound.beside,
       first-rises a.direction a.one.now a.other.now a.sources l.glyph s.result s.ensures p.0.first,
       second-rises a.direction a.one.now a.other.now a.sources l.glyph s.result s.ensures p.0.second,
+      omega (arith, p.1, l.invariant.6),
       l.invariant.2,
       l.invariant.3,
     )
-
-pub put_stretch-at-requires : goal.put_stretch-at-requires
-put_stretch-at-requires c =
-    let p = c.requires in
-    let l = c.loop-glyph in
-    let s = c.next_stretch-next in
-    let h = c.compare_places-last.ensures.1 in
-    (omega (arith, h.room, h.few), h.few, omega (arith, l.invariant.4, l.invariant.0, p.0.sound.few, p.3), omega (arith, s.ensures.more), omega (arith, s.ensures.most, p.0.sound.few))
-
-pub loop-glyph-smaller : goal.loop-glyph-smaller
-loop-glyph-smaller c = omega (arith, c.next_stretch-next.ensures.more, c.next_stretch-next.ensures.most)
 
 pub loop-glyph-preserved : goal.loop-glyph-preserved
 loop-glyph-preserved c =
     let a = c.args in
     let l = c.loop-glyph in
     let s = c.next_stretch-next in
-    let q = c.compare_places-last in
+    let q = c.compare_places-compared in
     let p = c.put_stretch-at in
     let f : ℕ → List Difference = glyph_differs a.direction a.one.now a.other.now a.sources in
     let e = stretch-stored a.direction a.one.now a.other.now a.sources l.glyph s.result s.ensures q.new.block q.result q.ensures.0 q.ensures.1 in (
@@ -76,18 +60,6 @@ loop-glyph-preserved c =
       omega (arith, q.auto, l.invariant.6),
       omega (arith, q.auto, l.invariant.7),
     )
-
-pub shape_of-block : goal.shape_of-block
-shape_of-block c = omega (arith, c.loop-glyph.invariant.6)
-
-pub shape_of-same : goal.shape_of-same
-shape_of-same c = omega (arith, c.loop-glyph.invariant.7)
-
-pub shape_of-list : goal.shape_of-list
-shape_of-list c =
-    let a = c.args in
-    let l = c.loop-glyph in
-    filled-length (glyph_differs a.direction a.one.now a.other.now a.sources) a.list.now l.list a.to l.at 0 l.glyph l.invariant.5
 
 pub returns : goal.returns
 returns c =

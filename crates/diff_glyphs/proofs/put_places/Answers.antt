@@ -11,9 +11,6 @@ put_records-requires c =
     let e = c.in-Clusters.is in
     (its-rising a.one.now a.places.first a.kind e p.2, its-rising a.other.now a.places.second a.kind e p.3, omega arith)
 
-pub put_changed_list-requires : goal.put_changed_list-requires
-put_changed_list-requires c = (c.requires.0, c.requires.1)
-
 pub returns-in-Clusters : goal.returns-in-Clusters
 returns-in-Clusters c =
     let a = c.args in

@@ -1,12 +1,9 @@
 -- `diff_machine::put_cells` meets its contract.
 use Rattle.diff_machine.specs.Machines.{row_by}
 use Rattle.diff_rule.proofs.Filled.{Filled}
-use Prim.Native.Nat.{◌+◌, ◌-◌, ◌*◌, ◌≤◌, ◌^◌}
+use Prim.Native.Nat.{◌+◌, ◌*◌, ◌≤◌, ◌^◌}
 use Rattle.diff_machine.proofs.put_cells.Given as goal
 
 abbrev pub invariant-loop-row : goal.invariant-loop-row
 invariant-loop-row l =
-    (l.row ≤ l.machines.rows) × (l.at ≤ l.to + 2 ^ 20 * l.row) × Filled (row_by l.one l.other l.machines) l.initial.list l.list l.to l.at 0 l.row
-
-abbrev pub decreases-loop-row : goal.decreases-loop-row
-decreases-loop-row l = l.machines.rows - l.row
+    (l.at ≤ l.to + 2 ^ 20 * l.row) × Filled (row_by l.one l.other l.machines) l.initial.list l.list l.to l.at 0 l.row

@@ -4,12 +4,6 @@ use Rattle.diff_machine.specs.Machines.{classes_by, cells_by}
 use native.Mathlib.Omega.{arith}
 use Rattle.diff_machine.proofs.put_parts.Goals as goal
 
-pub put_classes-middle-requires : goal.put_classes-middle-requires
-put_classes-middle-requires c = let p = c.requires in (p.0, omega (arith, p.1))
-
-pub put_cells-requires : goal.put_cells-requires
-put_cells-requires c = let p = c.requires in (p.0, omega (arith, p.1, c.put_classes-middle.ensures.1))
-
 pub returns : goal.returns
 returns c =
     let a = c.args in

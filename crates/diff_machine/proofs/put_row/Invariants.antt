@@ -1,12 +1,9 @@
 -- `diff_machine::put_row` meets its contract.
 use Rattle.diff_machine.specs.Machines.{cell_differs}
 use Rattle.diff_rule.proofs.Filled.{Filled}
-use Prim.Native.Nat.{◌+◌, ◌-◌, ◌*◌, ◌≤◌}
+use Prim.Native.Nat.{◌+◌, ◌*◌, ◌≤◌}
 use Rattle.diff_machine.proofs.put_row.Given as goal
 
 abbrev pub invariant-loop-class : goal.invariant-loop-class
 invariant-loop-class l =
-    (l.class ≤ l.machines.classes) × (l.at ≤ l.to + 6 * l.class) × Filled (cell_differs l.one l.other l.machines l.row) l.initial.list l.list l.to l.at 0 l.class
-
-abbrev pub decreases-loop-class : goal.decreases-loop-class
-decreases-loop-class l = l.machines.classes - l.class
+    (l.at ≤ l.to + 6 * l.class) × Filled (cell_differs l.one l.other l.machines l.row) l.initial.list l.list l.to l.at 0 l.class

@@ -6,7 +6,7 @@ use mathlib.Core.Path.{refl}
 use Rattle.diff_stretches.proofs.even_end.Goals as goal
 
 pub returns-then-glyph-run : goal.returns-then-glyph-run
-returns-then-glyph-run c = let a = c.args in even-before a.run a.glyph c.lower.result c.requires c.if-glyph-run.true c.lower.ensures
+returns-then-glyph-run c = let a = c.args in even-before a.run a.glyph c.min.result c.requires c.if-glyph-run.true c.min.ensures
 
 pub returns-then-run : goal.returns-then-run
 returns-then-run c = let a = c.args in even-array a.run a.glyph (a.glyph + 1) c.requires refl

@@ -10,7 +10,7 @@ returns c =
     let y = c.direction_at-2 in (
       λ i. record { direction = a.direction; glyphs = a.glyphs; first = x.ensures.0 i; second = y.ensures.0 i },
       record {
-        first = side-good a.one.now a.glyphs p.0 (λ i. (c.shared_slice_known-1.given i).fits) a.direction x.result x.ensures;
-        second = side-good a.other.now a.glyphs p.1 (λ i. (c.shared_slice_known-2-1.given i).fits) a.direction y.result y.ensures;
+        first = side-good a.one.now a.glyphs p.0 (λ i. (c.type_inv.one i).fits) a.direction x.result x.ensures;
+        second = side-good a.other.now a.glyphs p.1 (λ i. (c.type_inv.other i).fits) a.direction y.result y.ensures;
       },
     )

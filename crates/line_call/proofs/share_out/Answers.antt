@@ -1,82 +1,103 @@
 -- `line_call::share_out` meets its contract.
-use mathlib.Core.Path.{sym, ap, ◌∙◌}
-use lib.ListN.{length}
+use Rattle.std.proofs.Common.{◌≡◌, Some, None, Err, sym, ap, ◌∙◌, arith, length}
+use Rattle.std.proofs.lemmas.Grind.{common_steps}
+use Rattle.fields.specs.declared.Refusal.TheVariants.{UnknownGlyph}
+use Rattle.fields.specs.Faults.{rule}
+use Rattle.fields.proofs.Laws.{rule-holds}
 use Rattle.line_moves.proofs.Walks.{walk-ended, walk-endless}
-use Rattle.line_call.specs.Steps.{side_in, called_line}
-use Rattle.line_input.proofs.Gaps.{as_read}
+use Rattle.line_rule.specs.Shape.{line_in}
+use Rattle.line_call.specs.Justified.{side_for}
 use Rattle.line_input.proofs.Tests.{known-each}
-use Rattle.line_call.proofs.Work.{gap-found, gap-none, bad-advances, bad-glyph, bad-walk, work-over, narrow-fits, narrowed, work-done}
+use Rattle.line_call.proofs.Work.{gapped, gap-none, bad-advances, bad-glyph, bad-walk, work-over, narrow-fits, narrowed, work-done}
 use Rattle.line_call.proofs.share_out.Goals as goal
 
-pub returns-in_default : goal.returns-in_default
-returns-in_default c =
+pub returns-in_err-gap : goal.returns-in_err-gap
+returns-in_err-gap c =
     let a = c.args in
-    let s = side_in a.table.now a.call in
-    let l = called_line a.call a.sizes.now a.glyphs.now a.advances.now in
-    bad-advances s a.call.count l c.barred.ensures (gap-none l (as_read a.call.shape.target c.struct_told-1.given.1.1.1.0.1) (sym c.gap_of.ensures ∙ c.in_default.is))
+    let l = line_in a.line in
+    let b : c.from_residual.result ≡ Err c.barred.result = grind (arith, common_steps) in
+    let g : c.gap_of.result ≡ None = grind (arith, common_steps) in
+    bad-advances (side_for a.table.now a.count l) a.count l (b ∙ ap Err c.barred.ensures) (gap-none l (sym c.gap_of.ensures ∙ g))
 
-pub line_walk-walked-requires : goal.line_walk-walked-requires
-line_walk-walked-requires c =
+pub returns-in_err-ruled : goal.returns-in_err-ruled
+returns-in_err-ruled c =
     let a = c.args in
+    let l = line_in a.line in
+    let x = c.in_err-ruled.field-0.0 in
+    let b : c.from_residual-in_err-ruled.result ≡ Err x = grind (arith, common_steps) in
+    let h : c.gap_of.result ≡ Some c.in_ok-gap.gap = grind (arith, common_steps) in
+    let g = gapped l c.in_ok-gap.gap (sym c.gap_of.ensures ∙ h) in
+    bad-glyph (side_for a.table.now a.count l) a.count l g.good x (ap (λ k. rule k UnknownGlyph 0) (sym c.all_known-known.ensures) ∙ sym c.ruled.ensures ∙ c.in_err-ruled.was) b
+
+pub line_walk-walked-requires-clause-known : goal.line_walk-walked-requires-clause-known
+line_walk-walked-requires-clause-known c =
+    let a = c.args in
+    let k = rule-holds c.all_known-known.result UnknownGlyph 0 (sym c.ruled.ensures ∙ c.in_ok-ruled.was) in
+    known-each a.count a.line.glyphs.now (sym c.all_known-known.ensures ∙ k)
+
+pub returns-in_err-entries : goal.returns-in_err-entries
+returns-in_err-entries c =
+    let a = c.args in
+    let l = line_in a.line in
+    let s = side_for a.table.now a.count l in
+    let h : c.gap_of.result ≡ Some c.in_ok-gap.gap = grind (arith, common_steps) in
+    let g = gapped l c.in_ok-gap.gap (sym c.gap_of.ensures ∙ h) in
+    let k = sym c.all_known-known.ensures ∙ rule-holds c.all_known-known.result UnknownGlyph 0 (sym c.ruled.ensures ∙ c.in_ok-ruled.was) in
+    let b : c.from_residual-in_err-entries.result ≡ Err c.barred-2.result = grind (arith, common_steps) in
+    let e : c.line_walk-walked.result ≡ None = grind (arith, common_steps) in
+    bad-walk s a.count l g.good k (b ∙ ap Err c.barred-2.ensures) (walk-endless s.machine l c.line_walk-walked.new.classes c.line_walk-walked.ensures e)
+
+pub share_glyphs-shared-requires-clause-sharable : goal.share_glyphs-shared-requires-clause-sharable
+share_glyphs-shared-requires-clause-sharable c =
+    let a = c.args in
+    let l = line_in a.line in
+    let s = side_for a.table.now a.count l in
     let p = c.requires in
-    record { count_value = (p.0.accepted, p.0.short); known_glyphs = (known-each a.call.count a.glyphs.now (sym c.all_known.ensures ∙ c.if-all_known.true), p.1.classes) }
+    let h : c.gap_of.result ≡ Some c.in_ok-gap.gap = grind (arith, common_steps) in
+    let g = gapped l c.in_ok-gap.gap (sym c.gap_of.ensures ∙ h) in
+    let e : c.line_walk-walked.result ≡ Some c.in_ok-entries.entries = grind (arith, common_steps) in
+    let w = walk-ended s.machine l c.line_walk-walked.new.classes c.line_walk-walked.ensures c.in_ok-entries.entries e in
+    (record { accepted = p.0.accepted; short = p.0.short; sizes = p.0.sizes; small = p.0.small; classes = ap length w.classes ∙ w.each }, g.small)
 
-pub share_glyphs-shared-requires : goal.share_glyphs-shared-requires
-share_glyphs-shared-requires c =
+pub returns-in_err-left : goal.returns-in_err-left
+returns-in_err-left c =
     let a = c.args in
-    let s = side_in a.table.now a.call in
-    let l = called_line a.call a.sizes.now a.glyphs.now a.advances.now in
-    let p = c.requires in
-    let w = walk-ended s.machine l c.line_walk-walked.result _ c.line_walk-walked.ensures c.if-walked.true in
-    let g = gap-found l (as_read a.call.shape.target c.struct_told-1.given.1.1.1.0.1) c.in-Of.gap (sym c.gap_of.ensures ∙ c.in-Of.is) in
-    record { sharable = (record { accepted = p.0.accepted; short = p.0.short; sizes = p.0.sizes; small = p.0.small; classes = ap length w.classes ∙ w.each }, g.small); factors_len = (p.1.work, p.1.moves) }
+    let l = line_in a.line in
+    let s = side_for a.table.now a.count l in
+    let h : c.gap_of.result ≡ Some c.in_ok-gap.gap = grind (arith, common_steps) in
+    let g = gapped l c.in_ok-gap.gap (sym c.gap_of.ensures ∙ h) in
+    let k = sym c.all_known-known.ensures ∙ rule-holds c.all_known-known.result UnknownGlyph 0 (sym c.ruled.ensures ∙ c.in_ok-ruled.was) in
+    let e : c.line_walk-walked.result ≡ Some c.in_ok-entries.entries = grind (arith, common_steps) in
+    let w = walk-ended s.machine l c.line_walk-walked.new.classes c.line_walk-walked.ensures c.in_ok-entries.entries e in
+    let b : c.from_residual-in_err-left.result ≡ Err c.barred-3.result = grind (arith, common_steps) in
+    let f : c.share_glyphs-shared.result ≡ None = grind (arith, common_steps) in
+    work-over s a.count l g k w.stops w.classes c.share_glyphs-shared.ensures (b ∙ ap Err c.barred-3.ensures) f
 
-pub returns-in_default-shared : goal.returns-in_default-shared
-returns-in_default-shared c =
+pub overflow_cast-result : goal.overflow_cast-result
+overflow_cast-result c =
     let a = c.args in
-    let s = side_in a.table.now a.call in
-    let l = called_line a.call a.sizes.now a.glyphs.now a.advances.now in
-    let w = walk-ended s.machine l c.line_walk-walked.result _ c.line_walk-walked.ensures c.if-walked.true in
-    let g = gap-found l (as_read a.call.shape.target c.struct_told-1.given.1.1.1.0.1) c.in-Of.gap (sym c.gap_of.ensures ∙ c.in-Of.is) in
-    let k = sym c.all_known.ensures ∙ c.if-all_known.true in
-    work-over s a.call.count l g k w.stops w.classes c.share_glyphs-shared.ensures c.barred-in_default-shared.ensures c.in_default-shared.is
-
-pub overflow_cast-remainder : goal.overflow_cast-remainder
-overflow_cast-remainder c =
-    let a = c.args in
-    let s = side_in a.table.now a.call in
-    let l = called_line a.call a.sizes.now a.glyphs.now a.advances.now in
-    let w = walk-ended s.machine l c.line_walk-walked.result _ c.line_walk-walked.ensures c.if-walked.true in
-    let g = gap-found l (as_read a.call.shape.target c.struct_told-1.given.1.1.1.0.1) c.in-Of.gap (sym c.gap_of.ensures ∙ c.in-Of.is) in
-    let k = sym c.all_known.ensures ∙ c.if-all_known.true in
-    narrow-fits s a.call.count l g k w.stops w.classes c.share_glyphs-shared.ensures c.in-Left.left c.in-Left.is
-
-pub returns-then-walked : goal.returns-then-walked
-returns-then-walked c =
-    let a = c.args in
-    let s = side_in a.table.now a.call in
-    let l = called_line a.call a.sizes.now a.glyphs.now a.advances.now in
-    let w = walk-ended s.machine l c.line_walk-walked.result _ c.line_walk-walked.ensures c.if-walked.true in
-    let g = gap-found l (as_read a.call.shape.target c.struct_told-1.given.1.1.1.0.1) c.in-Of.gap (sym c.gap_of.ensures ∙ c.in-Of.is) in
-    let k = sym c.all_known.ensures ∙ c.if-all_known.true in
-    let o = c.share_glyphs-shared.ensures in
-    let u = c.in-Left.left in
-    let e = c.in-Left.is in
-    work-done s a.call.count l g k w.stops w.classes o u e c.shrinks.ensures (narrowed s a.call.count l g k w.stops w.classes o u e) w.count
-
-pub returns-then-all_known : goal.returns-then-all_known
-returns-then-all_known c =
-    let a = c.args in
-    let s = side_in a.table.now a.call in
-    let l = called_line a.call a.sizes.now a.glyphs.now a.advances.now in
-    let g = gap-found l (as_read a.call.shape.target c.struct_told-1.given.1.1.1.0.1) c.in-Of.gap (sym c.gap_of.ensures ∙ c.in-Of.is) in
-    let k = sym c.all_known.ensures ∙ c.if-all_known.true in
-    bad-walk s a.call.count l g.good k c.barred-then-all_known.ensures (walk-endless s.machine l c.line_walk-walked.result _ c.line_walk-walked.ensures c.if-walked.false)
+    let l = line_in a.line in
+    let s = side_for a.table.now a.count l in
+    let h : c.gap_of.result ≡ Some c.in_ok-gap.gap = grind (arith, common_steps) in
+    let g = gapped l c.in_ok-gap.gap (sym c.gap_of.ensures ∙ h) in
+    let k = sym c.all_known-known.ensures ∙ rule-holds c.all_known-known.result UnknownGlyph 0 (sym c.ruled.ensures ∙ c.in_ok-ruled.was) in
+    let e : c.line_walk-walked.result ≡ Some c.in_ok-entries.entries = grind (arith, common_steps) in
+    let w = walk-ended s.machine l c.line_walk-walked.new.classes c.line_walk-walked.ensures c.in_ok-entries.entries e in
+    let u = c.in_ok-left.left in
+    let f : c.share_glyphs-shared.result ≡ Some u = grind (arith, common_steps) in
+    narrow-fits s a.count l g k w.stops w.classes c.share_glyphs-shared.ensures u f
 
 pub returns : goal.returns
 returns c =
     let a = c.args in
-    let s = side_in a.table.now a.call in
-    let l = called_line a.call a.sizes.now a.glyphs.now a.advances.now in
-    let g = gap-found l (as_read a.call.shape.target c.struct_told-1.given.1.1.1.0.1) c.in-Of.gap (sym c.gap_of.ensures ∙ c.in-Of.is) in
-    bad-glyph s a.call.count l g.good c.barred-2.ensures (sym c.all_known.ensures ∙ c.if-all_known.false)
+    let l = line_in a.line in
+    let s = side_for a.table.now a.count l in
+    let h : c.gap_of.result ≡ Some c.in_ok-gap.gap = grind (arith, common_steps) in
+    let g = gapped l c.in_ok-gap.gap (sym c.gap_of.ensures ∙ h) in
+    let k = sym c.all_known-known.ensures ∙ rule-holds c.all_known-known.result UnknownGlyph 0 (sym c.ruled.ensures ∙ c.in_ok-ruled.was) in
+    let e : c.line_walk-walked.result ≡ Some c.in_ok-entries.entries = grind (arith, common_steps) in
+    let w = walk-ended s.machine l c.line_walk-walked.new.classes c.line_walk-walked.ensures c.in_ok-entries.entries e in
+    let u = c.in_ok-left.left in
+    let f : c.share_glyphs-shared.result ≡ Some u = grind (arith, common_steps) in
+    let o = c.share_glyphs-shared.ensures in
+    work-done s a.count l g k w.stops w.classes o u f c.shrinks.ensures (narrowed s a.count l g k w.stops w.classes o u f) w.count

@@ -5,6 +5,7 @@ use mathlib.Core.Path.{sym, ap, ◌∙◌}
 use native.Mathlib.Omega.{arith}
 use Rattle.class_walk.specs.Walk.{stopped}
 use Rattle.class_walk.proofs.Line.{handed-stopped, handed-same}
+use Rattle.line_rule.specs.Shape.{line_in}
 use Rattle.line_moves.proofs.Walks.{no_walk_lem, a-walk, machine-clear, sound, columns}
 use Rattle.line_moves.proofs.line_walk.Goals as goal
 
@@ -13,18 +14,18 @@ returns-then-offset-eq0 c =
     let a = c.args in
     let m = c.machine_in-offset in
     handed-stopped a.classes.now 0
-    (no_walk_lem a.table.now a.count a.shape.direction m.result m.ensures.0 c.if-offset-eq0.true a.glyphs.now a.shape.starts a.shape.ends
-    ∙ ap (λ (cs : List ℕ). stopped cs 0) (sym c.requires.known_glyphs.1))
+    (no_walk_lem a.table.now a.count a.line.shape.direction m.result m.ensures.0 c.if-offset-eq0.true (line_in a.line)
+    ∙ ap (λ (cs : List ℕ). stopped cs 0) (sym c.requires.zeros))
 
-pub walk_line-requires : goal.walk_line-requires
-walk_line-requires c =
+pub walk_line-requires-clause-sound_machine : goal.walk_line-requires-clause-sound_machine
+walk_line-requires-clause-sound_machine c =
     let a = c.args in
     let p = c.requires in
     let m = c.machine_in-offset in
     let o = m.result in
-    let clear = machine-clear a.table.now a.count a.shape.direction o m.ensures.0 p.count_value.0 c.if-offset-eq0.false in
+    let clear = machine-clear a.table.now a.count a.line.shape.direction o m.ensures.0 p.judged c.if-offset-eq0.false in
     let near : o + 8 < 2 ^ 32 = omega (arith, m.ensures.1) in
-    record { sound_machine = (sound a.table.now a.count (o + 8) near clear, columns a.table.now a.count (o + 8) near clear a.glyphs.now p.count_value.1 p.known_glyphs.0); classes_value = p.known_glyphs.1 }
+    (sound a.table.now a.count (o + 8) near clear, columns a.table.now a.count (o + 8) near clear (line_in a.line) p.short p.known)
 
 pub returns : goal.returns
 returns c =
@@ -32,5 +33,5 @@ returns c =
     let p = c.requires in
     let m = c.machine_in-offset in
     handed-same
-    (a-walk a.table.now a.count a.shape.direction m.result m.ensures.0 c.if-offset-eq0.false (omega (arith, m.ensures.1)) p.count_value.0 a.glyphs.now p.count_value.1 p.known_glyphs.0 a.shape.starts a.shape.ends)
+    (a-walk a.table.now a.count a.line.shape.direction m.result m.ensures.0 c.if-offset-eq0.false (omega (arith, m.ensures.1)) p.judged (line_in a.line) p.short p.known)
     c.walk_line.ensures

@@ -1,11 +1,9 @@
--- `lookup::units_fault` meets its contract.
-use mathlib.Core.Path.{◌≡◌}
-use Prim.Native.Nat.{◌+◌, ◌*◌, ◌<◌, ◌^◌}
+-- The loop of `lookup::units_fault`: the units from the next on say what all of them say.
+use Rattle.std.proofs.Common.{◌≡◌, ◌+◌, ◌*◌, ◌-◌}
 use Rattle.lookup.specs.Units.{units_fault}
 use Rattle.lookup.proofs.units_fault.Given as goal
 
-abbrev pub invariant-loop-left : goal.invariant-loop-left
-invariant-loop-left l = (units_fault l.table l.format l.count l.start 0 ≡ units_fault l.table l.format l.left l.p l.least) × (l.p + 6 * l.left < 2 ^ 40)
-
-abbrev pub decreases-loop-left : goal.decreases-loop-left
-decreases-loop-left l = l.left
+abbrev pub invariant-loop-unit : goal.invariant-loop-unit
+invariant-loop-unit l =
+    (units_fault l.table l.format l.count l.start 0 ≡ units_fault l.table l.format (l.count - l.unit) l.p l.least)
+    × (l.p ≡ l.start + l.size * l.unit)

@@ -11,7 +11,7 @@ returns-then-glyphs-number c = let a = c.args in sym (value_none a.table.now a.g
 pub halved-looked-requires : goal.halved-looked-requires
 halved-looked-requires c =
     let s = c.requires.0 in
-    record { at_bound = (s.near, (c.ranges.glyph.fits, omega (arith, s.near, ready-few s (λ i. (c.shared_slice_known-1.given i).fits)))); start_value = ready-clear s 2 (sym c.requires.1) }
+    record { near = (s.near, (c.ranges.glyph.fits, omega (arith, s.near, ready-few s (λ i. omega (arith, c.type_inv.table i))))); clear = ready-clear s 2 (sym c.requires.1) }
 
 pub returns : goal.returns
 returns c =

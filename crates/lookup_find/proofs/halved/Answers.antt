@@ -6,7 +6,7 @@ use native.Mathlib.Omega.{arith}
 use Rattle.lookup_find.proofs.halved.Goals as goal
 
 pub loop-left-init : goal.loop-left-init
-loop-left-init c = (halving-begin c.requires.start_value, search rules)
+loop-left-init c = (halving-begin c.requires.clear, search rules)
 
 pub first_of-requires : goal.first_of-requires
 first_of-requires c = halving-inside _ _ c.loop-left.invariant.0 c.loop-left-test.true (omega arith) c.unit_of-middle.ensures.0
@@ -18,7 +18,7 @@ pub u16_in-requires : goal.u16_in-requires
 u16_in-requires c = omega (arith, halving-inside _ _ c.loop-left.invariant.0 c.loop-left-test.true (omega arith) c.unit_of-middle.ensures.0, size-least c.args.format)
 
 pub unit_value-value-requires : goal.unit_value-value-requires
-unit_value-value-requires c = (c.requires.at_bound.0, (c.requires.at_bound.1.0, halving-inside _ _ c.loop-left.invariant.0 c.loop-left-test.true (omega arith) c.unit_of-middle.ensures.0))
+unit_value-value-requires c = (c.requires.near.0, (c.requires.near.1.0, halving-inside _ _ c.loop-left.invariant.0 c.loop-left-test.true (omega arith) c.unit_of-middle.ensures.0))
 
 pub returns-then-glyph-u16_in : goal.returns-then-glyph-u16_in
 returns-then-glyph-u16_in c = halving-here _ _ c.loop-left.invariant.0 c.loop-left-test.true (omega arith) c.unit_of-middle.ensures.0 _ (omega arith) _ (omega (arith, c.if-glyph-first_of.false, c.first_of.ensures.0)) (omega (arith, c.if-glyph-u16_in.true, c.u16_in.ensures.0)) c.unit_value-value.ensures

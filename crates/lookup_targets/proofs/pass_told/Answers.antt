@@ -4,10 +4,10 @@ use Rattle.lookup_targets.proofs.Laws.{run-told}
 use Rattle.lookup_targets.proofs.pass_told.Goals as goal
 
 pub returns-then-format-ne2 : goal.returns-then-format-ne2
-returns-then-format-ne2 c = (omega arith, (c.requires.judged.1, refl))
+returns-then-format-ne2 c = (omega arith, (c.requires.true_notes.1, refl))
 
 pub loop-glyph-init : goal.loop-glyph-init
-loop-glyph-init c = (omega arith, c.requires.judged.1, refl)
+loop-glyph-init c = (omega arith, c.requires.true_notes.1, refl)
 
 pub next_run-next-requires : goal.next_run-next-requires
 next_run-next-requires c =
@@ -36,7 +36,7 @@ loop-glyph-preserved c =
       omega (arith, c.loop-glyph.invariant.0, w.begins, w.more),
       w.serves,
       c.loop-glyph.invariant.2
-          ∙ run-told a.table.now a.glyphs a.kind a.at a.base c.loop-glyph.glyph _ w c.requires.at_bound.1.1.0 c.if-glyphs-next.false c.if-next.false a.judged.now c.requires.judged.0 (c.is_judged.ensures c.if-not-is_judged.false),
+          ∙ run-told a.table.now a.glyphs a.kind a.at a.base c.loop-glyph.glyph _ w c.requires.at_bound.1.1.0 c.if-glyphs-next.false c.if-next.false a.judged.now c.requires.true_notes.0 (c.is_judged.ensures c.if-not-is_judged.false),
     )
 
 pub returns : goal.returns

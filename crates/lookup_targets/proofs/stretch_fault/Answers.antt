@@ -1,53 +1,27 @@
-use borrow.Author.Rules.{rules}
-use native.Mathlib.Omega.{arith}
-use Rattle.fields.proofs.Walk.{walk-stop, walk-next, walk_none}
-use Prim.Native.Nat.{◌+◌}
-use Rattle.lookup_targets.specs.Values.{place_fault}
-use Rattle.lookup_targets.proofs.Laws.{each-told}
-use mathlib.Core.Path.{refl, sym, ◌∙◌}
+use Rattle.std.proofs.Common.{◌∙◌, arith}
+use Rattle.fields.proofs.Walk.{walk_steps}
+use Rattle.lookup_targets.proofs.Laws.{passed-told}
 use Rattle.lookup_targets.proofs.stretch_fault.Goals as goal
 
-pub loop-left-init : goal.loop-left-init
-loop-left-init c = (refl, c.requires.judged, refl, c.requires.base_bound.1)
-
-pub returns-then-rest-eq0 : goal.returns-then-rest-eq0
-returns-then-rest-eq0 c =
-    let a = c.args in (
-      sym
-          (c.loop-left.invariant.0
-          ∙ each-told a.table.now a.glyphs a.kind a.base _ c.loop-left.left c.loop-left.p _ c.loop-left.invariant.1 c.unjudged-rest.ensures
-          ∙ walk_none (λ q _. place_fault a.table.now a.glyphs a.kind a.base q) (λ q. q + 2) (λ q. 0) _ _ _ (omega (arith, c.if-rest-eq0.true))),
-      c.loop-left.invariant.1,
-    )
-
-pub returns-in-Bad : goal.returns-in-Bad
-returns-in-Bad c =
+pub returns-in_err-judge_value : goal.returns-in_err-judge_value
+returns-in_err-judge_value c =
     let a = c.args in
-    let f = c.judge_value-fault.ensures.0 in (
-      f
-          ∙ sym
-          (c.loop-left.invariant.0
-          ∙ each-told a.table.now a.glyphs a.kind a.base _ c.loop-left.left c.loop-left.p _ c.loop-left.invariant.1 c.unjudged-rest.ensures
-          ∙ walk-stop (λ q _. place_fault a.table.now a.glyphs a.kind a.base q) (λ q. q + 2) (λ q. 0) _ _ _ (omega (arith, c.if-rest-eq0.false)) (sym f ∙ c.in-Bad.is)),
-      c.judge_value-fault.ensures.1,
-    )
+    let l = c.loop-untold in
+    let u = c.in-Some.ensures in
+    let e = l.invariant.0 ∙ passed-told a.table.now a.glyphs a.kind a.base _ a.place a.count l.value c.in-Some.untold l.invariant.1 u.0 (omega (arith, u.1)) u.2 in
+    (grind (arith, walk_steps, u.1), c.judge_value.ensures.1)
 
-pub loop-left-smaller : goal.loop-left-smaller
-loop-left-smaller c = omega (arith, c.unjudged-rest.ensures.0, c.if-rest-eq0.false)
-
-pub loop-left-preserved : goal.loop-left-preserved
-loop-left-preserved c =
+pub loop-untold-preserved : goal.loop-untold-preserved
+loop-untold-preserved c =
     let a = c.args in
-    let f = c.judge_value-fault.ensures.0 in (
-      c.loop-left.invariant.0
-          ∙ each-told a.table.now a.glyphs a.kind a.base _ c.loop-left.left c.loop-left.p _ c.loop-left.invariant.1 c.unjudged-rest.ensures
-          ∙ walk-next (λ q _. place_fault a.table.now a.glyphs a.kind a.base q) (λ q. q + 2) (λ q. 0) _ _ _ _ _ (omega (arith, c.if-rest-eq0.false)) (sym f ∙ c.in_default.is) refl refl,
-      c.judge_value-fault.ensures.1,
-      search rules,
-      omega (arith, c.unjudged-rest.ensures.0),
-    )
+    let l = c.loop-untold in
+    let u = c.in-Some.ensures in
+    let e = l.invariant.0 ∙ passed-told a.table.now a.glyphs a.kind a.base _ a.place a.count l.value c.in-Some.untold l.invariant.1 u.0 (omega (arith, u.1)) u.2 in
+    (grind (arith, walk_steps, u.1), c.judge_value.ensures.1, omega (arith, u.1))
 
 pub returns : goal.returns
 returns c =
     let a = c.args in
-    (sym (c.loop-left.invariant.0 ∙ walk_none (λ q _. place_fault a.table.now a.glyphs a.kind a.base q) (λ q. q + 2) (λ q. 0) _ _ _ c.loop-left-test.false), c.loop-left.invariant.1)
+    let l = c.loop-untold in
+    let e = l.invariant.0 ∙ passed-told a.table.now a.glyphs a.kind a.base _ a.place a.count l.value a.count l.invariant.1 l.invariant.2 (omega arith) c.in_default.ensures in
+    (grind (arith, walk_steps), l.invariant.1)

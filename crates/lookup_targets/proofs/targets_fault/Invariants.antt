@@ -1,5 +1,4 @@
 -- `lookup_targets::targets_fault` meets its contract.
-use lib.ListN.{length}
 use Rattle.lookup.specs.Pass.{Serves}
 use Rattle.fields.specs.Walk.{each}
 use Prim.Native.Nat.{◌+◌, ◌-◌}
@@ -12,8 +11,6 @@ invariant-loop-glyph l =
     (each (target_fault l.table l.glyphs l.kind l.at l.base) (λ g. g + 1) l.glyphs 0 ≡ each (target_fault l.table l.glyphs l.kind l.at l.base) (λ g. g + 1) (l.glyphs - l.glyph) l.glyph)
     × Serves l.table l.at l.glyph l.cursor
     × (Judged l.table l.glyphs l.judged × Ahead l.table l.glyphs l.kind l.base l.ahead)
-    × (length l.judged ≡ length l.initial.judged)
-    × (length l.ahead ≡ length l.initial.ahead)
 
 abbrev pub decreases-loop-glyph : goal.decreases-loop-glyph
 decreases-loop-glyph l = l.glyphs - l.glyph

@@ -1,20 +1,15 @@
 -- `machine::class_by` meets its contract.
-use mathlib.Core.Path.{sym, ap₂, ◌∙◌}
-use Prim.Native.Nat.{ℕ, ◌+◌, ◌-◌}
-use native.Mathlib.Omega.{arith}
-use lib.ListN.{get_or}
+use Rattle.std.proofs.Common.{arith}
 use Rattle.machine.proofs.Steps.{class-before, class-after, class-among}
 use Rattle.machine.proofs.class_by.Goals as goal
+use Rattle.machine.proofs.class_by.Goals.{then-asked-first-via-then-asked-first, then-asked-first-via-else-asked-first+then-first-classes}
 
 pub returns-then-asked-first : goal.returns-then-asked-first
-returns-then-asked-first c = λ here w. sym (class-before _ _ _ (omega (arith, w.first, c.if-asked-first.true)))
-
-pub returns-then-first-classes : goal.returns-then-first-classes
-returns-then-first-classes c = λ here w. sym (class-after _ _ _ (omega (arith, w.first, c.if-asked-first.false)) (omega (arith, w.first, w.count, c.if-first-classes.true)))
+returns-then-asked-first c = λ here w.
+    elim c.then-asked-first.branch [
+      | then-asked-first-via-then-asked-first v ↦ grind (arith, class-before)
+      | then-asked-first-via-else-asked-first+then-first-classes v ↦ grind (arith, class-after)
+    ]
 
 pub returns : goal.returns
-returns c = λ here w.
-    let a = c.args in
-    c.u8_at.ensures.0
-    ∙ ap₂ (λ (x y : ℕ). get_or a.table.now (x + 4 + (a.glyph - y)) 0) w.at w.first
-    ∙ sym (class-among _ _ _ (omega (arith, w.first, c.if-asked-first.false)) (omega (arith, w.first, w.count, c.if-first-classes.false)))
+returns c = λ here w. grind (arith, class-among)

@@ -1,20 +1,15 @@
-use mathlib.Core.Path.{sym, ◌∙◌}
-use native.Mathlib.Omega.{arith}
-use mathlib.Core.Bool.{true≢false}
-use Rattle.machine.proofs.Steps.{class-clear, classes-start, classes-next, classes-none}
+-- `machine::classes_are_clear` meets its contract.
+use Rattle.std.proofs.Common.{◌≡◌, ◌+◌, ◌-◌, rules, tests, sym, ◌∙◌, arith, slice_range}
+use Rattle.std.proofs.lemmas.Iterator.{YieldsList-from_slice}
+use Rattle.std.proofs.lemmas.Iterator.Search.{all_from_yields_List}
+use lib.Dec.{ltb}
+use Rattle.machine.proofs.Steps.{classes-clear}
 use Rattle.machine.proofs.classes_are_clear.Goals as goal
 
-pub returns-then-table-end : goal.returns-then-table-end
-returns-then-table-end c = λ e. absurd (true≢false (sym e))
-
-pub loop-at-init : goal.loop-at-init
-loop-at-init c = (classes-start _ _ _ _, omega arith)
-
-pub returns-then-classes-u8_at : goal.returns-then-classes-u8_at
-returns-then-classes-u8_at c = λ e. absurd (true≢false (sym e))
-
-pub loop-at-preserved : goal.loop-at-preserved
-loop-at-preserved c = (c.loop-at.invariant.0 ∙ classes-next _ _ _ _ c.loop-at-test.true (class-clear _ _ _ _ _ (omega arith) c.u8_at.ensures.0 c.class_count-classes.ensures.0 c.if-classes-u8_at.false), omega arith)
-
 pub returns : goal.returns
-returns c = λ e. c.loop-at.invariant.0 ∙ classes-none _ _ _ _ c.loop-at-test.false
+returns c = λ e.
+    let a = c.args in
+    let classes = c.class_count-classes.result in
+    let n : a.first + a.count - a.first ≡ a.count = omega arith in
+    let all = all_from_yields_List (λ class. ltb class classes) _ _ c.all.result c.all.ensures.ran (YieldsList-from_slice (slice_range a.table.now a.first (a.first + a.count)) cc) (λ x b q k. search (rules, tests)) in
+    classes-clear a.table.now a.here classes c.class_count-classes.ensures.0 a.count a.first c.if-table-end.false (rw n at (sym all ∙ e))

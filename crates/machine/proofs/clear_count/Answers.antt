@@ -1,48 +1,32 @@
-use Rattle.machine.specs.Rows.{cell_place, row_fault, raised_by}
-use Rattle.machine.specs.Cells.{entry_table}
-use Rattle.machine.proofs.Steps.{cells-next, cells-none, raised-next, raised-none, met_next}
-use native.Mathlib.Omega.{arith}
-use Prim.Native.Nat.{◌+◌}
-use mathlib.Core.Path.{◌≡◌, refl, sym, ◌∙◌}
-use borrow.Author.Rules.{rules}
+-- `machine::clear_count` meets its contract.
+use Rattle.std.proofs.Common.{◌≡◌, ◌+◌, sym, ◌∙◌, arith, rules}
+use Rattle.machine.specs.Rows.{cell_place}
+use Rattle.machine.proofs.Steps.{cells-start, cells-go, cells-end, raised-starts, raised-goes, raised-ends, met_next}
 use Rattle.machine.proofs.clear_count.Goals as goal
 
-pub loop-left-init : goal.loop-left-init
-unfolding row_fault raised_by
-loop-left-init c = (rw c.class_count-classes.ensures.0, omega (arith, c.class_count-classes.ensures.0), rw c.class_count-classes.ensures.0, c.requires.met, refl)
+pub loop-class-init : goal.loop-class-init
+loop-class-init c = (cells-start _ _ _ _ _ c.grid_of-grid.ensures.classes, raised-starts _ _ _ _ _ c.grid_of-grid.ensures.classes, c.requires.met_clear)
 
-pub overflow_add-first : goal.overflow_add-first
-overflow_add-first c = omega (arith, c.cell_place-first.ensures.1, c.class_count-classes.ensures.0, c.class_count-classes.ensures.1)
-
-pub clear_cell-count-requires : goal.clear_cell-count-requires
-clear_cell-count-requires c = (omega (arith, c.class_count-classes.ensures.0), (c.array_offset-array.ensures.1, omega (arith, c.entry_table-entries.ensures.1)))
-
-pub returns-then-count-eq0 : goal.returns-then-count-eq0
-returns-then-count-eq0 c =
+pub returns-in_err-rows : goal.returns-in_err-rows
+returns-in_err-rows c =
     let a = c.args in
-    let l = c.loop-left in
-    let entries : c.entry_table-entries.result ≡ entry_table a.table.now a.here = omega (arith, c.entry_table-entries.ensures.0) in
+    let l = c.loop-class in
     let place : c.cell_place-first.result + l.class ≡ cell_place a.table.now a.here a.row l.class = omega (arith, c.cell_place-first.ensures.0) in
-    let w = c.clear_cell-count.ensures a.here a.row l.class c.class_count-classes.ensures.0 c.array_offset-array.ensures.0 entries place l.invariant.3 in
-    ((λ h. absurd (omega arith)), rw l.invariant.2 (met_next _ _ _ _ _ _ c.loop-left-test.true w.1))
+    let w = c.clear_cell.ensures a.here a.row l.class c.grid_of-grid.ensures place l.invariant.2 in
+    (search rules, rw l.invariant.1 (met_next _ _ _ _ _ _ c.loop-class-test.true w.1))
 
-pub overflow_add-class : goal.overflow_add-class
-overflow_add-class c = omega (arith, c.class_count-classes.ensures.0, c.class_count-classes.ensures.1)
-
-pub loop-left-preserved : goal.loop-left-preserved
-loop-left-preserved c =
+pub loop-class-preserved : goal.loop-class-preserved
+loop-class-preserved c =
     let a = c.args in
-    let l = c.loop-left in
-    let entries : c.entry_table-entries.result ≡ entry_table a.table.now a.here = omega (arith, c.entry_table-entries.ensures.0) in
+    let l = c.loop-class in
     let place : c.cell_place-first.result + l.class ≡ cell_place a.table.now a.here a.row l.class = omega (arith, c.cell_place-first.ensures.0) in
-    let w = c.clear_cell-count.ensures a.here a.row l.class c.class_count-classes.ensures.0 c.array_offset-array.ensures.0 entries place l.invariant.3 in
-    let v = w.0 (omega (arith, c.if-count-eq0.false)) in (
-      l.invariant.0 ∙ cells-next _ _ _ _ _ _ _ c.loop-left-test.true v.0 v.1,
-      omega arith,
-      l.invariant.2 ∙ raised-next _ _ _ _ _ _ _ c.loop-left-test.true v.1,
-      rw v.1 w.1,
-      search rules,
+    let w = c.in_ok-rows.ensures a.here a.row l.class c.grid_of-grid.ensures place l.invariant.2 in (
+      l.invariant.0 ∙ cells-go _ _ _ _ _ _ _ tt c.loop-class-test.true w.0.0 w.0.1,
+      l.invariant.1 ∙ raised-goes _ _ _ _ _ _ _ c.loop-class-test.true w.0.1,
+      rw w.0.1 w.1,
     )
 
 pub returns : goal.returns
-returns c = ((λ h. sym (c.loop-left.invariant.0 ∙ cells-none _ _ _ _ _ _ c.loop-left-test.false)), rw (c.loop-left.invariant.2 ∙ raised-none _ _ _ _ _ _ c.loop-left-test.false) c.loop-left.invariant.3)
+returns c =
+    let l = c.loop-class in
+    (sym (l.invariant.0 ∙ cells-end _ _ _ _ _ _ c.loop-class-test.false), rw (l.invariant.1 ∙ raised-ends _ _ _ _ _ _ c.loop-class-test.false) l.invariant.2)

@@ -1,8 +1,6 @@
 -- `machine::rows_from` meets its contract.
+use Rattle.std.proofs.Common.{◌≡◌, ◌-◌, ◌≤◌}
 use Rattle.machine.specs.Rows.{fault_from, count_from, unless, rows_of, Met}
-use lib.ListN.{length}
-use Prim.Native.Nat.{◌-◌, ◌≤◌}
-use mathlib.Core.Path.{◌≡◌}
 use Rattle.machine.proofs.rows_from.Given as goal
 
 abbrev pub invariant-loop-row : goal.invariant-loop-row
@@ -10,7 +8,6 @@ invariant-loop-row l =
     (rows_of l.table l.here ≡ unless (fault_from l.table l.here (256 - l.row) l.row l.s) (count_from l.table l.here (256 - l.row) l.row l.s))
     × (l.s ≤ 256)
     × Met l.table l.here l.s l.met
-    × (length l.met ≡ length l.initial.met)
 
 abbrev pub decreases-loop-row : goal.decreases-loop-row
 decreases-loop-row l = 256 - l.row

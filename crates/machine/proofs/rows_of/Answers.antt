@@ -2,5 +2,5 @@
 use Rattle.machine.proofs.Steps.{met-none}
 use Rattle.machine.proofs.rows_of.Goals as goal
 
-pub rows_from-requires : goal.rows_from-requires
-rows_from-requires c = record { here_bound = c.requires; met = met-none _ _ 2 }
+pub rows_from-requires-clause-met_clear : goal.rows_from-requires-clause-met_clear
+rows_from-requires-clause-met_clear c = met-none _ _ 2

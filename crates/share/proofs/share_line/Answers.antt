@@ -5,22 +5,22 @@ use Rattle.share.proofs.Sums.{fit}
 use Rattle.share.proofs.share_line.Goals as goal
 
 pub share_stages-left-requires : goal.share_stages-left-requires
-share_stages-left-requires c = let p = c.requires in (p.sides.0, zeros-hold p.sides.0 p.sides.1 p.gap_bound.0, fit p.gap_bound.1 p.gap_bound.2)
+share_stages-left-requires c = let p = c.requires in (zeros-hold p.over_zeros.0 p.over_zeros.1 p.gap_bound.0, fit p.gap_bound.1 p.gap_bound.2)
 
 pub go_back-requires : goal.go_back-requires
 go_back-requires c = let p = c.requires in
     let s = c.share_stages-left in
-    (p.sides.0, staged-holds p.sides.0 p.sides.1 c.args.gap s.ensures.value s.ensures.moves_after (omega (arith, s.auto)) p.gap_bound.0, fit p.gap_bound.1 p.gap_bound.2)
+    (staged-holds p.over_zeros.0 p.over_zeros.1 c.args.gap s.ensures.value s.ensures.moves_after (omega (arith, s.auto)) p.gap_bound.0, fit p.gap_bound.1 p.gap_bound.2)
 
 pub returns-then-back : goal.returns-then-back
 returns-then-back c = let a = c.args in
     let p = c.requires in
     let s = c.share_stages-left.ensures in
     let b = c.go_back.ensures in
-    whole p.sides.0 p.sides.1 a.gap s.value s.moves_after a.back c.if-back.true b.value b.moves_after
+    whole p.over_zeros.0 p.over_zeros.1 a.gap s.value s.moves_after a.back c.if-back.true b.value b.moves_after
 
 pub returns : goal.returns
 returns c = let a = c.args in
     let p = c.requires in
     let s = c.share_stages-left in
-    whole-limits p.sides.0 p.sides.1 a.gap s.ensures.value s.ensures.moves_after a.back c.if-back.false (omega (arith, s.auto))
+    whole-limits p.over_zeros.0 p.over_zeros.1 a.gap s.ensures.value s.ensures.moves_after a.back c.if-back.false (omega (arith, s.auto))

@@ -1,31 +1,13 @@
-use mathlib.Core.Path.{refl}
-use native.Mathlib.Omega.{arith}
-use Rattle.share.proofs.Sums.{totals-on, totals-over, totals-end}
+use Rattle.std.proofs.Common.{◌≡◌, rules, ℕ}
+use Rattle.std.specs.Prelude.{leb}
+use Rattle.std.specs.List.{list_all, range_with_len}
+use Rattle.std.proofs.iter.runs.Sources.{ranges}
+use Rattle.share.specs.Share.{stages, most_total}
+use Rattle.share.specs.Sides.{total_at}
 use Rattle.share.proofs.totals_fit.Goals as goal
 
-pub loop-stage-init : goal.loop-stage-init
-loop-stage-init c = (omega arith, refl)
-
-pub total_of-requires : goal.total_of-requires
-total_of-requires c = omega arith
-
-pub returns-then-total_of-gt-MOST_TOTAL : goal.returns-then-total_of-gt-MOST_TOTAL
-returns-then-total_of-gt-MOST_TOTAL c =
-    let l = c.loop-stage in
-    totals-over _ l.stage l.invariant.1 (omega (arith, c.loop-stage-test.true)) (omega (arith, c.total_of.ensures, c.if-total_of-gt-MOST_TOTAL.true))
-
-pub overflow_add-stage : goal.overflow_add-stage
-overflow_add-stage c = omega arith
-
-pub loop-stage-smaller : goal.loop-stage-smaller
-loop-stage-smaller c = omega arith
-
-pub loop-stage-preserved : goal.loop-stage-preserved
-loop-stage-preserved c =
-    let l = c.loop-stage in (
-      omega arith,
-      totals-on _ l.stage l.invariant.1 (omega (arith, c.loop-stage-test.true)) (omega (arith, c.total_of.ensures, c.if-total_of-gt-MOST_TOTAL.false)),
-    )
-
 pub returns : goal.returns
-returns c = let l = c.loop-stage in totals-end _ l.stage l.invariant.1 (omega (arith, l.invariant.0))
+unfolding stages
+returns c =
+    let h : c.all.result ≡ list_all (λ (s : ℕ). leb (total_at c.args.totals s) most_total) (range_with_len 0 4) = search (rules, ranges) in
+    h

@@ -1,19 +1,11 @@
 -- `sheet_ask::ask_action` meets its contract. The check is asked first. Assumes nothing.
-use Rattle.sheet_ask.proofs.ReplyLaws.{action-given, action-refused}
-use Rattle.sheet_sections.proofs.SectionLaws.{failed, passed}
-use Rattle.meaning.specs.Sheet.{IsSheet}
+use Rattle.std.proofs.Common.{◌≡◌, Err, rules}
+use Rattle.sheet_ask.proofs.ReplyLaws.{action-refused}
 use Rattle.sheet_ask.proofs.ask_action.Goals as goal
 
-pub returns-then-not-is_sheet : goal.returns-then-not-is_sheet
-returns-then-not-is_sheet c =
+pub returns-in_err-check_sheet : goal.returns-in_err-check_sheet
+returns-in_err-check_sheet c =
     let a = c.args in
-    let s = a.bytes.now in
-    action-refused s a.direction a.glyph a.number c.no_action.result
-    (failed c.is_sheet.result (IsSheet s) c.if-not-is_sheet.true c.is_sheet.ensures) c.no_action.ensures
-
-pub returns : goal.returns
-returns c =
-    let a = c.args in
-    let s = a.bytes.now in
-    action-given s a.direction a.glyph a.number c.action_of.result
-    (passed c.is_sheet.result (IsSheet s) c.if-not-is_sheet.false c.is_sheet.ensures) c.action_of.ensures
+    let f = c.in_err-check_sheet.field-0.0 in
+    let e : c.from_residual.result ≡ Err f = search rules in
+    rw e (action-refused a.bytes.now a.direction a.glyph a.number f c.in_err-check_sheet.ensures)

@@ -1,20 +1,12 @@
 -- `sheet_ask::ask_record` meets its contract. The check is asked first. Assumes nothing.
-use Rattle.sheet_ask.proofs.ReplyLaws.{reply-given, reply-refused}
-use Rattle.sheet_sections.proofs.SectionLaws.{failed, passed}
-use Rattle.answers.specs.Says.{refused, says_record}
-use Rattle.meaning.specs.Sheet.{IsSheet}
+use Rattle.std.proofs.Common.{◌≡◌, Err, rules}
 use Rattle.meaning.specs.Ask.{along, width}
-use mathlib.Core.Path.{refl}
+use Rattle.sheet_ask.proofs.ReplyLaws.{reply-refused}
 use Rattle.sheet_ask.proofs.ask_record.Goals as goal
 
-pub returns-then-not-is_sheet : goal.returns-then-not-is_sheet
-returns-then-not-is_sheet c =
+pub returns-in_err-check_sheet : goal.returns-in_err-check_sheet
+returns-in_err-check_sheet c =
     let a = c.args in
-    let s = a.bytes.now in
-    reply-refused s (along a.direction (width a.glyph a.class)) (refused 17 0) (failed c.is_sheet.result (IsSheet s) c.if-not-is_sheet.true c.is_sheet.ensures) refl
-
-pub returns : goal.returns
-returns c =
-    let a = c.args in
-    let s = a.bytes.now in
-    reply-given s (along a.direction (width a.glyph a.class)) (says_record c.record_of.result) (passed c.is_sheet.result (IsSheet s) c.if-not-is_sheet.false c.is_sheet.ensures) c.record_of.ensures
+    let f = c.in_err-check_sheet.field-0.0 in
+    let e : c.from_residual.result ≡ Err f = search rules in
+    rw e (reply-refused a.bytes.now (along a.direction (width a.glyph a.class)) f c.in_err-check_sheet.ensures)

@@ -1,52 +1,18 @@
-use Prim.Native.Nat.{ℕ}
-use mathlib.Core.Path.{◌≡◌, subst}
-use native.Mathlib.Omega.{arith}
-use Rattle.encoding.specs.Codes.{items_at}
-use Rattle.encoding.proofs.DistinctLaws.{index-le}
-use Rattle.encoding.proofs.ReadLaws.{items-length}
-use Rattle.meaning.specs.Discrete.{Entry-discrete}
-use Rattle.sheet_cells.specs.Cells.{entry_at, OkEntries}
-use Rattle.sheet_cells.proofs.TurnLaws.{index_read, entries-more, entry-far, entry-twice}
-use mathlib.Core.Path.{◌≡◌, subst}
-use Rattle.sheet_cells.proofs.TurnLaws.{entries-more, entry-far, entry-twice}
+-- `sheet_cells::good_entries` meets its contract: entries are good exactly where each is new. Assumes nothing.
+use Rattle.std.proofs.Common.{refl, arith, rules}
+use Rattle.std.proofs.lemmas.Iterator.{cases_from_all, YieldsList-from_range}
+use Rattle.sheet_sections.proofs.RangeLaws.{says-all, says-same}
+use Rattle.sheet_cells.specs.Cells.{NewEntry}
+use Rattle.sheet_cells.proofs.TurnLaws.{entries-all, each_entry}
 use Rattle.sheet_cells.proofs.good_entries.Goals as goal
-
-pub loop-passed-init : goal.loop-passed-init
-loop-passed-init c = (omega arith, omega arith, ((λ k z h. absurd (omega arith)), tt, omega arith))
-
-pub returns-then-rows-row : goal.returns-then-rows-row
-returns-then-rows-row c =
-    let l = c.loop-passed in
-    let a = c.args in
-    entry-far a.bytes.now a.at l.passed a.count l.place a.rows l.invariant.1 (omega arith) (omega (arith, c.u16_at-row.ensures.0))
-
-pub returns-then-index-passed : goal.returns-then-index-passed
-returns-then-index-passed c =
-    let l = c.loop-passed in
-    let a = c.args in
-    let s = a.bytes.now in
-    let ds = items_at entry_at 4 s a.at l.passed in
-    let k = index_read s l.place c.u16_at-row.result c.u16_at-flags.result c.index_of-index.result ds c.u16_at-row.ensures.0 c.u16_at-flags.ensures.0 c.index_of-index.ensures in
-    entry-twice s a.at l.passed a.count l.place a.rows l.invariant.1 (omega arith) (omega (arith, k))
-
-pub loop-passed-preserved : goal.loop-passed-preserved
-loop-passed-preserved c =
-    let l = c.loop-passed in
-    let a = c.args in
-    let s = a.bytes.now in
-    let ds = items_at entry_at 4 s a.at l.passed in
-    let k = index_read s l.place c.u16_at-row.result c.u16_at-flags.result c.index_of-index.result ds c.u16_at-row.ensures.0 c.u16_at-flags.ensures.0 c.index_of-index.ensures in
-    let n = index-le Entry-discrete (entry_at s l.place) ds in (
-      omega arith,
-      omega arith,
-      entries-more s a.at l.passed l.place a.rows l.invariant.1 (omega arith) l.invariant.2 (omega (arith, k))
-          (omega (arith, n, items-length entry_at 4 s l.passed a.at))
-          (omega (arith, c.u16_at-row.ensures.0), omega (arith, c.u16_at-flags.ensures.0, c.u16_at-flags.ensures.1)),
-    )
 
 pub returns : goal.returns
 returns c =
-    let l = c.loop-passed in
     let a = c.args in
-    let z : l.passed ≡ a.count = omega arith in
-    subst (λ (k : ℕ). OkEntries a.rows (items_at entry_at 4 a.bytes.now a.at k)) z l.invariant.2
+    let s = a.bytes.now in
+    says-same c.all.result _ _
+    (entries-all s (λ i. omega (arith, c.type_inv.bytes i)) a.at a.rows a.count (omega arith))
+    (λ o i h. each_entry s (λ i. omega (arith, c.type_inv.bytes i)) a.at a.rows a.count i h o)
+    (says-all (NewEntry a.rows s a.at) a.count c.all.result
+    (cases_from_all _ _ _ (NewEntry a.rows s a.at) (λ i. NewEntry a.rows s a.at i → ⊥) c.all.ensures.ran
+    (YieldsList-from_range 0 a.count a.count refl (omega arith)) (λ x q k. search rules) (λ x q k. search rules)))

@@ -1,31 +1,20 @@
 -- `sheet_cells::read_cells` meets its contract: section 4 read after section 3, whose count says how many numbers there are. Assumes nothing.
-use Prim.Native.Nat.{ℕ}
-use mathlib.Core.Path.{subst}
-use native.Mathlib.Omega.{arith}
-use Rattle.fields.specs.Field.{Bytes}
-use Rattle.encoding.specs.Codes.{counted, Found}
+use Rattle.std.proofs.Common.{ℕ, subst, arith}
 use Rattle.encoding.specs.Sections.{byte}
+use Rattle.encoding.specs.Codes.{counted}
 use Rattle.sheet_sections.specs.Section.{Parses}
-use Rattle.meaning.specs.Sheet.{entry_code}
-use Rattle.sheet_cells.specs.Cells.{OkEntries, OkNumbers}
+use Rattle.sheet_cells.specs.Cells.{OkNumbers}
 use Rattle.sheet_cells.proofs.CellLaws.{cells-none, cells-parse}
 use Rattle.sheet_cells.proofs.read_cells.Goals as goal
 
-pub returns-in-Upto : goal.returns-in-Upto
-returns-in-Upto c =
+pub returns-in_err-end : goal.returns-in_err-end
+returns-in_err-end c =
     let a = c.args in
-    let s = a.bytes.now in
-    let bytes : Bytes s = λ i. omega (arith, c.shared_slice_known-1.given i) in
-    let q = c.in-Upto.end in
-    let f : Found (counted entry_code) (OkEntries a.rows) s a.at q =
-    subst (Parses (counted entry_code) (OkEntries a.rows) s a.at) c.in-Upto.is c.read_entries-entries.ensures in
-    cells-parse a.rows c.requires.0 s bytes a.at a.total q f c.read_numbers.result
-    (subst (λ (m : ℕ). Parses (counted byte) (OkNumbers a.total m) s q c.read_numbers.result) c.u32_at-count.ensures.0 c.read_numbers.ensures)
+    rw c.from_residual.ensures
+    (cells-none a.rows c.requires.0 a.bytes.now (λ i. omega (arith, c.type_inv.bytes i)) a.at a.total c.in_err-end.ensures)
 
-pub returns-in-Absent : goal.returns-in-Absent
-returns-in-Absent c =
+pub returns : goal.returns
+returns c =
     let a = c.args in
-    let s = a.bytes.now in
-    let bytes : Bytes s = λ i. omega (arith, c.shared_slice_known-1.given i) in
-    cells-none a.rows c.requires.0 s bytes a.at a.total
-    (subst (Parses (counted entry_code) (OkEntries a.rows) s a.at) c.in-Absent.is c.read_entries-entries.ensures)
+    cells-parse a.rows c.requires.0 a.bytes.now (λ i. omega (arith, c.type_inv.bytes i)) a.at a.total c.in_ok-end.end c.in_ok-end.ensures c.read_numbers.result
+    (subst (λ (m : ℕ). Parses (counted byte) (OkNumbers a.total m) a.bytes.now c.in_ok-end.end c.read_numbers.result) c.u32_at.ensures.0 c.read_numbers.ensures)

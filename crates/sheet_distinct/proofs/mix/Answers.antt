@@ -1,25 +1,21 @@
-use Prim.Native.Nat.{ℕ, ◌+◌, ◌-◌, ◌*◌, ◌%◌}
-use mathlib.Core.Path.{refl, sym, ap, ◌∙◌}
-use native.Mathlib.Omega.{arith}
+use Rattle.std.proofs.Common.{ℕ, ◌+◌, ◌-◌, ◌*◌, ◌/◌, ◌%◌, ◌∙◌, sym, ap, length, arith}
 use Rattle.sheet_distinct.specs.Slots.{mixed}
 use Rattle.sheet_distinct.proofs.SlotLaws.{mixed-next, mixed-end}
 use Rattle.sheet_distinct.proofs.mix.Goals as goal
 
-pub loop-left-init : goal.loop-left-init
-loop-left-init c = (c.requires, omega arith, refl)
+pub loop-i-init : goal.loop-i-init
+loop-i-init c = ap (λ (k : ℕ). mixed c.args.words.now k 0 0) (omega arith)
 
-pub loop-left-preserved : goal.loop-left-preserved
-loop-left-preserved c =
-    let l = c.loop-left in
-    let s = c.args.bytes.now in (
-      omega arith,
-      omega arith,
-      ap (λ (x : ℕ). mixed s (l.left - 1) (l.place + 4) ((l.sum + x) % 4294967296 * 2654435761 % 4294967296)) c.u32_in.ensures.0
-          ∙ sym (mixed-next s l.left l.place l.sum (omega arith)) ∙ l.invariant.2,
-    )
+pub loop-i-preserved : goal.loop-i-preserved
+loop-i-preserved c =
+    let l = c.loop-i in
+    let s = c.args.words.now in
+    let n = length s / 4 in
+    ap (λ (x : ℕ). mixed s (n - (l.i + 1)) (4 * (l.i + 1)) ((l.sum + x) % 4294967296 * 2654435761 % 4294967296)) c.u32_in-word.ensures.0
+    ∙ sym (mixed-next s (n - l.i) (n - (l.i + 1)) (4 * l.i) (4 * (l.i + 1)) l.sum (omega arith) (omega arith)) ∙ l.invariant
 
 pub returns : goal.returns
 returns c =
-    let l = c.loop-left in
-    let s = c.args.bytes.now in
-    (sym (mixed-end s l.left l.place l.sum (omega arith)) ∙ l.invariant.2, omega arith)
+    let l = c.loop-i in
+    let s = c.args.words.now in
+    sym (mixed-end s (length s / 4 - l.i) (4 * l.i) l.sum (omega arith)) ∙ l.invariant

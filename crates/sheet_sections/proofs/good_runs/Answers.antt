@@ -1,45 +1,46 @@
-use Prim.Native.Nat.{ℕ, suc, ◌+◌, ◌-◌}
-use mathlib.Core.Path.{◌≡◌, refl, sym, subst}
-use native.Mathlib.Omega.{arith}
+use Rattle.std.proofs.Common.{ℕ, suc, ◌+◌, ◌-◌, ◌*◌, ◌≡◌, refl, arith}
 use Rattle.encoding.specs.Runs.{Run}
-use Rattle.encoding.specs.Codes.{items_at}
-use Rattle.sheet_sections.proofs.RunLaws.{same-run, turn-follows, turn_on, turn-back}
-use Rattle.sheet_sections.proofs.SectionLaws.{says-yes, says-no}
-use Rattle.sheet_sections.specs.RunSection.{run_at, MayFollow, GoodRuns}
+use Rattle.sheet_sections.proofs.RunLaws.{same-run, turn-follows, turn_on, turn-back, no-runs-left}
+use Rattle.sheet_sections.specs.RunSection.{run_at}
+use Rattle.sheet_sections.proofs.SectionLaws.{items-same}
 use Rattle.sheet_sections.proofs.good_runs.Goals as goal
 
-pub loop-left-init : goal.loop-left-init
-loop-left-init c = (c.requires.0, omega arith, (λ h. h), (λ h. h))
+pub loop-i-init : goal.loop-i-init
+loop-i-init c =
+    let w = items-same run_at 6 c.args.bytes.now c.args.at (c.args.at + 6 * 0) c.args.count (c.args.count - 0) (omega arith) (omega arith) in
+    (omega arith, (λ h. rw w at h), (λ h. rw (← w) at h))
 
-pub loop-left-preserved : goal.loop-left-preserved
-loop-left-preserved c =
-    let l = c.loop-left in
+pub loop-i-preserved : goal.loop-i-preserved
+loop-i-preserved c =
+    let l = c.loop-i in
     let a = c.args in
     let s = a.bytes.now in
+    let place = a.at + 6 * l.i in
+    let place' = a.at + 6 * (l.i + 1) in
     let r : Run ℕ = record { first = c.u16_at-first.result; last = c.u16_at-last.result; value = c.u16_at-value.result } in
-    let e = same-run s l.place r.first r.last r.value c.u16_at-first.ensures.0 c.u16_at-last.ensures.0 c.u16_at-value.ensures.0 in
-    let el : l.left ≡ suc (l.left - 1) = omega arith in
-    let f = says-yes (MayFollow a.glyphs a.limit a.skip l.from l.held r) c.if-follows.true c.follows.ensures in (
-      omega arith,
+    let e = same-run s place r.first r.last r.value c.u16_at-first.ensures.0 c.u16_at-last.ensures.0 c.u16_at-value.ensures.0 in
+    let ep : place' ≡ place + 6 = omega arith in
+    let el : a.count - l.i ≡ suc (a.count - (l.i + 1)) = omega arith in
+    let f = c.if-not-follows.ensures in (
       omega (arith, f.inside),
-      (λ h. l.invariant.2 (turn-back s a.glyphs a.limit a.skip l.from l.held l.place l.left (l.left - 1) r e el (r.last + 1) refl f h)),
-      (λ h. turn_on s a.glyphs a.limit a.skip l.from l.held l.place l.left (l.left - 1) r e el (r.last + 1) refl (l.invariant.3 h)),
+      (λ h. l.invariant.1 (turn-back s a.glyphs a.limit a.skip l.from l.held place place' (a.count - l.i) (a.count - (l.i + 1)) r e ep el (r.last + 1) refl f h)),
+      (λ h. turn_on s a.glyphs a.limit a.skip l.from l.held place place' (a.count - l.i) (a.count - (l.i + 1)) r e ep el (r.last + 1) refl (l.invariant.2 h)),
     )
 
-pub returns-else-follows : goal.returns-else-follows
-returns-else-follows c =
-    let l = c.loop-left in
+pub returns-then-not-follows : goal.returns-then-not-follows
+returns-then-not-follows c =
+    let l = c.loop-i in
     let a = c.args in
     let s = a.bytes.now in
+    let place = a.at + 6 * l.i in
     let r : Run ℕ = record { first = c.u16_at-first.result; last = c.u16_at-last.result; value = c.u16_at-value.result } in
-    let e = same-run s l.place r.first r.last r.value c.u16_at-first.ensures.0 c.u16_at-last.ensures.0 c.u16_at-value.ensures.0 in
-    let el : l.left ≡ suc (l.left - 1) = omega arith in
-    λ h. says-no (MayFollow a.glyphs a.limit a.skip l.from l.held r) c.if-follows.false c.follows.ensures
-    (turn-follows s a.glyphs a.limit a.skip l.from l.held l.place l.left (l.left - 1) r e el (l.invariant.3 h))
+    let e = same-run s place r.first r.last r.value c.u16_at-first.ensures.0 c.u16_at-last.ensures.0 c.u16_at-value.ensures.0 in
+    let el : a.count - l.i ≡ suc (a.count - (l.i + 1)) = omega arith in
+    λ h. c.if-not-follows.ensures
+    (turn-follows s a.glyphs a.limit a.skip l.from l.held place (place + 6) (a.count - l.i) (a.count - (l.i + 1)) r e refl el (l.invariant.2 h))
 
 pub returns : goal.returns
 returns c =
-    let l = c.loop-left in
+    let l = c.loop-i in
     let a = c.args in
-    let z : l.left ≡ 0 = omega arith in
-    l.invariant.2 (subst (λ (k : ℕ). GoodRuns a.glyphs a.limit a.skip l.from l.held (items_at run_at 6 a.bytes.now l.place k)) (sym z) (l.invariant.1, tt))
+    l.invariant.1 (no-runs-left a.bytes.now a.glyphs a.limit a.skip l.from l.held (a.at + 6 * l.i) (a.count - l.i) (omega arith) (omega arith))

@@ -8,5 +8,5 @@ pub returns : goal.returns
 returns c =
     let a = c.args in
     let s = a.bytes.now in
-    let bytes : Bytes s = λ i. omega (arith, c.shared_slice_known-1.given i) in
+    let bytes : Bytes s = λ i. omega (arith, c.type_inv.bytes i) in
     cells-passed s bytes a.at c.entries_at.result c.after_items-cells.result c.after_items.result c.entries_at.ensures c.after_items-cells.ensures c.after_items.ensures

@@ -10,7 +10,7 @@ pub returns : goal.returns
 returns c =
     let a = c.args in
     let s = a.bytes.now in
-    let bytes : Bytes s = λ i. omega (arith, c.shared_slice_known-1.given i) in
+    let bytes : Bytes s = λ i. omega (arith, c.type_inv.bytes i) in
     pool-passed s bytes a.at c.item_place-runs.result c.after_items.result a.sort
     (reach-end (item_code a.sort) (FewItem a.sort) s bytes a.at c.u32_at.result c.item_place-runs.result c.u32_at.ensures.0 c.item_place-runs.ensures)
     c.after_items.ensures

@@ -13,7 +13,7 @@ pub returns-in-Clusters : goal.returns-in-Clusters
 returns-in-Clusters c =
     let a = c.args in
     let s = a.bytes.now in
-    let bytes : Bytes s = λ i. omega (arith, c.shared_slice_known-1.given i) in
+    let bytes : Bytes s = λ i. omega (arith, c.type_inv.bytes i) in
     let p = c.after_machine-clusters in
     subst (λ (k : Sort). Passes write (items_on k a.direction) Valid s 0 p.result) (sym c.in-Clusters.is)
     (machine-passed s bytes a.direction c.side_at.result c.side_at.ensures p.result p.ensures)
@@ -22,7 +22,7 @@ pub returns-in-Lists : goal.returns-in-Lists
 returns-in-Lists c =
     let a = c.args in
     let s = a.bytes.now in
-    let bytes : Bytes s = λ i. omega (arith, c.shared_slice_known-1.given i) in
+    let bytes : Bytes s = λ i. omega (arith, c.type_inv.bytes i) in
     let p = c.after_machine-clusters in
     let clusters = machine-passed s bytes a.direction c.side_at.result c.side_at.ensures p.result p.ensures in
     subst (λ (k : Sort). Passes write (items_on k a.direction) Valid s 0 c.after_pool.result) (sym c.in-Lists.is)

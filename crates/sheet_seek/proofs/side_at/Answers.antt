@@ -12,13 +12,13 @@ use Rattle.sheet_seek.proofs.side_at.Goals as goal
 pub returns-in-Horizontal : goal.returns-in-Horizontal
 returns-in-Horizontal c =
     let s = c.args.bytes.now in
-    let bytes : Bytes s = λ i. omega (arith, c.shared_slice_known-1.given i) in
+    let bytes : Bytes s = λ i. omega (arith, c.type_inv.bytes i) in
     subst (λ (d : Direction). Passes write (side_on d) Valid s 0 4) (sym c.in-Horizontal.is) (horizontal-passed s bytes)
 
 pub returns-in-Vertical : goal.returns-in-Vertical
 returns-in-Vertical c =
     let s = c.args.bytes.now in
-    let bytes : Bytes s = λ i. omega (arith, c.shared_slice_known-1.given i) in
+    let bytes : Bytes s = λ i. omega (arith, c.type_inv.bytes i) in
     subst (λ (d : Direction). Passes write (side_on d) Valid s 0 c.after_pool.result) (sym c.in-Vertical.is)
     (vertical-passed s bytes c.after_machine-clusters.result c.after_pool-lists.result c.after_pool.result
     c.after_machine-clusters.ensures c.after_pool-lists.ensures c.after_pool.ensures)

@@ -19,9 +19,6 @@ returns-then-length-gt65536 c =
     let p = c.print_refusal-then-length-gt65536 in
     subst (λ (text : List ℕ). Printed text a.out.now p.new.out p.result) (sym (text-long a.input.now (omega arith) (omega arith))) p.ensures
 
-pub print_table-requires : goal.print_table-requires
-print_table-requires c = omega arith
-
 pub returns : goal.returns
 returns c =
     let a = c.args in

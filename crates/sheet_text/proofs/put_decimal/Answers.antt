@@ -1,11 +1,10 @@
 -- `sheet_text::put_decimal` meets its contract.
 use Rattle.sheet_text.proofs.HexLaws.{stored-two, decimal-one, decimal-two}
 use lib.Seq.{sets}
-use lib.ListN.{length, set, length-set}
+use lib.ListN.{length, set}
 use mathlib.Core.List.{List}
 use mathlib.Core.Path.{sym, ap, ◌∙◌}
 use Prim.Native.Nat.{ℕ, ◌+◌}
-use native.Mathlib.Omega.{arith}
 use Rattle.sheet_text.proofs.put_decimal.Goals as goal
 
 pub returns-then-number-lt10 : goal.returns-then-number-lt10
@@ -16,9 +15,6 @@ returns-then-number-lt10 c =
       end = ap (λ (t : List ℕ). a.at + length t) (sym d);
       bytes = ap (λ (x : ℕ). set a.out.now a.at x) c.digit.ensures ∙ ap (sets a.out.now a.at) (sym d);
     }
-
-pub bounds-out-at-3 : goal.bounds-out-at-3
-bounds-out-at-3 c = simp length-set (omega arith)
 
 pub returns : goal.returns
 returns c =

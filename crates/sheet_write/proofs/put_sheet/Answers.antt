@@ -11,10 +11,10 @@ use Rattle.write_direction.proofs.Laws.{side-clear}
 use Rattle.sheet_write.proofs.put_sheet.Goals as goal
 
 pub overflow_cast-glyphs : goal.overflow_cast-glyphs
-overflow_cast-glyphs c = omega (arith, glyphs-few c.args.table.now c.args.glyphs (c.requires))
+overflow_cast-glyphs c = grind (arith, glyphs-few)
 
 pub put_side-end-requires : goal.put_side-end-requires
-put_side-end-requires c = (side-clear c.args.table.now c.args.glyphs (c.requires) Horizontal c.direction_at-first.result c.direction_at-first.ensures.1 c.direction_at-first.ensures.0, omega arith)
+put_side-end-requires c = (side-clear c.args.table.now c.args.glyphs c.requires Horizontal c.direction_at-first.result c.direction_at-first.ensures.1 c.direction_at-first.ensures.0, omega arith)
 
 pub returns-then-first-second : goal.returns-then-first-second
 returns-then-first-second c =
@@ -38,7 +38,7 @@ returns-then-first-second c =
     )
 
 pub put_side-requires : goal.put_side-requires
-put_side-requires c = (side-clear c.args.table.now c.args.glyphs (c.requires) Vertical c.direction_at-second.result c.direction_at-second.ensures.1 c.direction_at-second.ensures.0, omega (arith, c.put_side-end.ensures.1))
+put_side-requires c = (side-clear c.args.table.now c.args.glyphs c.requires Vertical c.direction_at-second.result c.direction_at-second.ensures.1 c.direction_at-second.ensures.0, omega (arith, c.put_side-end.ensures.1))
 
 pub returns : goal.returns
 returns c =

@@ -1,10 +1,8 @@
--- `table_ask::cell_of` meets its contract.
-use Rattle.table_ask.proofs.Asked.{no_cell_lem, row-past, column-past, cell-is}
-use Rattle.answers.specs.Says.{given}
-use Rattle.meaning.specs.Ask.{entry}
+use Rattle.std.proofs.Common.{sym, ap, ◌∙◌, arith}
 use Rattle.types.specs.declared.Entry.{Entry}
-use native.Mathlib.Omega.{arith}
-use mathlib.Core.Path.{sym, ap, ◌∙◌}
+use Rattle.meaning.specs.Ask.{entry}
+use Rattle.answers.specs.Says.{given}
+use Rattle.table_ask.proofs.Asked.{no_cell_lem, row-past, column-past, cell-is}
 use Rattle.table_ask.proofs.cell_of.Goals as goal
 
 pub returns-then-offset-eq0 : goal.returns-then-offset-eq0

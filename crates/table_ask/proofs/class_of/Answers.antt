@@ -1,14 +1,11 @@
--- `table_ask::class_of` meets its contract.
-use native.Mathlib.Omega.{arith}
-use Rattle.table_ask.proofs.Asked.{class-past, no-class, class-is}
-use Rattle.answers.specs.Says.{given}
+use Rattle.std.proofs.Common.{ℕ, sym, ap, ◌∙◌, arith}
 use Rattle.meaning.specs.Ask.{number}
-use Prim.Native.Nat.{ℕ}
-use mathlib.Core.Path.{sym, ap, ◌∙◌}
+use Rattle.answers.specs.Says.{given}
+use Rattle.table_ask.proofs.Asked.{class-past, no-class, class-is}
 use Rattle.table_ask.proofs.class_of.Goals as goal
 
-pub returns-then-count-glyph : goal.returns-then-count-glyph
-returns-then-count-glyph c = ap given (sym (class-past _ _ _ _ (omega arith)))
+pub returns-then-count-from : goal.returns-then-count-from
+returns-then-count-from c = ap given (sym (class-past _ _ _ _ (omega arith)))
 
 pub returns-then-offset-eq0 : goal.returns-then-offset-eq0
 returns-then-offset-eq0 c = ap given (sym (no-class _ _ _ _ c.machine_in-offset.ensures.0 _ c.if-offset-eq0.true))

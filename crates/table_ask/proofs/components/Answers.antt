@@ -1,8 +1,6 @@
--- `table_ask::components` meets its contract.
-use Rattle.table_ask.proofs.Laws.{Within, components-within}
+use Rattle.std.proofs.Common.{sym, subst, arith}
 use Rattle.table_ask.specs.Components.{stretch}
-use native.Mathlib.Omega.{arith}
-use mathlib.Core.Path.{sym, subst}
+use Rattle.table_ask.proofs.Laws.{Within, components-within}
 use Rattle.table_ask.proofs.components.Goals as goal
 
 pub slice_bounds-result-count : goal.slice_bounds-result-count

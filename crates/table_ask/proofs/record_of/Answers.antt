@@ -1,15 +1,17 @@
--- `table_ask::record_of` meets its contract.
-use Rattle.table_ask.proofs.Asked.{record-here}
-use Rattle.table_ask.proofs.Steps.{below_at}
+use Rattle.std.proofs.Common.{ap, arith}
+use Rattle.meaning.specs.Ask.{maybe, pair}
 use Rattle.answers.specs.Says.{given}
-use mathlib.Core.Path.{sym, ap, ◌∙◌}
+use Rattle.cluster.specs.Pairs.{sought_pair}
+use Rattle.table_ask.proofs.Asked.{record-here}
 use Rattle.table_ask.proofs.record_of.Goals as goal
 
-pub record_at-requires : goal.record_at-requires
-record_at-requires c = below_at c.in-At.is c.spot_in.ensures.1
+pub returns-in_err-at : goal.returns-in_err-at
+returns-in_err-at c =
+    let e = ap given (record-here c.args.table.now c.args.count c.args.direction c.args.glyph c.args.class _ c.in_err-at.ensures.0) in
+    grind arith
 
-pub returns-in-At : goal.returns-in-At
-returns-in-At c = c.record_at.ensures ∙ ap given (record-here _ _ _ _ _ _ (sym c.in-At.is ∙ c.spot_in.ensures.0))
-
-pub returns-in-Nowhere : goal.returns-in-Nowhere
-returns-in-Nowhere c = ap given (record-here _ _ _ _ _ _ (sym c.in-Nowhere.is ∙ c.spot_in.ensures.0))
+pub returns : goal.returns
+returns c =
+    let e = ap given (record-here c.args.table.now c.args.count c.args.direction c.args.glyph c.args.class _ c.in_ok-at.ensures.0) in
+    let p = c.record_of.ensures in
+    grind arith

@@ -1,5 +1,6 @@
 -- `verdict::type_fires` meets its contract.
 use mathlib.Core.Path.{◌∙◌}
+use native.Mathlib.Omega.{arith}
 use lib.ListN.{drop}
 use Rattle.verdict.proofs.Laws.{type-breaks, type-adds, type-substitutes, type-stretches, type-none}
 use Rattle.verdict.proofs.type_fires.Goals as goal
@@ -18,9 +19,8 @@ returns-in-2 c = let a = c.args in
 
 pub returns-in-3 : goal.returns-in-3
 returns-in-3 c = let a = c.args in
-    let m = c.in-3.in_default-own.rest in
-    c.stretches_at.ensures ∙ type-stretches (drop a.at a.table.now) a.growth.0 a.size a.ty c.in-3.if-ty-lt5-own.true m.0.0.1 m.0.1 m.1
+    c.stretches_at.ensures ∙ type-stretches (drop a.at a.table.now) a.growth.0 a.size a.ty (grind arith) (grind arith)
 
 pub returns-in_default : goal.returns-in_default
 returns-in_default c = let a = c.args in
-    type-none (drop a.at a.table.now) a.growth.0 a.size a.ty c.in_default.if-ty-lt5-own.false c.in_default.in_default-own.rest.0.1
+    type-none (drop a.at a.table.now) a.growth.0 a.size a.ty (grind arith)

@@ -2,12 +2,10 @@
 use Rattle.write_cluster.specs.Hash.{pairs_hash, cluster_hash}
 use Rattle.cluster.specs.Pairs.{pairs_at, cluster_at}
 use mathlib.Core.Path.{◌≡◌}
-use Prim.Native.Nat.{◌+◌, ◌*◌, ◌<◌, ◌^◌}
+use Prim.Native.Nat.{◌+◌, ◌-◌, ◌*◌, ◌<◌, min}
 use Rattle.write_cluster.proofs.cluster_hash.Given as goal
 
-abbrev pub invariant-loop-left : goal.invariant-loop-left
-invariant-loop-left l =
-    (l.first + 24 * l.left < 2 ^ 60) × (l.hash < 4294967296) × (pairs_hash l.hash (pairs_at l.table l.left l.first) ≡ cluster_hash (cluster_at l.table l.at))
-
-abbrev pub decreases-loop-left : goal.decreases-loop-left
-decreases-loop-left l = l.left
+abbrev pub invariant-loop-i : goal.invariant-loop-i
+invariant-loop-i l =
+    (l.hash < 4294967296)
+    × (pairs_hash l.hash (pairs_at l.table (min l.count 4 - l.i) (l.first + 24 * l.i)) ≡ cluster_hash (cluster_at l.table l.at))

@@ -1,11 +1,7 @@
 -- `write_cluster::earlier_pairs` meets its contract.
-use native.Mathlib.Omega.{arith}
 use Rattle.encoding.proofs.DictionaryLaws.{none_before}
 use Rattle.write_cluster.specs.Words.{pair_words}
 use Rattle.write_cluster.proofs.earlier_pairs.Goals as goal
 
-pub returns-then-front-eq0 : goal.returns-then-front-eq0
-returns-then-front-eq0 c = none_before pair_words (c.past_same-front.ensures.2.same c.if-front-eq0.true)
-
-pub returns : goal.returns
-returns c = c.past_same-front.ensures.2.tells (omega (arith, c.if-front-eq0.false)) c.earlier_pair.result c.earlier_pair.ensures
+pub returns-in-None : goal.returns-in-None
+returns-in-None c = none_before pair_words c.in-None.ensures

@@ -1,26 +1,24 @@
 -- `write_cluster::same_cluster` meets its contract.
-use Rattle.cluster.specs.Pairs.{pairs_at, cluster_at}
+use Rattle.cluster.specs.Pairs.{cluster_at}
+use Rattle.cluster.proofs.Laws.{cluster-length}
 use Rattle.encoding.specs.Tests.{Says}
-use Rattle.fields.specs.Field.{u32_at}
+use Rattle.encoding.proofs.DictionaryLaws.{says-iff, says_none}
+use Rattle.write_cluster.proofs.Laws.{cluster-pairs}
+use borrow.Author.Tests.{ne_eqb}
 use lib.ListN.{length}
 use native.Mathlib.Omega.{arith}
-use mathlib.Core.Path.{◌≡◌, ap, subst}
-use Prim.Native.Nat.{ℕ, ◌+◌}
-use Rattle.cluster.proofs.Laws.{cluster-length}
+use mathlib.Core.Bool.{Bool}
+use mathlib.Core.Path.{◌≡◌, ap, sym, ◌∙◌, subst}
 use Rattle.write_cluster.proofs.same_cluster.Goals as goal
 
 pub returns-then-count-u32_at : goal.returns-then-count-u32_at
-unfolding cluster_at
 returns-then-count-u32_at c =
     let a = c.args in
-    let t = a.one.now in
-    let u = a.other.now in
-    let m = c.u32_at-count in
-    let n = c.u32_at in
-    let r = c.same_pairs.result in
-    let e : m.result ≡ u32_at u a.second = omega (arith, c.if-count-u32_at.true, n.ensures.0) in
-    subst (λ (k : ℕ). Says r (pairs_at t k (a.first + 4) ≡ pairs_at u (u32_at u a.second) (a.second + 4))) m.ensures.0
-    (subst (λ (k : ℕ). Says r (pairs_at t m.result (a.first + 4) ≡ pairs_at u k (a.second + 4))) e c.same_pairs.ensures)
+    let n = c.u32_at-count in
+    let p = cluster-pairs a.one.now a.first n.result n.ensures.0 in
+    let q = cluster-pairs a.other.now a.second n.result (c.if-count-u32_at.true ∙ c.u32_at.ensures.0) in
+    says-iff c.is_none.result (λ e. sym p ∙ e ∙ q) (λ e. p ∙ e ∙ sym q)
+    (says_none c.first_apart.result c.is_none.result c.is_none.ensures c.first_apart.ensures (λ i w. w.1.differ))
 
 pub returns-else-count-u32_at : goal.returns-else-count-u32_at
 returns-else-count-u32_at c =
@@ -29,4 +27,5 @@ returns-else-count-u32_at c =
     let u = a.other.now in
     let m = c.u32_at-count in
     let n = c.u32_at in
-    λ e. c.if-count-u32_at.false (omega (arith, m.ensures.0, n.ensures.0, cluster-length t a.first, cluster-length u a.second, ap length e))
+    subst (λ (b : Bool). Says b (cluster_at t a.first ≡ cluster_at u a.second)) (sym (ne_eqb _ _ c.if-count-u32_at.false))
+    (λ e. c.if-count-u32_at.false (omega (arith, m.ensures.0, n.ensures.0, cluster-length t a.first, cluster-length u a.second, ap length e)))

@@ -3,6 +3,7 @@ use Prim.Native.Nat.{ℕ}
 use mathlib.Core.Path.{ap, ap₂, sym, ◌∙◌}
 use mathlib.Core.List.{List, ◌++◌}
 use native.Mathlib.Omega.{arith}
+use borrow.Author.Rules.{rules}
 use lib.ListN.{length}
 use lib.Seq.{sets}
 use Rattle.fields.specs.Stores.{put_two}
@@ -14,27 +15,21 @@ use Rattle.write_machine.specs.Parts.{machine_bytes}
 use Rattle.write_direction.proofs.Laws.{side-parts, side-length, pool-ready}
 use Rattle.write_direction.proofs.put_side.Goals as goal
 
-pub put_machine-machine_end-requires : goal.put_machine-machine_end-requires
-put_machine-machine_end-requires c =
+pub put_machine-machine_end-requires-clause-sound : goal.put_machine-machine_end-requires-clause-sound
+put_machine-machine_end-requires-clause-sound c =
     let a = c.args in
     let m = c.machine_place-machine.ensures in
-    record { offset_bound = (m.1, (c.requires.0.few, ap (machine_part a.table.now a.glyphs) m.0 ∙ machine-clear a.table.now a.at a.glyphs c.requires.0.clear)); to_bound = omega (arith, c.requires.1) }
-
-pub source_at-widths-requires : goal.source_at-widths-requires
-source_at-widths-requires c = c.requires.0.near
+    (m.1, (c.requires.0.few, ap (machine_part a.table.now a.glyphs) m.0 ∙ machine-clear a.table.now a.at a.glyphs c.requires.0.clear))
 
 pub put_pool-cluster_end-requires : goal.put_pool-cluster_end-requires
 put_pool-cluster_end-requires c =
     let a = c.args in
-    (pool-ready a.table.now a.glyphs a.at c.requires.0 (λ i. omega (arith, c.shared_slice_known-1.given i)) Clusters c.source_at-widths.result c.source_at-widths.ensures, omega (arith, c.requires.1, c.put_machine-machine_end.ensures.1))
-
-pub source_at-actions-requires : goal.source_at-actions-requires
-source_at-actions-requires c = c.requires.0.near
+    (pool-ready a.table.now a.glyphs a.at c.requires.0 (λ i. search rules) Clusters c.source_at-widths.result c.source_at-widths.ensures, omega arith)
 
 pub put_pool-requires : goal.put_pool-requires
 put_pool-requires c =
     let a = c.args in
-    (pool-ready a.table.now a.glyphs a.at c.requires.0 (λ i. omega (arith, c.shared_slice_known-1.given i)) Lists c.source_at-actions.result c.source_at-actions.ensures, omega (arith, c.requires.1, c.put_machine-machine_end.ensures.1, c.put_pool-cluster_end.ensures.near))
+    (pool-ready a.table.now a.glyphs a.at c.requires.0 (λ i. search rules) Lists c.source_at-actions.result c.source_at-actions.ensures, omega (arith, c.put_pool-cluster_end.ensures.near))
 
 pub returns : goal.returns
 returns c =

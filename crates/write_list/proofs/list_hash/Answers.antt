@@ -1,25 +1,25 @@
-use mathlib.Core.Path.{sym, ◌∙◌}
+use Rattle.write_list.proofs.Laws.{hash-more, hash-none, hash-all}
 use native.Mathlib.Omega.{arith}
-use Rattle.write_list.proofs.Laws.{near, hash-more, hash-none, hash-all}
+use mathlib.Core.Path.{refl, sym, ◌∙◌}
+use Prim.Native.Nat.{◌+◌, ◌-◌}
 use Rattle.write_list.proofs.list_hash.Goals as goal
 
-pub loop-left-init : goal.loop-left-init
-loop-left-init c =
-    let a = c.args in
+pub loop-init : goal.loop-init
+loop-init c =
     let n = c.u32_at-count in
-    (omega arith, omega (arith, n.ensures.1), hash-all a.table.now a.place n.result n.ensures.0)
+    (omega arith, omega (arith, n.ensures.1), hash-all c.args.table.now c.args.place n.result _ _ n.ensures.0 (omega arith) refl)
 
-pub loop-left-preserved : goal.loop-left-preserved
-loop-left-preserved c =
-    let l = c.loop-left in
-    let t = c.args.table.now in
-    let n = c.u32_at-at in (
-      near t l.at n.result c.requires l.invariant.0 n.ensures.0 n.ensures.1,
+pub loop-preserved : goal.loop-preserved
+loop-preserved c =
+    let l = c.loop in
+    let p = c.next_place-at in
+    let n = c.u32_at-count.result in (
+      p.ensures.1,
       omega arith,
-      hash-more t l.left l.at l.hash c.action_hash.result n.result (omega arith) c.action_hash.ensures.0 n.ensures.0 ∙ l.invariant.2,
+      hash-more c.args.table.now (n - l.counter) (n - (l.counter + 1)) l.at p.result l.hash c.action_hash.result (omega arith) p.ensures.0 c.action_hash.ensures.0 ∙ l.invariant.2,
     )
 
 pub returns : goal.returns
 returns c =
-    let l = c.loop-left in
-    (sym (hash-none c.args.table.now l.left l.at l.hash (omega arith)) ∙ l.invariant.2, omega arith)
+    let l = c.loop in
+    (sym (hash-none c.args.table.now _ l.at l.hash (omega arith)) ∙ l.invariant.2, omega arith)

@@ -1,14 +1,6 @@
 -- `write_list::same_bytes` meets its contract.
-use Prim.Native.Nat.{◌+◌, ◌<◌, ◌^◌}
-use mathlib.Core.Path.{◌≡◌}
-use Rattle.actions.specs.Actions.{bytes_at}
+use Rattle.write_list.proofs.Laws.{SameAfter}
 use Rattle.write_list.proofs.same_bytes.Given as goal
 
-abbrev pub invariant-loop-left : goal.invariant-loop-left
-invariant-loop-left l =
-    (l.a + l.left < 2 ^ 62) × (l.b + l.left < 2 ^ 62)
-    × (bytes_at l.one l.a l.left ≡ bytes_at l.other l.b l.left → bytes_at l.one l.first l.count ≡ bytes_at l.other l.second l.count)
-    × (bytes_at l.one l.first l.count ≡ bytes_at l.other l.second l.count → bytes_at l.one l.a l.left ≡ bytes_at l.other l.b l.left)
-
-abbrev pub decreases-loop-left : goal.decreases-loop-left
-decreases-loop-left l = l.left
+abbrev pub invariant-loop-i : goal.invariant-loop-i
+invariant-loop-i l = SameAfter l.one l.other l.first l.second l.count l.i

@@ -1,16 +1,19 @@
 -- `write_list::same_content` meets its contract.
-use Rattle.write_list.proofs.Laws.{same-5, same-plain}
-use lib.ListN.{length}
-use mathlib.Core.Path.{ap, sym, ◌∙◌}
+use Rattle.actions.specs.Actions.{content_at}
+use Rattle.actions.proofs.Copies.{bytes-length}
+use Rattle.encoding.specs.Tests.{Says}
+use Rattle.write_list.proofs.Laws.{sizes-kept}
+use borrow.Author.Tests.{ne_eqb}
+use mathlib.Core.Bool.{Bool}
+use mathlib.Core.Path.{◌≡◌, sym, ◌∙◌, subst}
 use Rattle.write_list.proofs.same_content.Goals as goal
 
-pub returns-then-ty-eq5 : goal.returns-then-ty-eq5
-returns-then-ty-eq5 c = same-5 c.args.one.now c.args.other.now c.same_bytes.result c.args.first c.args.second c.args.ty c.if-ty-eq5.true c.same_bytes.ensures
-
-pub returns-then-size-content_size : goal.returns-then-size-content_size
-returns-then-size-content_size c =
-    same-plain c.args.one.now c.args.other.now c.same_bytes-then-size-content_size.result c.args.first c.args.second c.args.ty c.content_size-size.result c.if-ty-eq5.false
-    c.content_size-size.ensures.0 (c.if-size-content_size.true ∙ c.content_size.ensures.0) c.same_bytes-then-size-content_size.ensures
-
-pub returns : goal.returns
-returns c = λ e. c.if-size-content_size.false (c.content_size-size.ensures.0 ∙ ap length e ∙ sym c.content_size.ensures.0)
+pub returns-else-a-b : goal.returns-else-a-b
+returns-else-a-b c =
+    let a = c.args in
+    let x = c.kept_data-a in
+    let y = c.kept_data-b in
+    let m = bytes-length a.one.now x.result.at x.result.size in
+    let n = bytes-length a.other.now y.result.at y.result.size in
+    subst (λ (b : Bool). Says b (content_at a.one.now a.first a.ty ≡ content_at a.other.now a.second a.ty)) (sym (ne_eqb _ _ c.if-a-b.false))
+    (λ e. c.if-a-b.false (sym m ∙ sizes-kept _ _ _ x.ensures.0 y.ensures.0 e ∙ n))

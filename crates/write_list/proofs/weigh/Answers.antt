@@ -1,27 +1,20 @@
-use mathlib.Core.Path.{refl, sym, ◌∙◌}
-use native.Mathlib.Omega.{arith}
 use Rattle.write_list.proofs.Laws.{weight-more, weight-none}
+use native.Mathlib.Omega.{arith}
+use mathlib.Core.Path.{sym, ◌∙◌}
+use Prim.Native.Nat.{◌+◌, ◌-◌}
 use Rattle.write_list.proofs.weigh.Goals as goal
 
-pub loop-left-init : goal.loop-left-init
-loop-left-init c = (refl, omega arith, omega arith, refl)
-
-pub overflow_add-sum : goal.overflow_add-sum
-overflow_add-sum c = omega (arith, c.loop-left.invariant.1, c.u8_at-sum.ensures.1)
-
-pub overflow_add-total : goal.overflow_add-total
-overflow_add-total c = omega (arith, c.loop-left.invariant.1, c.loop-left.invariant.2, c.u8_at-sum.ensures.1)
-
-pub loop-left-preserved : goal.loop-left-preserved
-loop-left-preserved c =
-    let l = c.loop-left in (
-      omega (arith, l.invariant.0),
-      omega (arith, l.invariant.1, c.u8_at-sum.ensures.1),
-      omega (arith, l.invariant.1, l.invariant.2, c.u8_at-sum.ensures.1, c.requires.1),
-      weight-more c.args.table.now l.left l.at l.sum l.total c.u8_at-sum.result (omega arith) c.u8_at-sum.ensures.0 ∙ l.invariant.3,
+pub loop-i-preserved : goal.loop-i-preserved
+loop-i-preserved c =
+    let a = c.args in
+    let l = c.loop-i in
+    let x = c.u8_at-sum in (
+      omega (arith, x.ensures.1),
+      omega (arith, x.ensures.1, c.requires.1),
+      weight-more a.table.now (a.count - l.i) (a.count - (l.i + 1)) (a.first + l.i) (a.first + (l.i + 1)) l.sum l.total x.result (omega arith) (omega arith) x.ensures.0 ∙ l.invariant.2,
     )
 
 pub returns : goal.returns
 returns c =
-    let l = c.loop-left in
-    (sym (weight-none c.args.table.now l.left l.at l.sum l.total (omega arith)) ∙ l.invariant.3, omega (arith, l.invariant.2, c.requires.1))
+    let l = c.loop-i in
+    (sym (weight-none c.args.table.now _ (c.args.first + l.i) l.sum l.total (omega arith)) ∙ l.invariant.2, omega (arith, c.requires.1))

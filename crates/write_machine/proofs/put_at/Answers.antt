@@ -8,28 +8,28 @@ use Rattle.fields.specs.Field.{be32}
 use Rattle.fields.specs.Stores.{put_two}
 use Rattle.machine.specs.Cells.{class_count, class_at}
 use Rattle.machine.specs.Rows.{row_count}
-use Rattle.machine.proofs.Laws.{rows-most, classes-most, classes-least}
 use Rattle.encoding.specs.Upto.{upto}
 use Rattle.encoding.specs.Sections.{run_section}
 use Rattle.write_entries.specs.Entries.{entry_bytes}
-use Rattle.write_machine.proofs.Laws.{few-cells, some-parts, some-length}
+use Rattle.write_machine.proofs.Laws.{few-of, some-parts, some-length}
 use Rattle.write_machine.proofs.put_at.Goals as goal
 
 pub put_sizes-requires : goal.put_sizes-requires
-put_sizes-requires c = (omega (arith, c.requires.to_bound), (omega (arith, c.row_count-rows.ensures, rows-most c.args.table.now c.args.glyphs c.args.here c.requires.here_bound.1.1), omega (arith, c.class_count-classes.ensures.1)))
+put_sizes-requires c =
+    let a = c.args in
+    let few = few-of a.table.now a.glyphs a.here _ _ c.requires.sound.1.1 c.row_count-rows.ensures c.class_count-classes.ensures.0 in
+    grind arith
 
 pub overflow_mul-rows : goal.overflow_mul-rows
 overflow_mul-rows c =
     let a = c.args in
-    let e : c.row_count-rows.result * c.class_count-classes.result ≡ row_count a.table.now a.here * class_count a.table.now a.here = ap₂ (λ (x y : ℕ). x * y) c.row_count-rows.ensures c.class_count-classes.ensures.0 in
-    omega (arith, e, few-cells (row_count a.table.now a.here) (class_count a.table.now a.here) (rows-most a.table.now a.glyphs a.here c.requires.here_bound.1.1) (classes-most a.table.now a.glyphs a.here c.requires.here_bound.1.1))
+    omega (arith, few-of a.table.now a.glyphs a.here _ _ c.requires.sound.1.1 c.row_count-rows.ensures c.class_count-classes.ensures.0)
 
 pub put_entry_sections-requires : goal.put_entry_sections-requires
 put_entry_sections-requires c =
     let a = c.args in
-    let e : c.row_count-rows.result * c.class_count-classes.result ≡ row_count a.table.now a.here * class_count a.table.now a.here = ap₂ (λ (x y : ℕ). x * y) c.row_count-rows.ensures c.class_count-classes.ensures.0 in
-    let f = few-cells (row_count a.table.now a.here) (class_count a.table.now a.here) (rows-most a.table.now a.glyphs a.here c.requires.here_bound.1.1) (classes-most a.table.now a.glyphs a.here c.requires.here_bound.1.1) in
-    (c.requires.here_bound.0, (omega (arith, e, f), (omega (arith, c.requires.to_bound, c.put_class_runs-end.ensures.1), omega (arith, classes-least a.table.now a.glyphs a.here c.requires.here_bound.1.1))))
+    let few = few-of a.table.now a.glyphs a.here _ _ c.requires.sound.1.1 c.row_count-rows.ensures c.class_count-classes.ensures.0 in
+    grind arith
 
 pub returns : goal.returns
 returns c =
@@ -42,14 +42,14 @@ returns c =
     let xs = upto (class_at t a.here) a.glyphs in
     let k = c.row_count-rows.result * c.class_count-classes.result in
     let e : k ≡ row_count t a.here * class_count t a.here = ap₂ (λ (x y : ℕ). x * y) c.row_count-rows.ensures c.class_count-classes.ensures.0 in
-    let f = few-cells (row_count t a.here) (class_count t a.here) (rows-most t a.glyphs a.here c.requires.here_bound.1.1) (classes-most t a.glyphs a.here c.requires.here_bound.1.1) in
+    let few = few-of t a.glyphs a.here _ _ c.requires.sound.1.1 c.row_count-rows.ensures c.class_count-classes.ensures.0 in
     let sizes = be32 1 ++ be32 c.row_count-rows.result ++ be32 c.class_count-classes.result in
     let rs = run_section 1 xs in
     let es = entry_bytes t a.here k in
     let r = c.put_class_runs-end.ensures in
     let w = c.put_entry_sections.ensures in (
       omega (arith, some-length t a.glyphs a.here xs k refl e, r.0, w.0),
-      omega (arith, r.1, w.1, e, f),
+      omega arith,
       put_two sizes (rs ++ es) l0 l1 l3 a.to (a.to + 12) refl c.put_sizes.ensures
           (put_two rs es l1 l2 l3 (a.to + 12) c.put_class_runs-end.result r.0 r.2 w.2)
           ∙ ap₂ (λ (x y : ℕ). sets l0 a.to ((be32 1 ++ be32 x ++ be32 y) ++ (rs ++ es))) c.row_count-rows.ensures c.class_count-classes.ensures.0

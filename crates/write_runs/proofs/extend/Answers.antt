@@ -2,27 +2,17 @@
 use Rattle.write_runs.proofs.Stretch.{extended-new, extended-same}
 use Rattle.encoding.specs.Tests.{Says}
 use lib.ListN.{get_or}
-use native.Mathlib.Omega.{arith}
 use mathlib.Core.Bool.{Bool}
 use mathlib.Core.Path.{◌≡◌, subst}
 use Prim.Native.Nat.{◌-◌, ◌<◌}
 use Rattle.write_runs.proofs.extend.Goals as goal
 
--- src/lib.rt:33:14
-pub overflow_sub-ends : goal.overflow_sub-ends
-overflow_sub-ends c =
-    let a = c.args in
-    let w = subst (λ (b : Bool). Says b ((0 < a.m) × (get_or a.nums.now (a.m - 1) 0 ≡ a.number))) c.if-goes_on.true c.goes_on.ensures in
-    omega (arith, w.0)
-
--- src/lib.rt:34:9
 pub returns-then-goes_on : goal.returns-then-goes_on
 returns-then-goes_on c = λ g r h.
     let a = c.args in
     let w = subst (λ (b : Bool). Says b ((0 < a.m) × (get_or a.nums.now (a.m - 1) 0 ≡ a.number))) c.if-goes_on.true c.goes_on.ensures in
     extended-same a.ends.now a.nums.now a.m g a.end a.number c.requires.0 c.requires.1 r h w.0 w.1
 
--- src/lib.rt:27:1
 pub returns : goal.returns
 returns c = λ g r h.
     let a = c.args in

@@ -27,25 +27,13 @@ loop-i-init c =
       ap (λ (k : ℕ). sets c.args.out.now k (many run_less_code (runs ℕ_discrete 0 0 (spread 0 c.args.ends.now c.args.nums.now)))) z,
     )
 
-pub overflow_sub-past : goal.overflow_sub-past
-overflow_sub-past c = omega (arith, c.run_end-end.ensures.0)
-
-pub offset_bounds-ends-end : goal.offset_bounds-ends-end
-offset_bounds-ends-end c = omega (arith, c.run_end-end.ensures.1, c.loop-i.invariant.3)
-
-pub bounds-ends-end : goal.bounds-ends-end
-bounds-ends-end c = omega (arith, c.run_end-end.ensures.0, c.run_end-end.ensures.1, c.requires.0.each)
-
-pub loop-i-smaller-then-value-eq0 : goal.loop-i-smaller-then-value-eq0
-loop-i-smaller-then-value-eq0 c = omega (arith, c.run_end-end.ensures.0, c.run_end-end.ensures.1)
-
-pub loop-i-preserved-then-value-eq0 : goal.loop-i-preserved-then-value-eq0
-loop-i-preserved-then-value-eq0 c =
+pub loop-i-preserved : goal.loop-i-preserved
+loop-i-preserved c =
     let l = c.loop-i in
     let a = c.args in
     let t = c.run_end-end.ensures in
     let r = c.run_end-end.result in
-    let e = runs-skipped 0 a.ends.now a.nums.now l.i r l.first l.invariant.4.0 c.requires.0.each t l.invariant.4.1 c.if-value-eq0.true in
+    let e = runs-skipped 0 a.ends.now a.nums.now l.i r l.first l.invariant.4.0 c.requires.0.each t l.invariant.4.1 c.if-value-ne0.false in
     let w = run_step 0 a.ends.now a.nums.now l.i r l.first l.invariant.4.0 c.requires.0.each t l.invariant.4.1 in (
       t.1,
       l.invariant.1,
@@ -56,33 +44,15 @@ loop-i-preserved-then-value-eq0 c =
       ap (λ (rs : List (Run ℕ)). sets l.out (a.to + 6 * l.count) (many run_less_code rs)) (sym e) ∙ l.invariant.6,
     )
 
-pub overflow_mul-count : goal.overflow_mul-count
-overflow_mul-count c = omega (arith, c.loop-i.invariant.2, c.loop-i.invariant.0, c.loop-i.invariant.3)
-
-pub overflow_add-to : goal.overflow_add-to
-overflow_add-to c = omega (arith, c.loop-i.invariant.2, c.loop-i.invariant.0, c.loop-i.invariant.3, c.requires.1)
-
-pub overflow_sub-past-else-value-eq0 : goal.overflow_sub-past-else-value-eq0
-overflow_sub-past-else-value-eq0 c =
+pub overflow_sub-past-then-value-ne0 : goal.overflow_sub-past-then-value-ne0
+overflow_sub-past-then-value-ne0 c =
     let l = c.loop-i in
     let a = c.args in
     let w = run_step 0 a.ends.now a.nums.now l.i c.run_end-end.result l.first l.invariant.4.0 c.requires.0.each c.run_end-end.ensures l.invariant.4.1 in
     omega (arith, w.0)
 
-pub overflow_sub-value : goal.overflow_sub-value
-overflow_sub-value c = omega (arith, c.if-value-eq0.false)
-
-pub put_run-requires : goal.put_run-requires
-put_run-requires c = omega (arith, c.loop-i.invariant.2, c.loop-i.invariant.0, c.loop-i.invariant.3, c.requires.1)
-
-pub overflow_add-count : goal.overflow_add-count
-overflow_add-count c = omega (arith, c.loop-i.invariant.2, c.loop-i.invariant.0, c.loop-i.invariant.3)
-
-pub loop-i-smaller : goal.loop-i-smaller
-loop-i-smaller c = omega (arith, c.run_end-end.ensures.0, c.run_end-end.ensures.1)
-
-pub loop-i-preserved : goal.loop-i-preserved
-loop-i-preserved c =
+pub loop-i-preserved-then-value-ne0 : goal.loop-i-preserved-then-value-ne0
+loop-i-preserved-then-value-ne0 c =
     let l = c.loop-i in
     let a = c.args in
     let es = a.ends.now in
@@ -90,7 +60,7 @@ loop-i-preserved c =
     let t = c.run_end-end.ensures in
     let r = c.run_end-end.result in
     let p : ℕ = get_or es (r - 1) 0 in
-    let e = runs_taken 0 es xs l.i r l.first l.invariant.4.0 c.requires.0.each t l.invariant.4.1 c.if-value-eq0.false in
+    let e = runs_taken 0 es xs l.i r l.first l.invariant.4.0 c.requires.0.each t l.invariant.4.1 c.if-value-ne0.true in
     let w = run_step 0 es xs l.i r l.first l.invariant.4.0 c.requires.0.each t l.invariant.4.1 in
     let j : a.to + 6 * (l.count + 1) ≡ a.to + 6 * l.count + 6 = omega arith in
     let run : Run ℕ = record { first = l.first; last = p - 1; value = get_or xs l.i 0 } in (

@@ -7,6 +7,3 @@ use Rattle.write_runs.proofs.run_end.Given as goal
 
 abbrev pub invariant-loop-end : goal.invariant-loop-end
 invariant-loop-end l = (l.first < l.end) × (l.end ≤ length l.xs) × (drop l.first l.xs ≡ replicate (l.end - l.first) l.value ++ drop l.end l.xs)
-
-abbrev pub decreases-loop-end : goal.decreases-loop-end
-decreases-loop-end l = length l.xs - l.end
