@@ -1,7 +1,11 @@
 -- Laws of the fields and of the chain of faults, for proofs.
 use Rattle.std.specs.Prelude.{Result, Ok, Err, OnOk}
-use Rattle.std.specs.Prelude.{ℕ, ◌+◌, ◌-◌, ◌*◌, ◌^◌, ◌≤◌, ◌<◌, List, Bool, true, false, ◌≡◌, refl, length, get_or, leb}
-use Rattle.std.proofs.Common.{ap, ap₂, sym, ◌∙◌, arith, leb-true, leb-false, le-leb}
+use Rattle.std.specs.Prelude.{ℕ, ◌+◌, ◌/◌, ◌%◌, ◌^◌, ◌≤◌, ◌<◌, List, ◌++◌, Bool, true, false, ◌≡◌, refl, length, leb, take, drop}
+use Rattle.std.specs.Int.{to_be_bytes, w32}
+use Rattle.std.proofs.lemmas.List.{append_assoc}
+use Rattle.std.proofs.lemmas.List.Edits.{sets, sets-eq}
+use Rattle.std.proofs.Math.Seq.{drop-drop}
+use Rattle.std.proofs.Common.{ap, ap₂, sym, ◌∙◌, arith, leb-true, le-leb}
 use Rattle.std.proofs.Math.ListN.{get_or-eq_default}
 use Rattle.std.proofs.lemmas.Bool.{lt-leb}
 use Rattle.fields.specs.declared.Refusal.{Refusal}
@@ -9,7 +13,7 @@ use Rattle.fields.specs.declared.Refusal.TheVariants.{Outside}
 use Rattle.fields.specs.declared.Fault.{Fault}
 use Rattle.fields.specs.Faults.{FirstFault}
 use Rattle.fields.specs.Faults.{Clear, Bad}
-use Rattle.fields.specs.Field.{u16_at, u32_at, Bytes}
+use Rattle.fields.specs.Field.{u16_at, u32_at, be32, Bytes}
 use Rattle.fields.specs.Faults.{◌then◌, earlier, rule, inside}
 
 -- ---- numbers in bytes
@@ -33,6 +37,19 @@ u16_at-fits t at b = omega (arith, b at, b (at + 1))
 pub u32_at-fits : (t : List ℕ) (at : ℕ) → Bytes t → u32_at t at < 2 ^ 32
 unfolding u32_at
 u32_at-fits t at b = omega (arith, u16_at-fits t at b, u16_at-fits t (at + 2) b)
+
+-- the bytes of a number, the highest first, are those of its halves
+pub halves_bytes : (n : ℕ) → n < 2 ^ 32 → to_be_bytes w32 n ≡ be32 n
+halves_bytes n h =
+    let a : n / 65536 / 256 ≡ n / 16777216 = omega arith in
+    let b : n % 65536 / 256 % 256 ≡ n / 256 % 256 = omega arith in
+    let c : n % 65536 % 256 ≡ n % 256 = omega arith in
+    simp (a, b, c)
+
+-- four bytes that take the place of those from an index on
+pub word_placed : (l : List ℕ) (at n : ℕ) → at + 4 ≤ length l → take at l ++ (be32 n ++ drop 4 (drop at l)) ≡ sets l at (be32 n)
+word_placed l at n h =
+    ap (λ (r : List ℕ). take at l ++ (be32 n ++ r)) (drop-drop 4 at l) ∙ sym (append_assoc (take at l) (be32 n) (drop (at + 4) l)) ∙ sym (sets-eq (be32 n) l at h)
 
 -- ---- chains
 

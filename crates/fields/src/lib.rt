@@ -149,8 +149,7 @@ pub fn put_u16(out: &mut [u8], at: usize, number: u16)
         put_u8(out, at, bytes[0]);
         return;
     }
-    put_u8(out, at, bytes[0]);
-    put_u8(out, at + 1, bytes[1]);
+    out[at..at + 2].copy_from_slice(&bytes);
 }
 
 // Stores a 32-bit number at a position near the end or past it.
@@ -172,8 +171,7 @@ pub fn put_u32(out: &mut [u8], at: usize, number: u32)
         put_u32_near_end(out, at, number);
         return;
     }
-    put_u16(out, at, (number / 65536) as u16);
-    put_u16(out, at + 2, (number % 65536) as u16);
+    out[at..at + 4].copy_from_slice(&number.to_be_bytes());
 }
 
 // No fault where the test holds, else the refusal at the field that was judged.
