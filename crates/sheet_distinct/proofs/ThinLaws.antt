@@ -1,5 +1,5 @@
 -- Numbers set aside: as many are left to compare as share a slot with an earlier one.
-use Prim.Native.Nat.{ℕ, zero, suc, ◌+◌, ◌^◌, ◌≤◌, ◌<◌}
+use Prim.Native.Nat.{ℕ, zero, suc, ◌+◌, ◌≤◌, ◌<◌}
 use mathlib.Core.Path.{◌≡◌, refl, sym, ap, ◌∙◌, subst}
 use mathlib.Core.Bool.{Bool, true, false}
 use mathlib.Core.Logic.{◌⊎◌, inl, inr, ⊎_elim}
@@ -7,13 +7,13 @@ use mathlib.Core.List.{List, [], ◌∷◌, ◌++◌}
 use native.Mathlib.Decide.{ℕ_discrete}
 use native.Mathlib.Omega.{arith}
 use native.Mathlib.Numerals.{add-one}
-use lib.ListN.{length, get_or, take, set, replicate, length-replicate}
+use lib.ListN.{length, get_or, take, set, length-set}
 use lib.Seq.{get_or-set_same, get_or-set_other}
 use Rattle.encoding.specs.Codes.{All}
 use Rattle.encoding.specs.Tests.{Says}
 use Rattle.encoding.proofs.ListLaws.{all_append, all_map}
 use Rattle.sheet_distinct.specs.Order.{Apart, up_from}
-use Rattle.sheet_distinct.specs.Slots.{Unused, DistinctRooms, Thinned}
+use Rattle.sheet_distinct.specs.Slots.{Unused, Thinned, Under, Thinner}
 use Rattle.sheet_distinct.proofs.ScanLaws.{apart-at, apart_from, up-length, up_at}
 
 -- ---- one more element at the end
@@ -21,6 +21,17 @@ use Rattle.sheet_distinct.proofs.ScanLaws.{apart-at, apart_from, up-length, up_a
 all-cut : (P : ℕ → Type 0) (c : List ℕ) (k : ℕ) → All P (c ++ k ∷ []) → All P c × P k
 all-cut P [] k h = (tt, h.0)
 all-cut P (x ∷ c) k h = let r = all-cut P c k h.1 in ((h.0, r.0), r.1)
+
+under-all : (c : List ℕ) (n : ℕ) → n ≤ 65535 → All (λ (x : ℕ). x < n) c → Under 65535 c
+under-all [] n h a zero = omega arith
+under-all [] n h a (suc i) = omega arith
+under-all (x ∷ c) n h a zero = omega (arith, a.0)
+under-all (x ∷ c) n h a (suc i) = under-all c n h a.1 i
+
+take-two : (numbers : List ℕ) (y k : ℕ) → 2 ≤ length numbers → take 2 (set (set numbers 0 y) 1 k) ≡ y ∷ k ∷ []
+take-two [] y k m = absurd (omega arith)
+take-two (a ∷ []) y k m = absurd (omega arith)
+take-two (a ∷ b ∷ l) y k m = refl
 
 module _ (f : ℕ → List ℕ) where
   apart_more : (c : List ℕ) (k : ℕ) → Apart f c → All (λ (z : ℕ). f z ≡ f k → ⊥) c → Apart f (c ++ k ∷ [])
@@ -171,13 +182,15 @@ module _ (f : ℕ → List ℕ) where
             record {
               few = omega (arith, early);
               to = λ a. absurd (apart_below n a y k early h e);
-              back = λ a. absurd ((subst (λ (l : List ℕ). Apart f l) (two numbers m) a).0.0 e);
+              back = λ a. absurd ((subst (λ (l : List ℕ). Apart f l) (take-two numbers y k m) a).0.0 e);
             }
-          where
-            two : (numbers : List ℕ) → 2 ≤ length numbers → take 2 (set (set numbers 0 y) 1 k) ≡ y ∷ k ∷ []
-            two [] m = absurd (omega arith)
-            two (a ∷ []) m = absurd (omega arith)
-            two (a ∷ b ∷ l) m = refl
+
+        pub under-two : (n : ℕ) (numbers : List ℕ) → k < n → 2 ≤ length numbers → n ≤ 65535 → Under 65535 (take 2 (set (set numbers 0 y) 1 k))
+        under-two n numbers h m b =
+            subst (λ (l : List ℕ). Under 65535 l) (sym (take-two numbers y k m)) (under-all (y ∷ k ∷ []) n b (omega (arith, early), (omega arith, tt)))
+
+    pub kept-under : (n r : ℕ) (firsts numbers : List ℕ) → n ≤ 65535 → Kept n firsts (take r numbers) → Under 65535 (take r numbers)
+    kept-under n r firsts numbers h t = under-all (take r numbers) n h t.aside
 
     -- all are judged
     pub thinned : (n r : ℕ) (firsts numbers : List ℕ) → r ≤ n → Kept n firsts (take r numbers) → Thinned f n r numbers
@@ -191,3 +204,140 @@ apart-one f n h = below_apart f n (λ x y p q e. omega arith)
 pub says-thinned : (f : ℕ → List ℕ) (n r : ℕ) (numbers : List ℕ) (b : Bool) → Thinned f n r numbers → Says b (Apart f (take r numbers)) → Says b (Apart f (up_from 0 n))
 says-thinned f n r numbers true t h = t.back h
 says-thinned f n r numbers false t h = λ a. h (t.to a)
+
+-- ---- once more, of some numbers alone: by their places
+
+module _ (f : ℕ → List ℕ) (xs : List ℕ) (slot : ℕ → ℕ) where
+  abbrev g : ℕ → List ℕ
+  g i = f (get_or xs i 0)
+
+  abbrev place-slot : ℕ → ℕ
+  place-slot i = slot (get_or xs i 0)
+
+  abbrev picked : List ℕ → List ℕ
+  picked [] = []
+  picked (i ∷ c) = get_or xs i 0 ∷ picked c
+
+  -- the numbers at the places below k: `firsts` tells, plus one, the number that stands at the first place of each slot
+  pub record Again (k : ℕ) (firsts c : List ℕ) : Type 0 where
+    pub places : List ℕ
+    pub aside : List ℕ
+    pub size : length places ≡ length firsts
+    pub kept : Kept g place-slot k places aside
+    pub none : (i : ℕ) → get_or firsts i 0 ≡ 0 → get_or places i 0 ≡ 0
+    pub some : (i y : ℕ) → get_or firsts i 0 ≡ suc y → (p : ℕ) × (get_or places i 0 ≡ suc p) × (get_or xs p 0 ≡ y)
+    pub left : c ≡ picked aside
+
+  pub again-same : (k : ℕ) (firsts firsts' numbers numbers' : List ℕ) (left left' : ℕ) → firsts' ≡ firsts → numbers' ≡ numbers → left' ≡ left
+      → Again k firsts (take left numbers) → Again k firsts' (take left' numbers')
+  again-same k firsts firsts' numbers numbers' left left' e f g h = rw (e, f, g) h
+
+  pub again-none : (firsts : List ℕ) → Unused firsts → Again 0 firsts []
+  again-none firsts u =
+      record {
+        places = firsts;
+        aside = [];
+        size = refl;
+        kept = kept-none g place-slot firsts u;
+        none = λ i h. h;
+        some = λ i y h. absurd (omega (arith, u i, h));
+        left = refl;
+      }
+
+  same-slot : ((x y : ℕ) → f x ≡ f y → slot x ≡ slot y) → (x y : ℕ) → g x ≡ g y → place-slot x ≡ place-slot y
+  same-slot same x y h = same (get_or xs x 0) (get_or xs y 0) h
+
+  module _ (same : (x y : ℕ) → f x ≡ f y → slot x ≡ slot y) (k x : ℕ) (firsts c : List ℕ) (t : Again k firsts c) (ex : x ≡ get_or xs k 0) where
+    pub again-first : get_or firsts (slot x) 0 ≡ 0 → slot x < length firsts → Again (k + 1) (set firsts (slot x) (x + 1)) c
+    again-first z l =
+        let e : slot x ≡ place-slot k = ap slot ex in
+        record {
+          places = set t.places (slot x) (k + 1);
+          aside = t.aside;
+          size = length-set t.places (slot x) (k + 1) ∙ t.size ∙ sym (length-set firsts (slot x) (x + 1));
+          kept = subst (λ (i : ℕ). Kept g place-slot (k + 1) (set t.places i (k + 1)) t.aside) (sym e)
+              (kept-first g place-slot (same-slot same) k t.places t.aside t.kept (ap (λ (i : ℕ). get_or t.places i 0) (sym e) ∙ t.none (slot x) z)
+              (omega (arith, e, t.size, l)));
+          none = λ i h. none i h (ℕ_discrete i (slot x));
+          some = λ i y h. some i y h (ℕ_discrete i (slot x));
+          left = t.left;
+        }
+      where
+        at-slot : (l : List ℕ) (v i : ℕ) → i ≡ slot x → slot x < length l → get_or (set l (slot x) v) i 0 ≡ v
+        at-slot l v i e h = ap (λ (j : ℕ). get_or (set l (slot x) v) j 0) e ∙ get_or-set_same l (slot x) v 0 h
+
+        none : (i : ℕ) → get_or (set firsts (slot x) (x + 1)) i 0 ≡ 0 → Dec (i ≡ slot x) → get_or (set t.places (slot x) (k + 1)) i 0 ≡ 0
+        none i h (yes e) = absurd (omega (arith, at-slot firsts (x + 1) i e l, h))
+        none i h (no n) =
+            get_or-set_other t.places (slot x) i (k + 1) 0 n ∙ t.none i (sym (get_or-set_other firsts (slot x) i (x + 1) 0 n) ∙ h)
+
+        some : (i y : ℕ) → get_or (set firsts (slot x) (x + 1)) i 0 ≡ suc y → Dec (i ≡ slot x)
+            → (p : ℕ) × (get_or (set t.places (slot x) (k + 1)) i 0 ≡ suc p) × (get_or xs p 0 ≡ y)
+        some i y h (yes e) =
+            let v = at-slot firsts (x + 1) i e l in
+            (k, at-slot t.places (k + 1) i e (omega (arith, t.size, l)) ∙ add-one k, sym ex ∙ omega (arith, v, h))
+        some i y h (no n) =
+            let s = t.some i y (sym (get_or-set_other firsts (slot x) i (x + 1) 0 n) ∙ h) in
+            (s.0, get_or-set_other t.places (slot x) i (k + 1) 0 n ∙ s.1, s.2)
+
+    module _ (y : ℕ) (z : get_or firsts (slot x) 0 ≡ suc y) where
+      -- where it stands
+      place : (p : ℕ) × (get_or t.places (slot x) 0 ≡ suc p) × (get_or xs p 0 ≡ y)
+      place = t.some (slot x) y z
+
+      there : get_or t.places (place-slot k) 0 ≡ suc place.0
+      there = ap (λ (v : ℕ). get_or t.places (slot v) 0) (sym ex) ∙ place.1
+
+      alike : g place.0 ≡ g k → f y ≡ f x
+      alike e = ap f (sym place.2) ∙ e ∙ ap f (sym ex)
+
+      alike⁻ : f y ≡ f x → g place.0 ≡ g k
+      alike⁻ e = ap f place.2 ∙ e ∙ ap f ex
+
+      pub again-aside : (f y ≡ f x → ⊥) → Again (k + 1) firsts (c ++ x ∷ [])
+      again-aside u =
+          record {
+            places = t.places;
+            aside = t.aside ++ k ∷ [];
+            size = t.size;
+            kept = kept-aside g place-slot (same-slot same) k t.places t.aside t.kept place.0 there (λ e. u (alike e));
+            none = t.none;
+            some = t.some;
+            left = ap (λ (l : List ℕ). l ++ x ∷ []) t.left ∙ more t.aside;
+          }
+        where
+          more : (c : List ℕ) → picked c ++ x ∷ [] ≡ picked (c ++ k ∷ [])
+          more [] = ap (λ (v : ℕ). v ∷ []) ex
+          more (i ∷ c) = ap (λ (l : List ℕ). get_or xs i 0 ∷ l) (more c)
+
+      pub again-alike : k < length xs → f y ≡ f x → Apart f xs → ⊥
+      again-alike h e a =
+          apart-at f 0 xs a place.0 k (early g place-slot (same-slot same) k t.places t.aside t.kept place.0 there) h (alike⁻ e)
+
+  all-picked : (P : ℕ → Type 0) (c : List ℕ) → All (λ (i : ℕ). P (get_or xs i 0)) c → All P (picked c)
+  all-picked P [] h = tt
+  all-picked P (i ∷ c) h = (h.0, all-picked P c h.1)
+
+  all-picked⁻ : (P : ℕ → Type 0) (c : List ℕ) → All P (picked c) → All (λ (i : ℕ). P (get_or xs i 0)) c
+  all-picked⁻ P [] h = tt
+  all-picked⁻ P (i ∷ c) h = (h.0, all-picked⁻ P c h.1)
+
+  apart-picked : (c : List ℕ) → Apart g c → Apart f (picked c)
+  apart-picked [] a = tt
+  apart-picked (i ∷ c) a = (all-picked (λ (v : ℕ). f (get_or xs i 0) ≡ f v → ⊥) c a.0, apart-picked c a.1)
+
+  apart-picked⁻ : (c : List ℕ) → Apart f (picked c) → Apart g c
+  apart-picked⁻ [] a = tt
+  apart-picked⁻ (i ∷ c) a = (all-picked⁻ (λ (v : ℕ). f (get_or xs i 0) ≡ f v → ⊥) c a.0, apart-picked⁻ c a.1)
+
+  pub thinner : (r : ℕ) (firsts numbers : List ℕ) → r ≤ length xs → Again (length xs) firsts (take r numbers) → Thinner f xs r numbers
+  thinner r firsts numbers h t =
+      record {
+        few = h;
+        to = λ a. subst (λ (l : List ℕ). Apart f l) (sym t.left) (apart-picked t.aside (t.kept.to (λ x y p q e. apart-at f 0 xs a x y p q e)));
+        back = λ a. let b = t.kept.back (apart-picked⁻ t.aside (subst (λ (l : List ℕ). Apart f l) t.left a)) in apart_from f 0 xs (λ j k p q e. b j k p q e);
+      }
+
+pub says-thinner : (f : ℕ → List ℕ) (xs : List ℕ) (r : ℕ) (numbers : List ℕ) (b : Bool) → Thinner f xs r numbers → Says b (Apart f (take r numbers)) → Says b (Apart f xs)
+says-thinner f xs r numbers true t h = t.back h
+says-thinner f xs r numbers false t h = λ a. h (t.to a)

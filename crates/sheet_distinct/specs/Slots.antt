@@ -1,5 +1,5 @@
 -- A slot for each stretch, told by its bytes: stretches alike have the same, so only those that share one need be compared.
-use Rattle.std.specs.Prelude.{ℕ, zero, suc, ◌+◌, ◌*◌, ◌/◌, ◌%◌, ◌^◌, ◌≤◌, ◌<◌, min, ◌≡◌, List, length, get_or, take, drop}
+use Rattle.std.specs.Prelude.{ℕ, zero, suc, ◌+◌, ◌*◌, ◌/◌, ◌%◌, ◌^◌, ◌≤◌, ◌<◌, min, ◌≡◌, List, length, get_or, take, drop, Option, Some, None}
 use Rattle.fields.specs.Field.{u32_at}
 use Rattle.sheet_distinct.specs.Order.{Apart, up_from}
 
@@ -16,6 +16,14 @@ edge s offsets i = min (get_or offsets i 0) (length s)
 unfoldable pub slot_of : ℕ → List ℕ → ℕ
 slot_of slots xs = mixed (drop (length xs % 4) xs) (length (drop (length xs % 4) xs) / 4) 0 0 * slots / 4294967296
 
+-- the same with a factor of one's own
+unfoldable pub mixed_by : ℕ → List ℕ → ℕ → ℕ → ℕ → ℕ
+mixed_by factor s zero at h = h
+mixed_by factor s (suc n) at h = mixed_by factor s n (at + 4) ((h + u32_at s at) % 4294967296 * factor % 4294967296)
+
+unfoldable pub slot_by : ℕ → ℕ → List ℕ → ℕ
+slot_by factor slots xs = mixed_by factor (drop (length xs % 4) xs) (length (drop (length xs % 4) xs) / 4) 0 0 * slots / 4294967296
+
 -- no slot is taken
 abbrev pub Unused : List ℕ → Type 0
 Unused firsts = (i : ℕ) → get_or firsts i 0 ≡ 0
@@ -29,3 +37,17 @@ pub record Thinned (f : ℕ → List ℕ) (n r : ℕ) (numbers : List ℕ) : Typ
   pub few : r ≤ n
   pub to : Apart f (up_from 0 n) → Apart f (take r numbers)
   pub back : Apart f (take r numbers) → Apart f (up_from 0 n)
+
+-- numbers below n
+abbrev pub Under : ℕ → List ℕ → Type 0
+Under n numbers = (i : ℕ) → get_or numbers i 0 < n
+
+-- the first r of the new numbers, no two of which are alike exactly where no two of the old are; nothing where two of the old are
+pub record Thinner (f : ℕ → List ℕ) (old : List ℕ) (r : ℕ) (new : List ℕ) : Type 0 where
+  pub few : r ≤ length old
+  pub to : Apart f old → Apart f (take r new)
+  pub back : Apart f (take r new) → Apart f old
+
+abbrev pub ThinnedAgain : (ℕ → List ℕ) → List ℕ → Option ℕ → List ℕ → Type 0
+ThinnedAgain f old (Some r) new = Thinner f old r new
+ThinnedAgain f old None new = Apart f old → ⊥

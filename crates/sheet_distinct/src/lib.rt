@@ -1,30 +1,38 @@
 // Whether no two of many items are alike (document 01, "The sheet", sections 5 and 7: distinct as written). The items
 // are stretches of bytes between offsets. The bytes of an item tell its slot, so that items alike share one. An item that
-// finds its slot taken is compared with the first that took it, and set aside; the numbers of those set aside are
-// sorted by content, and neighbours compared. The cost stays near the bytes' and, whatever the items are, not near the
-// square of their count.
+// finds its slot taken is compared with the first that took it, and set aside; those set aside get slots once more, told
+// otherwise, and the numbers of those set aside again are sorted by content, and neighbours compared. The cost stays near
+// the bytes' and, whatever the items are, not near the square of their count.
 #![tactic(auto)]
 
-ghost use Rattle.std.specs.Prelude.{◌≡◌, ◌/◌, ◌≤◌, ◌<◌, ◌^◌, length};
+ghost use Rattle.std.specs.Prelude.{◌≡◌, ◌/◌, ◌-◌, ◌≤◌, ◌<◌, ◌^◌, length, take};
 ghost use Rattle.std.specs.Ordering.{nat_cmp};
 ghost use Rattle.std.specs.Cmp.Lexicographic.{slice_cmp};
 ghost use Rattle.encoding.specs.Tests.{Says};
 ghost use Rattle.sheet_distinct.specs.Order.{stretch, Apart, up_from};
-ghost use Rattle.sheet_distinct.specs.Slots.{mixed, slot_of, edge, DistinctRooms, Thinned};
+ghost use Rattle.sheet_distinct.specs.Slots.{mixed_by, slot_of, slot_by, edge, Unused, DistinctRooms, Thinned, Under, ThinnedAgain};
 
 use std::cmp::Ordering;
 
-// An odd factor that carries a word's low bits up.
+// Odd factors that carry a word's low bits up: the second tells apart what the first does not.
 const FACTOR: u32 = 2654435761;
 
-// Words of 32 bits, one after the other, mixed into 32 bits.
-fn mix(words: &[u8]) -> u32
-    ensures { result ≡ mixed words.now (length words.now / 4) 0 0 }
+const SECOND_FACTOR: u32 = 2246822519;
+
+// So many, and one more for so many slots, are sorted without more ado, since the slots have to be cleared before they
+// serve again.
+const FEW: usize = 20;
+
+const SLOTS_FOR_ONE: usize = 1024;
+
+// Words of 32 bits, one after the other, mixed into 32 bits by a factor.
+fn mix(words: &[u8], factor: u32) -> u32
+    ensures { result ≡ mixed_by factor words.now (length words.now / 4) 0 0 }
 {
     let mut sum: u32 = 0;
     for i in 0..words.len() / 4 {
         let word = fields::u32_in(words, 4 * i) as u32;
-        sum = sum.wrapping_add(word).wrapping_mul(FACTOR);
+        sum = sum.wrapping_add(word).wrapping_mul(factor);
     }
     sum
 }
@@ -57,15 +65,23 @@ impl<'a> Stretches<'a> {
         &self.bytes[from..to]
     }
 
-    // The slot, of `slots`, of stretch k: the upper bits of its words mixed. What stands before them, up to three bytes of the
-    // count with which an item begins, is left out.
+    // The slot, of `slots`, of stretch k by a factor: the upper bits of its words mixed. What stands before them, up to three
+    // bytes of the count with which an item begins, is left out.
+    fn slot_told(&self, factor: u32, k: u16, slots: usize) -> usize
+        requires { (0 < slots) × (slots ≤ 2 ^ 17) }
+        ensures { (result ≡ slot_by factor slots (stretch self.now.bytes.now self.now.offsets.now k)) × (result < slots) }
+    {
+        let stretch = self.get(k);
+        let words = &stretch[stretch.len() % 4..];
+        mix(words, factor) as usize * slots / 4294967296
+    }
+
+    // The slot of stretch k when all get one.
     fn slot(&self, k: u16, slots: usize) -> usize
         requires { (0 < slots) × (slots ≤ 2 ^ 17) }
         ensures { (result ≡ slot_of slots (stretch self.now.bytes.now self.now.offsets.now k)) × (result < slots) }
     {
-        let stretch = self.get(k);
-        let words = &stretch[stretch.len() % 4..];
-        mix(words) as usize * slots / 4294967296
+        self.slot_told(FACTOR, k, slots)
     }
 
     // Which of two stretches comes first, as words in a dictionary.
@@ -88,7 +104,7 @@ impl<'a> Stretches<'a> {
     // the room, which is cleared for each section. Where one is like the first of its slot, those two are left alone.
     fn thin(&self, count: usize, numbers: &mut [u16], firsts: &mut [u16]) -> usize
         requires { (count < 2 ^ 16) × DistinctRooms count numbers.old firsts.old }
-        ensures { Thinned (stretch self.now.bytes.now self.now.offsets.now) count result numbers.new }
+        ensures { Thinned (stretch self.now.bytes.now self.now.offsets.now) count result numbers.new × Under (2 ^ 16 - 1) (take result numbers.new) }
     {
         let mut left: usize = 0;
         for k in 0..count {
@@ -108,6 +124,28 @@ impl<'a> Stretches<'a> {
         }
         left
     }
+
+    // The same of these numbers alone, by the second factor; none where two of them are alike.
+    fn thin_again(&self, numbers: &mut [u16], firsts: &mut [u16]) -> Option<usize>
+        requires { Under (2 ^ 16 - 1) numbers.old × (0 < length firsts.old) × (length firsts.old ≤ 2 ^ 17) × Unused firsts.old }
+        ensures { ThinnedAgain (stretch self.now.bytes.now self.now.offsets.now) numbers.old result numbers.new }
+    {
+        let mut left: usize = 0;
+        for i in 0..numbers.len() {
+            let number = numbers[i];
+            let slot = self.slot_told(SECOND_FACTOR, number, firsts.len());
+            let first = firsts[slot];
+            if first == 0 {
+                firsts[slot] = number + 1;
+            } else if self.get(first - 1) == self.get(number) {
+                return None;
+            } else {
+                numbers[left] = number;
+                left += 1;
+            }
+        }
+        Some(left)
+    }
 }
 
 // Whether no two of the first `count` stretches between offsets are alike; `numbers` and `firsts` are rooms to work in.
@@ -126,5 +164,12 @@ pub fn distinct(
     }
     let stretches = Stretches { bytes, offsets };
     let left = stretches.thin(count, numbers, firsts);
-    stretches.apart(&mut numbers[..left])
+    if left <= FEW + firsts.len() / SLOTS_FOR_ONE {
+        return stretches.apart(&mut numbers[..left]);
+    }
+    firsts.fill(0);
+    let Some(last) = stretches.thin_again(&mut numbers[..left], firsts) else {
+        return false;
+    };
+    stretches.apart(&mut numbers[..last])
 }

@@ -1,11 +1,7 @@
--- `sheet_distinct::Stretches::slot` meets its contract: the slot is the upper part of a product below `slots` times 2 ^ 32. Assumes nothing.
-use Rattle.std.proofs.Common.{arith}
-use Rattle.sheet_distinct.proofs.SlotLaws.{slot-is, few-slots}
+-- `sheet_distinct::Stretches::slot` meets its contract: told by the first factor. Assumes nothing.
+use Rattle.std.proofs.Common.{◌∙◌}
+use Rattle.sheet_distinct.proofs.SlotLaws.{slot-first}
 use Rattle.sheet_distinct.proofs.Stretches.slot.Goals as goal
 
 pub returns : goal.returns
-returns c =
-    let a = c.args in (
-      slot-is a.slots c.mix.result c.get-stretch.result.now _ c.get-stretch.ensures c.mix.ensures,
-      omega (arith, few-slots c.mix.result a.slots (omega arith) (omega arith)),
-    )
+returns c = (c.slot_told.ensures.0 ∙ slot-first _ _, c.slot_told.ensures.1)

@@ -4,7 +4,7 @@ use Rattle.std.proofs.Math.Seq.{take-suc-set}
 use Rattle.sheet_distinct.specs.Order.{stretch}
 use Rattle.sheet_distinct.specs.Slots.{slot_of}
 use Rattle.sheet_distinct.proofs.ApartLaws.{read-alike, read-unlike}
-use Rattle.sheet_distinct.proofs.ThinLaws.{Kept, kept-same, kept-none, kept-first, kept-aside, early, thinned-two, thinned}
+use Rattle.sheet_distinct.proofs.ThinLaws.{Kept, kept-same, kept-none, kept-first, kept-aside, early, thinned-two, under-two, thinned, kept-under}
 use Rattle.sheet_distinct.proofs.Stretches.thin.Goals.{then-first-eq0, else-first-eq0+else-eq}
 use Rattle.sheet_distinct.proofs.Stretches.thin.Goals as goal
 
@@ -67,9 +67,11 @@ returns-then-eq c =
     let e : r ≡ s l.k = c.slot-slot.ensures.0 ∙ ap (λ (m : ℕ). slot_of m (f l.k)) l.invariant.1 in
     let y = get_or l.firsts r 0 - 1 in
     let z : get_or l.firsts (s l.k) 0 ≡ suc y = ap (λ (i : ℕ). get_or l.firsts i 0) (sym e) ∙ taken (get_or l.firsts r 0) c.if-first-eq0.false in
-    let h : y < l.k = early f s same l.k l.firsts (take l.left l.numbers) l.invariant.3 y z in
-    thinned-two f s same l.k l.firsts (take l.left l.numbers) l.invariant.3 y z a.count l.numbers (omega arith) (omega (arith, h))
-    (read-alike c.get.result.now c.get-else-first-eq0.result.now (f y) (f l.k) c.get.ensures c.get-else-first-eq0.ensures c.if-eq.ensures)
+    let h : y < l.k = early f s same l.k l.firsts (take l.left l.numbers) l.invariant.3 y z in (
+      thinned-two f s same l.k l.firsts (take l.left l.numbers) l.invariant.3 y z a.count l.numbers (omega arith) (omega (arith, h))
+          (read-alike c.get.result.now c.get-else-first-eq0.result.now (f y) (f l.k) c.get.ensures c.get-else-first-eq0.ensures c.if-eq.ensures),
+      under-two f s same l.k l.firsts (take l.left l.numbers) l.invariant.3 y z a.count l.numbers (omega arith) (omega (arith, h)) (omega arith),
+    )
 
 pub returns : goal.returns
 returns c =
@@ -79,4 +81,5 @@ returns c =
     let f = stretch x.bytes.now x.offsets.now in
     let s : ℕ → ℕ = λ (y : ℕ). slot_of (length a.firsts.now) (f y) in
     let e : l.k ≡ a.count = omega arith in
-    thinned f s a.count l.left l.firsts l.numbers (omega arith) (subst (λ (k : ℕ). Kept f s k l.firsts (take l.left l.numbers)) e l.invariant.3)
+    let t = subst (λ (k : ℕ). Kept f s k l.firsts (take l.left l.numbers)) e l.invariant.3 in
+    (thinned f s a.count l.left l.firsts l.numbers (omega arith) t, kept-under f s a.count l.left l.firsts l.numbers (omega arith) t)
