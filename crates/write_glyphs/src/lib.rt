@@ -100,6 +100,31 @@ struct Way {
     cursor: Cursor,
 }
 
+impl<'a> GlyphLookup<'a> {
+    // The lookup at a place, of the format that stands there.
+    pub fn new(
+        table: &'a [u8],
+        glyphs: usize,
+        kind: Kind,
+        at: usize,
+        base: usize,
+    ) -> GlyphLookup<'a>
+        requires sound { (at < 2 ^ 32) × ((base < 2 ^ 16) × ((glyphs < 2 ^ 16) × (lookup_fault table.now glyphs at ≡ Clear))) }
+        requires short { length table.now ≤ 2 ^ 15 }
+        ensures table { (result.table.now ≡ table.now) × ((result.glyphs ≡ glyphs) × (result.kind ≡ kind)) }
+        ensures place { (result.at ≡ at) × (result.base ≡ base) }
+    {
+        GlyphLookup {
+            table,
+            glyphs,
+            kind,
+            at,
+            base,
+            format: fields::u16_at(table, at),
+        }
+    }
+}
+
 impl GlyphLookup<'_> {
     ghost use Rattle.write_glyphs.specs.Passing.{StandsAt, OneItemAt, SameRooms};
 

@@ -10,6 +10,7 @@ ghost use Rattle.encoding.specs.Codes.{All, many};
 ghost use Rattle.encoding.specs.Tests.{Says};
 ghost use Rattle.write_item.specs.Items.{item_code};
 ghost use Rattle.write_numbers.specs.Numbered.{placed, Blank};
+ghost use Rattle.write_glyphs.specs.Passing.{SameRooms};
 ghost use Rattle.write_runs.specs.Spread.{Stretches};
 ghost use Rattle.write_pool.specs.Pool.{sections, Short, Short-prop, items_by, Numberable, PlacedSections, PlacedBy, TriedBy};
 
@@ -59,7 +60,8 @@ impl Pool<'_> {
     // same, stores nothing.
     fn put_with(&self, rooms: &mut Rooms, out: &mut [u8]) -> Option<usize>
         requires { Blank rooms.old.others.now × (Blank rooms.old.slots.now × (Blank rooms.old.seen.now × Blank rooms.old.alike.now)) }
-        ensures { TriedBy self.now.lookup (length rooms.old.ends.now) out.old out.new self.now.to result }
+        ensures tried { TriedBy self.now.lookup (length rooms.old.ends.now) out.old out.new self.now.to result }
+        ensures same_rooms { SameRooms rooms.old rooms.new }
     {
         let pass = self.lookup.number_glyphs(rooms);
         if pass.glyph < self.lookup.glyphs {
@@ -171,14 +173,7 @@ pub fn put_pool(
         put_none(out, to);
         return to + 8;
     };
-    let lookup = GlyphLookup {
-        table,
-        glyphs,
-        kind,
-        at,
-        base,
-        format: fields::u16_at(table, at),
-    };
+    let lookup = GlyphLookup::new(table, glyphs, kind, at, base);
     let pool = Pool { lookup, to };
     if 512 < table.len() {
         return pool.put_looked(out);
