@@ -7,3 +7,4 @@ pub mod Merge
 pub mod Again
 pub mod Marks
 pub mod Exchange
+pub mod Numbers

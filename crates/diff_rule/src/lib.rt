@@ -82,6 +82,7 @@ impl From<Difference> for [u16; NUMBERS] {
 }
 
 // Stores numbers one after the other; nothing past the end.
+#[tactic(auto, using(crate::proofs::Numbers::next, crate::proofs::Numbers::next_out))]
 pub fn put_numbers(list: &mut [u16], at: usize, numbers: [u16; NUMBERS])
     requires { at < 2 ^ 59 }
     ensures { list.new ≡ sets list.old at numbers }
