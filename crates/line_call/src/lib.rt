@@ -102,13 +102,24 @@ fn work_out(
     Ok(Tally { verdicts, ..tally })
 }
 
+// The classes go into the lent slice. One by one: a copy whose length is known only when it runs would have the archive ask for
+// memmove, which it needs for nothing else.
+fn put_classes(held: &[u8], classes: &mut [u8])
+    requires { length held.now ≡ length classes.old }
+    ensures { classes.new ≡ held.now }
+{
+    for i in 0..held.len() {
+        classes[i] = held[i];
+    }
+}
+
 // What is worked out of a line goes into the lent slices: the classes, and the movements with their sign.
 fn deliver(tally: Tally, held: &[u8], moves: &[u64], lent: &mut Lent<'_>) -> Justified
     requires { Deliverable tally held.now moves.now × RoomIn (length held.now) lent.old }
     ensures same { SameSlices lent.old lent.new }
     ensures delivered { Delivered tally held.now moves.now result lent.new.classes.now lent.new.before.now lent.new.after.now }
 {
-    lent.classes.copy_from_slice(held);
+    put_classes(held, lent.classes);
     share::copy_signed(tally.shrink, moves, lent.before, lent.after);
     Justified {
         remainder: tally.remainder,

@@ -1,17 +1,17 @@
 -- The sheet by its parts as they are stored, and what an accepted table gives them.
 use Prim.Native.Nat.{ℕ, suc, ◌+◌, ◌-◌, ◌≤◌, ◌<◌, min}
 use mathlib.Core.Path.{◌≡◌, refl, sym, ap, ap₂, ◌∙◌}
-use mathlib.Core.List.{List, [], ◌∷◌, ◌++◌, append_assoc}
+use mathlib.Core.List.{List, [], ◌∷◌, ◌++◌}
 use native.Mathlib.Omega.{arith}
 use native.Mathlib.Decide.{dec_lt}
-use lib.ListN.{length, drop, take, set, length-append, length-drop, take-append-drop}
-use lib.Seq.{sets, length-sets, sets-eq, slice, take_at, drop_at, length-take-le, drop-drop, take_all}
+use lib.ListN.{length, drop, take, set, length-append, get_or}
+use lib.Seq.{sets, length-sets, sets-eq, slice, take_at, drop_at, length-take-le, slice-cons, slice_empty, take-set-le}
 use borrow.Author.Tests.{le-leb, lt-leb}
 use Rattle.fields.specs.declared.Refusal.{Refusal}
 use Rattle.fields.specs.Faults.{FirstFault}
 use Rattle.fields.specs.Faults.{Clear, Bad}
 use Rattle.fields.specs.Field.{be32}
-use Rattle.fields.specs.Stores.{sets-out, put_two, put-part}
+use Rattle.fields.specs.Stores.{sets-out, put_two}
 use Rattle.fields.specs.Refusals.{number_of}
 use Rattle.fields.proofs.Laws.{then-first}
 use Rattle.types.specs.declared.Direction.TheVariants.{Horizontal, Vertical}
@@ -113,29 +113,30 @@ pub ruleset by_draft = (sets-front, stored-fits, stored_short, drafted)
 
 -- ---- bytes stored once more, after themselves
 
--- `part` is what there is room for of the bytes from `from` to `end`
-pub copied : (l part : List ℕ) (from end count : ℕ) → from ≤ end → end ≤ length l → count ≡ min (end - from) (length l - end) → part ≡ take count (slice from end l)
-    → take end l ++ (part ++ drop count (drop end l)) ≡ sets l end (slice from end l)
-copied l part from end count h k e p =
-    let z : end + count ≡ end + length part = omega (arith, size) in
-    ap (λ (r : List ℕ). take end l ++ (part ++ r)) (drop-drop count end l ∙ ap (λ (m : ℕ). drop m l) z)
-    ∙ sym (append_assoc (take end l) part (drop (end + length part) l)) ∙ sym (sets-eq part l end (omega (arith, size)))
-    ∙ go (dec_lt count (end - from))
-  where
-    bs : List ℕ
-    bs = slice from end l
+-- after i of them
+module _ (l all : List ℕ) (from end i : ℕ) (e : sets l (end + i) (slice (from + i) end l) ≡ all) where
+  pub once_more : from + i < end → end ≤ length l
+      → sets (set l (end + i) (get_or l (from + i) 0)) (end + (i + 1)) (slice (from + (i + 1)) end (set l (end + i) (get_or l (from + i) 0))) ≡ all
+  once_more h k =
+      let b = get_or l (from + i) 0 in
+      let p : end + (i + 1) ≡ suc (end + i) = omega arith in
+      let q : from + (i + 1) ≡ suc (from + i) = omega arith in
+      let o : end ≤ end + i = omega arith in
+      ap (λ (bs : List ℕ). sets (set l (end + i) b) (end + (i + 1)) bs) (ap (drop (from + (i + 1))) (take-set-le end l (end + i) b o))
+      ∙ ap₂ (λ (x y : ℕ). sets (set l (end + i) b) x (slice y end l)) p q
+      ∙ ap (sets l (end + i)) (sym (slice-cons (from + i) end l 0 h k))
+      ∙ e
 
-    size-all : length bs ≡ end - from
-    size-all = omega (arith, length-drop from (take end l), length-take-le end l k)
-
-    size : length part ≡ count
-    size = ap length p ∙ length-take-le count bs (omega (arith, size-all))
-
-    go : Dec (count < end - from) → sets l end part ≡ sets l end bs
-    go (yes q) =
-        put-part part (drop count bs) l (sets l end part) end (omega (arith, size)) refl
-        ∙ ap (λ (r : List ℕ). sets l end (r ++ drop count bs)) p ∙ ap (sets l end) (take-append-drop count bs)
-    go (no q) = ap (sets l end) (p ∙ take_all count bs (omega (arith, q, size-all)))
+  pub once-all : from ≤ end → min (end - from) (length l - end) ≤ i → i ≤ end - from → l ≡ all
+  once-all f h k = go (dec_lt (from + i) end)
+    where
+      go : Dec (from + i < end) → l ≡ all
+      go (yes p) =
+          let o : length l ≤ end + i = omega arith in
+          sym (sets-out (slice (from + i) end l) l (end + i) o) ∙ e
+      go (no p) =
+          let q : end ≡ from + i = omega (arith, p) in
+          ap (sets l (end + i)) (sym (slice_empty end l) ∙ ap (λ (x : ℕ). slice x end l) q) ∙ e
 
 -- bytes that were stored stand there, as far as the room goes
 stand : (bs l₀ l₁ : List ℕ) (at end : ℕ) → end ≡ at + length bs → end ≤ length l₁ → l₁ ≡ sets l₀ at bs → slice at end l₁ ≡ bs

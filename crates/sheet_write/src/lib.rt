@@ -12,15 +12,15 @@ ghost use Rattle.sheet_write.specs.Written.{sheet_of, says_length, says_written,
 use fields::{Fault, Refusal};
 use types::Direction;
 
-// Stores the bytes that stand from `from` to `end` once more, after them; what would stand past the room is dropped.
+// Stores the bytes that stand from `from` to `end` once more, after them; what would stand past the room is dropped. Byte by byte:
+// a copy inside one slice would have the archives ask for memmove, which they need for nothing else.
 fn put_copy(room: &mut [u8], from: usize, end: usize)
     requires { from ≤ end }
     ensures { room.new ≡ sets room.old end (slice from end room.old) }
 {
-    if end < room.len() {
-        let (stored, free) = room.split_at_mut(end);
-        let count = (end - from).min(free.len());
-        free[..count].copy_from_slice(&stored[from..from + count]);
+    let count = (end - from).min(room.len().saturating_sub(end));
+    for i in 0..count {
+        room[end + i] = room[from + i];
     }
 }
 

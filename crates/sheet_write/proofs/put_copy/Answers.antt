@@ -1,22 +1,31 @@
 -- `sheet_write::put_copy` meets its contract.
-use Rattle.sheet_write.proofs.Laws.{copied}
-use Rattle.fields.specs.Stores.{sets-out}
+use Prim.Native.Nat.{ℕ, ◌+◌, ◌-◌, ◌≤◌, ◌<◌, min}
+use mathlib.Core.Path.{◌≡◌, ap₂}
 use native.Mathlib.Omega.{arith}
-use mathlib.Core.Path.{◌≡◌}
-use lib.ListN.{length, take}
-use lib.Seq.{slice}
-use Prim.Native.Nat.{◌-◌, min}
+use lib.Seq.{sets, slice}
+use lib.ListN.{length}
+use Rattle.sheet_write.proofs.Laws.{once_more, once-all}
 use Rattle.sheet_write.proofs.put_copy.Goals as goal
 
-pub returns-then-end-room : goal.returns-then-end-room
-returns-then-end-room c =
+pub loop-i-init : goal.loop-i-init
+loop-i-init c =
     let a = c.args in
-    let parts = c.split_at_mut-stored.ensures in
-    let count = c.min-count.result in
-    let part = c.copy_from_slice.new.self in
-    let e : count ≡ min (a.end - a.from) (length a.room.now - a.end) = omega arith in
-    let p : part ≡ take count (slice a.from a.end a.room.now) = grind arith in
-    rw (parts.front, parts.back) (copied a.room.now part a.from a.end count c.requires (omega arith) e p)
+    let e : a.end + 0 ≡ a.end = omega arith in
+    let f : a.from + 0 ≡ a.from = omega arith in
+    ap₂ (λ (x y : ℕ). sets a.room.now x (slice y a.end a.room.now)) e f
 
-pub returns-else-end-room : goal.returns-else-end-room
-returns-else-end-room c = let a = c.args in let e = sets-out (slice a.from a.end a.room.now) a.room.now a.end (omega arith) in cc
+pub loop-i-preserved : goal.loop-i-preserved
+loop-i-preserved c =
+    let a = c.args in
+    let l = c.loop-i in
+    let h : a.from + l.i < a.end = omega (arith, c.requires) in
+    let k : a.end ≤ length l.room = omega arith in
+    once_more l.room _ a.from a.end l.i l.invariant h k
+
+pub returns : goal.returns
+returns c =
+    let a = c.args in
+    let l = c.loop-i in
+    let h : min (a.end - a.from) (length l.room - a.end) ≤ l.i = omega arith in
+    let k : l.i ≤ a.end - a.from = omega arith in
+    once-all l.room _ a.from a.end l.i l.invariant c.requires h k
