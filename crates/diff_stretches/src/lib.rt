@@ -71,7 +71,9 @@ pub fn begin_both<'a>(one: &'a [u8], other: &'a [u8], sources: Sources) -> Both<
     }
 }
 
-// The run that tells what the next glyphs have.
+// The run that tells what the next glyphs have. A run stands in memory where it is handed over, so that this and `onward`, which
+// are asked of each glyph, belong into the loop that asks.
+#[inline(always)]
 fn next_of(
     table: &[u8],
     glyphs: usize,
@@ -102,6 +104,7 @@ fn next_of(
 }
 
 // The run itself where it tells what `glyph` has, else the next one.
+#[inline(always)]
 fn onward(
     table: &[u8],
     glyphs: usize,
