@@ -1,5 +1,5 @@
 -- `sheet_distinct::distinct` meets its contract. What is left to compare has the answer of all. Assumes nothing.
-use Rattle.std.proofs.Common.{arith, List, ℕ, subst, drop, take}
+use Rattle.std.proofs.Common.{arith, List, ℕ, subst, drop, take, ◌++◌, ◌≡◌, ap, ◌∙◌}
 use Rattle.std.proofs.lemmas.List.{take-append-le}
 use Rattle.encoding.specs.Tests.{Says}
 use Rattle.sheet_distinct.proofs.ThinLaws.{apart-one, says-thinned, says-thinner}
@@ -19,6 +19,7 @@ returns c =
     let last = c.in-Some.last in
     let h = c.in-Some.ensures in
     let v = c.thin_again.new.numbers in
-    let w = take-append-le last v (drop t.result t.new.numbers) (omega (arith, h.few)) in
+    let rest = drop t.result t.new.numbers in
+    let w : take _ (v ++ rest) ≡ take last v = ap (λ (k : ℕ). take k (v ++ rest)) (omega arith) ∙ take-append-le last v rest (omega (arith, h.few)) in
     says-thinned f a.count t.result t.new.numbers c.apart-2.result t.ensures.0
     (says-thinner f (take t.result t.new.numbers) last v c.apart-2.result h (subst (λ (l : List ℕ). Says c.apart-2.result (Apart f l)) w c.apart-2.ensures))

@@ -13,9 +13,10 @@ returns-then-pass-self c =
     let l = c.args.self.now.lookup in
     let n = c.number_glyphs-pass in
     let r = n.new.rooms in
+    let g = n.ensures.same_rooms in
     record {
       tried = tried-full l.kind l.table.now l.glyphs l.at l.base r.ends.now r.nums.now r.firsts.now n.result (length c.args.rooms.now.ends.now) c.args.out.now c.args.out.now c.args.self.now.to n.ensures.passed c.if-pass-self.true n.ensures.same_rooms.ends refl;
-      same_rooms = n.ensures.same_rooms;
+      same_rooms = search (rules, g);
     }
 
 pub put_sections-requires-clause-short : goal.put_sections-requires-clause-short
