@@ -103,7 +103,8 @@ fn next_of(
     }
 }
 
-// The run itself where it tells what `glyph` has, else the next one.
+// The run itself where it tells what `glyph` has, else the next one. It is handed on field by field: a copy of it as a whole also
+// carries the unused bytes beside its flag along, from memory to memory for each glyph, which takes longer than all the rest.
 #[inline(always)]
 fn onward(
     table: &[u8],
@@ -116,10 +117,16 @@ fn onward(
     requires { (length table.now ≤ 2 ^ 15) × (glyphs < 2 ^ 16) × (glyph < glyphs) × SoundSource table.now glyphs source × RunTells kind table.now glyphs source glyph run }
     ensures { RunTells kind table.now glyphs source glyph result × (glyph < result.until) }
 {
-    if glyph < run.until {
-        return run;
-    }
     let cursor = run.cursor;
+    if glyph < run.until {
+        return Run {
+            from: run.from,
+            until: run.until,
+            place: run.place,
+            array: run.array,
+            cursor,
+        };
+    }
     next_of(table, glyphs, kind, source, cursor, glyph)
 }
 

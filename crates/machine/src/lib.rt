@@ -190,7 +190,9 @@ fn classes_are_clear(table: &[u8], here: usize, first: usize, count: usize) -> b
         .all(|class| usize::from(*class) < classes)
 }
 
-// `count` class bytes.
+// `count` class bytes. This stands by itself: in the middle of a direction's judging, which keeps more at hand than there are
+// registers, what each byte is compared with would come from memory.
+#[inline(never)]
 fn classes_fault(table: &[u8], here: usize, first: usize, count: usize) -> Result<(), Fault>
     requires { (first < 2 ^ 34) × (count < 2 ^ 16) }
     ensures { result ≡ classes_fault table.now here count first }
