@@ -185,7 +185,7 @@ pub fn cluster_fault(table: &[u8], at: usize) -> Result<(), Fault>
     pairs_fault(table, at + 4, count)
 }
 
-// The pair at a position. It belongs into the loops of those that ask for it, where its numbers need not go through memory.
+// The pair at a position. It is read inside its callers, where its numbers need not go through memory.
 #[inline(always)]
 pub fn pair_at(table: &[u8], at: usize) -> Pair
     requires { at < 2 ^ 62 }

@@ -72,7 +72,7 @@ pub fn begin_both<'a>(one: &'a [u8], other: &'a [u8], sources: Sources) -> Both<
 }
 
 // The run that tells what the next glyphs have. A run stands in memory where it is handed over, so that this and `onward`, which
-// are asked of each glyph, belong into the loop that asks.
+// are asked of each glyph, stand inside the loop that asks.
 #[inline(always)]
 fn next_of(
     table: &[u8],

@@ -126,8 +126,8 @@ fn spot_at(table: &[u8], kind: Kind, base: usize, place: usize) -> Option<usize>
     spot_of(kind, base, Some(fields::u16_at(table, place) as u16))
 }
 
-// The first fault of what the value at `place` leads to. It belongs into the loops over values: handing back an answer that may
-// hold a fault takes as long as a third of a small cluster's judging.
+// The first fault of what the value at `place` leads to. It stands inside the loops over values: handing back an answer that
+// may hold a fault takes a third of the time that a small cluster's judging takes.
 #[inline(always)]
 fn judge_value(
     table: &[u8],

@@ -148,8 +148,8 @@ fn directions_fault(table: &[u8], glyphs: usize, judged: &mut [u8]) -> Result<()
 }
 
 // The first fault of a table read with a glyph count, by notes that are lent: one for each position of the table, blank or left
-// by judging the same table with the same count. Where there are fewer, more is judged twice. It belongs into the function of
-// each room: an answer that may hold a fault is handed back slowly, and so is handed back once.
+// by judging the same table with the same count. Where there are fewer, more is judged twice. It stands inside the
+// function of each room: an answer that may hold a fault is slow to hand back, and is handed back once less.
 #[inline(always)]
 fn fault_by(table: &[u8], count: u32, judged: &mut [u8]) -> Result<(), Fault>
     requires { Judged table.now count judged.old }
@@ -159,8 +159,8 @@ fn fault_by(table: &[u8], count: u32, judged: &mut [u8]) -> Result<(), Fault>
     directions_fault(table, count as usize, judged)
 }
 
-// The same with room for so many notes. Rooms of one size have a function of their own, so that the small ones are not held up by
-// the memory of the large ones.
+// The first fault of a table read with a glyph count, with room for so many notes. Rooms of one size have a function of their own,
+// so that the small ones are not held up by the memory of the large ones.
 #[inline(never)]
 fn fault_with_room<const NOTES: usize>(table: &[u8], count: u32) -> Result<(), Fault>
     requires { NOTES < 2 ^ 63 }
