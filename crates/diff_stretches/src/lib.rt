@@ -104,7 +104,7 @@ fn next_of(
 }
 
 // The run itself where it tells what `glyph` has, else the next one. It is handed on field by field: a copy of it as a whole also
-// carries the unused bytes beside its flag along, from memory to memory for each glyph, which takes longer than all the rest.
+// carries the unused bytes beside its flag along, from memory to memory for each glyph, which can take longer than all the rest.
 #[inline(always)]
 fn onward(
     table: &[u8],

@@ -127,7 +127,7 @@ fn spot_at(table: &[u8], kind: Kind, base: usize, place: usize) -> Option<usize>
 }
 
 // The first fault of what the value at `place` leads to. It stands inside the loops over values: handing back an answer that
-// may hold a fault takes a third of the time that a small cluster's judging takes.
+// may hold a fault is slow beside the judging of a small cluster.
 #[inline(always)]
 fn judge_value(
     table: &[u8],
